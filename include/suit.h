@@ -4,7 +4,7 @@
  *
  *   suit_c    suit_read, suit_authentic, suit_status; wants memcpy, memmove and memset
  *   check_c   suit_check, suit_trim; both take memory
- *   boot_c    suit_boot; takes memory
+ *   boot_c    suit_boot, suit_slot; both take memory
  *   port_c    suit_command; takes memory, and wants the two functions of the port
  *
  * What is proved of a call stands in docs/proved.md under the name of its crate, and is said of the very bytes that are passed.
@@ -100,6 +100,19 @@ struct suit_image {
  * digest. The caller jumps. Otherwise out->found is 0, and the answer is that of `suit run boot`. Nothing is written: a procedure
  * that writes the flash, and a second invoke, are stopped by a fault. */
 int32_t suit_boot(const uint8_t *flash, size_t length, struct suit_image *out);
+
+/* The content of a component of the flash's layout. */
+struct suit_slot {
+  uint64_t place; /* in bytes from the start of the flash */
+  uint64_t length;
+  uint64_t capacity;
+  uint32_t number; /* of its slot, 0 or 1 */
+};
+
+/* SUIT_DONE, and the content of that component, by its index in the layout, which is in use. Otherwise *out stays as it was:
+ * SUIT_UNCONFIGURED, SUIT_NOTHING_INSTALLED, SUIT_UNKNOWN_COMPONENT where the layout has no such component in flash,
+ * SUIT_FLASH_FAULT and SUIT_NO_MEMORY. */
+int32_t suit_slot(const uint8_t *flash, size_t length, uint32_t component, struct suit_slot *out);
 
 /* ---- over a port ---- */
 

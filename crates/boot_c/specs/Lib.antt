@@ -1,2 +1,3 @@
 pub mod BootAnswers
 pub mod Images
+pub mod SlotsInUse

@@ -1,0 +1,37 @@
+-- The slot of a component that is in use (this project's own).
+use Rattle.std.specs.Prelude.{◌≡◌, ◌<◌, ◌+◌, ℕ, List, Some, length, slice_index, slice_index_or}
+use Rattle.boot_c.specs.declared.slot.SuitSlot.{SuitSlot}
+use Rattle.flash_layout.specs.Slots.{slot_at, slot_content}
+use Rattle.flash_layout.specs.Layouts.{slot_starts}
+use Rattle.flash_layout.specs.declared.frame.TheConstants.{LENGTH_SIZE}
+use Rattle.flash_layout.specs.declared.key.Key.{Key}
+use Rattle.flash_layout.specs.declared.layout.Entry.{Entry}
+use Rattle.flash_layout.specs.declared.layout.Memory.TheVariants as memory
+use Rattle.flash_layout.specs.declared.slot.Record.{Record}
+use Rattle.flash_layout.specs.declared.slot.Slot.{Slot}
+use Rattle.invoke_proc.specs.Banks.{config_in, record_in}
+use Rattle.step_machine.specs.InUse.{slot_in_use}
+
+-- where a component of a layout has its slot of this number
+abbrev pub slot_of : Entry → ℕ → Slot
+slot_of entry number = slot_at entry (slice_index (slot_starts entry) number)
+
+-- the content of a slot: where it begins, how many bytes it has and may have
+pub record IsSlotOf (entry : Entry) (number : ℕ) (flash : List ℕ) (slot : SuitSlot) : Type 0 where
+  pub number_is : slot.number ≡ number
+  pub place : slot.place ≡ (slot_of entry number).start + LENGTH_SIZE
+  pub length_is : slot.length ≡ length (slot_content (slot_of entry number) flash)
+  pub capacity : slot.capacity ≡ entry.capacity
+
+-- the flash has a record, and the component of this index in its layout stands in flash: in the slot that the record has in use
+pub record IsInUse (flash : List ℕ) (component : ℕ) (slot : SuitSlot) : Type 0 where
+  pub layout : List Entry
+  pub key : Key
+  pub config : config_in (length flash) flash layout key
+  pub installed : Record
+  pub recorded : record_in flash (Some installed)
+  pub entry : Entry
+  pub within : component < length layout
+  pub is : (d : Entry) → entry ≡ slice_index_or layout component d
+  pub stands : entry.memory ≡ memory.Flash
+  pub stands_there : IsSlotOf entry (slot_in_use entry (slice_index installed.active component)) flash slot

@@ -1,0 +1,139 @@
+//! The slot of a component that is in use.
+
+ghost use Rattle.boot_c.specs.SlotsInUse.{IsInUse, IsSlotOf};
+ghost use Rattle.flash_layout.specs.Configs.{IsAllowed};
+ghost use Rattle.flash_layout.specs.Layouts.{IsEntry};
+ghost use Rattle.flash_layout.specs.declared.frame.TheConstants.{VERSION_1};
+ghost use Rattle.flash_layout.specs.declared.layout.Memory.TheVariants as memory;
+ghost use Rattle.invoke_proc.specs.Banks.{config_in};
+ghost use Rattle.std.specs.Prelude.{◌≡◌, ◌≢◌, ◌<◌, IfErr, IfOk, length};
+ghost use Rattle.step_machine.specs.InUse.{slot_in_use};
+ghost use Rattle.suit_answers.specs.Answers.{code_of};
+ghost use Rattle.suit_answers.specs.declared.answer.Answer.TheVariants as answers;
+
+use flash_layout::{
+    Entry, FlashFault, Key, LENGTH_SIZE, Layout, Loaded, Memory, Slot, config_laws, load_config,
+    slots_of,
+};
+use flash_slots::length;
+use flash_view::ViewDisk;
+use rollback_record::load_record_by;
+use std::alloc::Global;
+use suit_answers::Answer;
+
+/// The content of a component, in the slot that is in use.
+#[repr(C)]
+#[derive(Clone, Copy)]
+pub struct SuitSlot {
+    /// Where it begins, in bytes from the start of the flash.
+    pub place: u64,
+    /// How many bytes it has.
+    pub length: u64,
+    /// How many bytes it may have.
+    pub capacity: u64,
+    /// The number of the slot, 0 or 1.
+    pub number: u32,
+}
+
+// The number of the slot in use, if the component has it.
+fn number_of(entry: &Entry, active: u8) -> u32
+    ensures is { result ≡ slot_in_use entry.now active }
+    ensures few { result < 2 }
+    ensures has { result ≡ 1 → entry.now.slots ≡ 2 }
+{
+    if active == 1 && entry.slots == 2 {
+        1
+    } else {
+        0
+    }
+}
+
+// A component has room for two starts.
+fn room(starts: &[u64; 2])
+    ensures { length starts.now ≡ 2 }
+{
+    let _ = starts;
+}
+
+// A component's slot of this number.
+fn slot_in(entry: &Entry, number: u32, flash: &[u8]) -> Result<SuitSlot, FlashFault>
+    requires entry { IsEntry (length flash.now) entry.now }
+    requires stands { entry.now.memory ≡ memory.Flash }
+    requires few { number < 2 }
+    requires has { number ≡ 1 → entry.now.slots ≡ 2 }
+    ensures { IfOk result (IsSlotOf entry.now number flash.now) }
+{
+    room(&entry.starts);
+    let starts = slots_of(entry);
+    let slot = Slot {
+        start: starts[number as usize],
+        capacity: entry.capacity,
+    };
+    let mut disk = ViewDisk::new(flash);
+    let length = length(&mut disk, slot)?;
+    Ok(SuitSlot {
+        place: slot.start + LENGTH_SIZE,
+        length,
+        capacity: slot.capacity,
+        number,
+    })
+}
+
+// The slot of a component that the flash's record has in use, by its configuration.
+fn slot_by(flash: &[u8], layout: &Layout, key: &Key, component: u32) -> Result<SuitSlot, Answer>
+    requires allowed { IsAllowed VERSION_1 (length flash.now) layout.now key.now }
+    requires held { config_in (length flash.now) flash.now layout.now key.now }
+    ensures slot { IfOk result (IsInUse flash.now component) }
+    ensures told { IfErr result (λ answer. answer ≢ answers.Done) }
+{
+    let entries = layout.as_slice();
+    let Some(entry) = entries.get(component as usize) else {
+        return Err(Answer::UnknownComponent);
+    };
+    match entry.memory {
+        Memory::Flash => {}
+        Memory::Ram => return Err(Answer::UnknownComponent),
+    }
+    let mut disk = ViewDisk::new(flash);
+    let installed = match load_record_by(&mut disk, layout) {
+        Ok(Some(installed)) => installed,
+        Ok(None) => return Err(Answer::NothingInstalled),
+        Err(FlashFault) => return Err(Answer::FlashFault),
+    };
+    let number = number_of(entry, installed.active[component as usize]);
+    match slot_in(entry, number, flash) {
+        Ok(slot) => Ok(slot),
+        Err(FlashFault) => Err(Answer::FlashFault),
+    }
+}
+
+// The slot of a component that is in use.
+fn slot_from(alloc: Global, flash: &[u8], component: u32) -> Result<SuitSlot, Answer>
+    ensures slot { IfOk result (IsInUse flash.now component) }
+    ensures told { IfErr result (λ answer. answer ≢ answers.Done) }
+{
+    let mut disk = ViewDisk::new(flash);
+    match load_config(alloc, &mut disk) {
+        Loaded::Config(layout, key) => slot_by(flash, &layout, &key, component),
+        Loaded::Blank | Loaded::BadConfig => Err(Answer::Unconfigured),
+        Loaded::FlashFault => Err(Answer::FlashFault),
+        Loaded::NoMemory => Err(Answer::NoMemory),
+    }
+}
+
+/// Tells where the content of a component stands that is in use, by its index in the layout: 0, and otherwise `out` stays as it
+/// was: 13 where the flash has no configuration, 15 where it has no record, 18 where its layout has no such component in flash, 8
+/// where the flash failed and 11 where memory ran out.
+#[unsafe(no_mangle)]
+pub extern "C" fn suit_slot(alloc: Global, flash: &[u8], component: u32, out: &mut SuitSlot) -> i32
+    ensures slot { result ≡ code_of answers.Done → IsInUse flash.now component out.new }
+    ensures stays { result ≢ code_of answers.Done → out.new ≡ out.old }
+{
+    match slot_from(alloc, flash, component) {
+        Ok(slot) => {
+            *out = slot;
+            Answer::Done.code()
+        }
+        Err(answer) => answer.code(),
+    }
+}
