@@ -1,5 +1,5 @@
 -- Trimmed envelopes (draft-ietf-suit-manifest-25, section 8.2: the wrapper and the manifest alone).
-use Rattle.std.specs.Prelude.{◌≡◌, ◌<◌, ◌≤◌, ℕ, List, length, take}
+use Rattle.std.specs.Prelude.{◌≡◌, ◌<◌, ℕ, List, length, take}
 use Rattle.suit_envelope.specs.Envelopes.{EnvelopeSays}
 use Rattle.suit_envelope.specs.Said.{EnvelopeOf}
 use Rattle.suit_envelope.specs.Trimmed.{trimmed}

@@ -45,6 +45,8 @@ fn trim_into(alloc: Global, file: &[u8], room: &mut [u8], count: &mut u64) -> An
 /// as they were.
 #[unsafe(no_mangle)]
 pub extern "C" fn suit_trim(alloc: Global, file: &[u8], room: &mut [u8], count: &mut u64) -> i32
+    ensures answers { (result ≡ code_of answers.Done) ⊎ (result ≡ code_of answers.Refused)
+        ⊎ (result ≡ code_of answers.NoMemory) ⊎ (result ≡ code_of answers.TooLong) }
     ensures trims { result ≡ code_of answers.Done → AreTrimmed file.now room.new count.new }
     ensures rest { result ≡ code_of answers.Done
         → drop count.new room.new ≡ drop count.new room.old }

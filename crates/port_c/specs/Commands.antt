@@ -1,10 +1,28 @@
 -- A command whose words stand in bytes.
 use Rattle.port_c.specs.Words.{AreWords}
-use Rattle.std.specs.Prelude.{ℕ, List}
-use Rattle.suit_cli.specs.Program.{Runs, World}
+use Rattle.std.specs.Prelude.{◌≡◌, ℕ, ℤ, List, pos}
+use Rattle.suit_cli.specs.Launching.{Launching}
+use Rattle.suit_cli.specs.Outside.{Outside, Sunk}
+use Rattle.suit_cli.specs.Program.{Runs, World, world}
+use Rattle.suit_edge.specs.FileDisk.{untold}
 
 -- the program was run with the words in the bytes
 pub record HasRun (bytes : List ℕ) (before after : World) (status : ℕ) : Type 0 where
   pub words : List (List ℕ)
   pub are_words : AreWords bytes words
   pub runs : Runs words before after status
+
+-- What was at the port's other end before and after, as far as it is told: counts of faults alone. The program was run there with
+-- the words in the bytes, and this is its status.
+pub record HasRunThere (bytes : List ℕ) (result : ℤ) : Type 0 where
+  pub outside : Outside
+  pub launcher : Launching
+  pub sink : Sunk
+  pub outside_after : Outside
+  pub launcher_after : Launching
+  pub sink_after : Sunk
+  pub status : ℕ
+  pub status_is : result ≡ pos status
+  pub has_run :
+      HasRun bytes (world outside launcher sink untold)
+      (world outside_after launcher_after sink_after untold) status

@@ -1,8 +1,8 @@
 //! A command over a port.
 
 ghost use Rattle.flash_layout.specs.declared.frame.TheConstants.{VERSION_1};
-ghost use Rattle.port_c.specs.Commands.{HasRun};
-ghost use Rattle.std.specs.Prelude.{◌≡◌, ◌<◌, ◌≤◌, ℤ, IfOk, OnErr, pos};
+ghost use Rattle.port_c.specs.Commands.{HasRun, HasRunThere};
+ghost use Rattle.std.specs.Prelude.{◌≡◌, ◌<◌, ◌≤◌, ◌⊎◌, ℤ, IfOk, OnErr, pos};
 ghost use Rattle.suit_cli.specs.Program.{IsStatus, world};
 
 use crate::words::words_of;
@@ -42,6 +42,8 @@ fn command<H: Host, D: Disk, L: Launcher, K: Sink>(
 #[unsafe(no_mangle)]
 pub extern "C" fn suit_command(alloc: Global, words: &[u8], port: i32, flash_size: u64) -> i32
     ensures small { flash_size < VERSION_1.size → result ≡ pos 8 }
+    ensures runs { VERSION_1.size ≤ flash_size
+        → HasRunThere words.now result ⊎ (result ≡ pos 11) }
 {
     if flash_size < u64::from(VERSION_1.size) {
         return 8;
