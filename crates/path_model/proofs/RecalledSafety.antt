@@ -10,19 +10,18 @@ use Rattle.path_model.specs.declared.event.Event.{Event}
 use Rattle.path_model.specs.declared.event.Event.TheVariants.{Set}
 use Rattle.path_model.specs.declared.cause.Cause.{Cause}
 use Rattle.path_model.specs.Behaviour.{State, Ending, Done, Condition, Directive}
-use Rattle.path_model.specs.Directives.{set_events}
 use Rattle.path_model.specs.Following.{CoveredFrom}
-use Rattle.path_model.specs.OneRun.{FreeStep, passed_told, failed_told}
+use Rattle.path_model.specs.OneRun.{FreeStep, passed_told}
 use Rattle.path_model.specs.Path.{AreIdentities, Path, RunsPlan, first_state}
 use Rattle.path_model.specs.PlayLaws.{HasItsDigest}
 use Rattle.path_model.specs.Runs.{entry_state, after_run}
 use Rattle.path_model.specs.Safe.{HasMatched, Safe}
 use Rattle.path_model.specs.Settings.{Setting}
-use Rattle.path_model.specs.Plays.{Outcome, Play, becoming, behind, going_on, NextIsCut, in_turn, overriding, exhausted, running_inner, after_trying, OtherIsCut, trying_branch}
+use Rattle.path_model.specs.Plays.{Outcome, Play, becoming, behind, going_on, NextIsCut, in_turn, overriding, exhausted, after_trying, OtherIsCut, trying_branch}
 use Rattle.path_model.specs.DevicePlays.{Device, condition_play, directive_play, first_device}
-use Rattle.path_model.specs.RecalledPlays.{Recalling, recalling, as_recalling, free_test, free_act, free_comes, recalled_test, recalled_act, step_comes}
+use Rattle.path_model.specs.RecalledPlays.{Recalling, recalling, free_test, free_act, free_comes, recalled_test, recalled_act, step_comes}
 use Rattle.path_model.specs.KeepingPlays.{CutInStep, IsLateAct, IsLateTest, StepIsCut, first_recalling, keeping_condition, keeping_directive, keeping_play}
-use Rattle.path_model.specs.RecalledSafety.{AreAsMatched, GoesOnAsMatched, RecalledSafety, Remembering, free_remembered, reaching, recalled_part, remembered, remembering, remembering_condition, remembering_directive, remembering_play, step_remembered}
+use Rattle.path_model.specs.RecalledSafety.{AreAsMatched, GoesOnAsMatched, RecalledSafety, Remembering, free_remembered, reaching, recalled_part, remembering, remembering_condition, remembering_directive, remembering_play, step_remembered}
 use Rattle.path_model.proofs.Coverage.{covered_by_standing, parts_covered}
 use Rattle.path_model.proofs.CoverLaws.{nothing_matched}
 use Rattle.path_model.proofs.DeviceLaws.{conditions_leave}

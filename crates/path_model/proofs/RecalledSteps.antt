@@ -1,5 +1,5 @@
 -- Matches among events, and what free steps tell.
-use Rattle.std.proofs.Common.{◌≡◌, ℕ, Bool, true, false, List, [], ◌∷◌, ◌++◌, Option, Some, None, refl, sym, ap, subst, ◌∙◌, append_assoc, inl, inr, ◌⊎◌}
+use Rattle.std.proofs.Common.{◌≡◌, ℕ, Bool, true, false, List, [], ◌∷◌, ◌++◌, Option, Some, None, refl, sym, ap, subst, ◌∙◌, append_assoc, inl, inr}
 use Rattle.std.specs.Prelude.{option_map, IsSome}
 use Rattle.std.specs.List.{AllByRecursion}
 use Rattle.std.proofs.lemmas.Bool.{true≢false}
@@ -21,8 +21,8 @@ use Rattle.path_model.specs.Safe.{HasMatched, IsCovered}
 use Rattle.path_model.specs.Following.{CoveredFrom}
 use Rattle.path_model.specs.OneRun.{FreeStep, MatchStep, ContentStep, WriteStep, SwapStep, InvokeStep, passed_told, failed_told}
 use Rattle.path_model.specs.Settings.{Setting}
-use Rattle.path_model.specs.Plays.{Outcome, Play}
-use Rattle.path_model.specs.DevicePlays.{Device, content_at, first_device, comparing, is_image, tested, unread, matched, is_content, condition_play, Change, Made, Refused, concluded, filled, fetching, copied, swapped, acted, ActIsCut, WriteLeaves, FetchLeaves, SwapLeaves, directive_play}
+use Rattle.path_model.specs.Plays.{Outcome}
+use Rattle.path_model.specs.DevicePlays.{Device, content_at, first_device, comparing, tested, unread, matched, is_content, condition_play, Change, Made, Refused, concluded, filled, fetching, copied, swapped, acted, ActIsCut, WriteLeaves, FetchLeaves, SwapLeaves, directive_play}
 use Rattle.path_model.specs.RecalledPlays.{free_test, free_act}
 use Rattle.path_model.specs.KeepingPlays.{IsDone}
 use Rattle.path_model.specs.RecalledSafety.{StepWrites, AreAsMatched}
