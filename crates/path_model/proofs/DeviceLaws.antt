@@ -93,7 +93,7 @@ passed_content (Some x) content e = (bytes_decides content x).1 (sym (ap (the_by
 comparing_world : (p : ℕ) (kind : TestKind) (c : ℕ) (holds : State → Bool) (s : State) (w : Device) → ((comparing p kind c holds).comes s w).world ≡ w
 comparing_world p kind c holds s w = tested_world p (Tried c kind true) (Tried c kind false) s w (holds s)
 
-conditions_leave : (setting : Setting) (kind : TestKind) (p c : ℕ) (s : State) (w : Device) → ((condition_play setting kind p c).comes s w).world ≡ w
+pub conditions_leave : (setting : Setting) (kind : TestKind) (p c : ℕ) (s : State) (w : Device) → ((condition_play setting kind p c).comes s w).world ≡ w
 conditions_leave setting tests.Vendor p c = comparing_world p tests.Vendor c _
 conditions_leave setting tests.Class p c = comparing_world p tests.Class c _
 conditions_leave setting tests.Device p c = comparing_world p tests.Device c _

@@ -36,3 +36,5 @@ pub mod RecalledRuns
 pub mod KeptFew
 pub mod ResumeLaws
 pub mod Keeping
+pub mod RecalledSteps
+pub mod RecalledSafety

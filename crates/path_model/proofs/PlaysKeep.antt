@@ -78,8 +78,8 @@ module _ (World : Type 0) (Holds : List Event → World → Type 0) (sets : (pas
   all_set past w c (p ∷ list) h =
       subst (λ (xs : List Event). Holds xs w) (append_assoc past (Set c p ∷ []) (set_events c list)) (all_set (past ++ Set c p ∷ []) w c list (sets past w c p h))
 
-  parts : OfParts World Keeps
-  parts = record {
+  pub parts_keep : OfParts World Keeps
+  parts_keep = record {
     silent = λ next. record { whole = λ past s w h covered. silent past w h; cut = λ past s w o cut. absurd cut };
     override = λ list c. record { whole = λ past s w h covered. all_set past w c list h; cut = λ past s w o cut. absurd cut };
     none_left = λ p. record { whole = λ past s w h covered. silent past w h; cut = λ past s w o cut. absurd cut };
@@ -101,4 +101,4 @@ module _ (World : Type 0) (Holds : List Event → World → Type 0) (sets : (pas
 
   pub procedure_keeps : (tests : TestKind → ℕ → ℕ → Play World) (acts : ActKind → ℕ → ℕ → Play World) (count : ℕ) → ((kind : TestKind) (p c : ℕ) → Keeps (tests kind p c))
       → ((kind : ActKind) (p c : ℕ) → Keeps (acts kind p c)) → (plan : PlanTree) → Keeps (procedure World tests acts count plan)
-  procedure_keeps = procedure_of World Keeps parts
+  procedure_keeps = procedure_of World Keeps parts_keep

@@ -35,40 +35,40 @@ use Rattle.path_model.proofs.PlaysKeep.{Keeps, procedure_keeps}
 use Rattle.path_model.proofs.Fits.{first_true, second_true, fits}
 use Rattle.path_model.proofs.Leaving.{write_cut, fetch_cut, swap_cut}
 
-record Vouches (past : List Event) (w : Device) : Type 0 where
-  matches : (c : ℕ) (d : Digest) (s : Option ℕ) → HasMatched past c d s → is_image d s (content_at w c) ≡ true
-  launches : AllByRecursion HasItsDigest w.launches
+pub record Vouches (past : List Event) (w : Device) : Type 0 where
+  pub matches : (c : ℕ) (d : Digest) (s : Option ℕ) → HasMatched past c d s → is_image d s (content_at w c) ≡ true
+  pub launches : AllByRecursion HasItsDigest w.launches
 
 -- ---- one more event
 
-IsNoMatch : Event → Type 0
+unfoldable pub IsNoMatch : Event → Type 0
 IsNoMatch e = (c : ℕ) (d : Digest) (s : Option ℕ) → e ≢ Matched c d s
 
-no_set : (c : ℕ) (p : Param) → IsNoMatch (Set c p)
+pub no_set : (c : ℕ) (p : Param) → IsNoMatch (Set c p)
 unfolding IsNoMatch
 no_set c p k d s is = absurd cc
 
-no_tried : (c : ℕ) (kind : TestKind) (passed : Bool) → IsNoMatch (Tried c kind passed)
+pub no_tried : (c : ℕ) (kind : TestKind) (passed : Bool) → IsNoMatch (Tried c kind passed)
 unfolding IsNoMatch
 no_tried c kind passed k d s is = absurd cc
 
-no_missed : (c : ℕ) → IsNoMatch (Missed c)
+pub no_missed : (c : ℕ) → IsNoMatch (Missed c)
 unfolding IsNoMatch
 no_missed c k d s is = absurd cc
 
-no_wrote : (c : ℕ) → IsNoMatch (Wrote c)
+pub no_wrote : (c : ℕ) → IsNoMatch (Wrote c)
 unfolding IsNoMatch
 no_wrote c k d s is = absurd cc
 
-no_invoked : (c : ℕ) (digest : Option Digest) (size : Option ℕ) (passed : Bool) → IsNoMatch (Invoked c digest size passed)
+pub no_invoked : (c : ℕ) (digest : Option Digest) (size : Option ℕ) (passed : Bool) → IsNoMatch (Invoked c digest size passed)
 unfolding IsNoMatch
 no_invoked c digest size passed k d s is = absurd cc
 
-no_failed : (p : ℕ) → IsNoMatch (Failed p)
+pub no_failed : (p : ℕ) → IsNoMatch (Failed p)
 unfolding IsNoMatch
 no_failed p k d s is = absurd cc
 
-quiet : (past : List Event) (w : Device) (e : Event) → IsNoMatch e → Vouches past w → Vouches (past ++ e ∷ []) w
+pub quiet : (past : List Event) (w : Device) (e : Event) → IsNoMatch e → Vouches past w → Vouches (past ++ e ∷ []) w
 unfolding IsNoMatch
 quiet past w e none v = record {
   matches = λ c d s h. elim (matched_after past e c d s h) [ inl is ↦ absurd (none c d s is) | inr stood ↦ v.matches c d s stood.0 ];
@@ -140,7 +140,7 @@ all_then (first ∷ launches) launch all here = (all.0, all_then launches launch
 
 -- ---- conditions
 
-abbrev KeepsIt : Play Device → Type 0
+abbrev pub KeepsIt : Play Device → Type 0
 KeepsIt play = Keeps Device Vouches (λ past w c p v. quiet past w (Set c p) (no_set c p) v) play
 
 module _ (past : List Event) (p : ℕ) (passed failed : Event) (s : State) (w : Device) where
@@ -165,7 +165,7 @@ matched_vouches past p c size s w None v = one_tested past p (Missed c) (Missed 
 matched_vouches past p c size s w (Some d) v =
     one_tested past p (Matched c d size) (Missed c) s w (is_image d size (content_at w c)) (λ is u. one_matched past w c d size is u) (no_missed c) v
 
-tests_keep : (setting : Setting) (kind : TestKind) (p c : ℕ) → KeepsIt (condition_play setting kind p c)
+pub tests_keep : (setting : Setting) (kind : TestKind) (p c : ℕ) → KeepsIt (condition_play setting kind p c)
 tests_keep setting tests.Vendor p c = comparing_keeps p tests.Vendor c _
 tests_keep setting tests.Class p c = comparing_keeps p tests.Class c _
 tests_keep setting tests.Device p c = comparing_keeps p tests.Device c _
@@ -310,7 +310,7 @@ unfolding Writes
 one_keeps p c makes Leaves wanted writes leaves =
     acting_keeps p (λ x. Wrote c ∷ []) makes Leaves (λ past x w v. one_wrote past w (left_in (makes x w)) c (writes x w) v) (λ past x cause w u left v. one_wrote past w u c (leaves x cause w u left) v) wanted
 
-acts_keep : (setting : Setting) (kind : ActKind) (p c : ℕ) → KeepsIt (directive_play setting kind p c)
+pub acts_keep : (setting : Setting) (kind : ActKind) (p c : ℕ) → KeepsIt (directive_play setting kind p c)
 unfolding Writes BothIn
 acts_keep setting acts.Write p c =
     one_keeps p c (λ x. filled setting c x) (λ x. WriteLeaves setting c) (λ s. bytes_of (in_force s.parameters c keys.Content)) (filled_writes setting c) (λ x. write_leaves setting c)

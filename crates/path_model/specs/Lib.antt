@@ -26,3 +26,4 @@ pub mod DeviceLaws
 pub mod RecalledPlays
 pub mod ResumeLaws
 pub mod KeepingPlays
+pub mod RecalledSafety

@@ -23,4 +23,4 @@ pub use law::{
 };
 pub use play_law::{device_laws, play_laws};
 pub use procedure::Procedure;
-pub use resume_law::{keeping_laws, resume_laws};
+pub use resume_law::{keeping_laws, recalled_safety_laws, resume_laws};

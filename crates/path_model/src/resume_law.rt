@@ -1,6 +1,7 @@
 //! The laws of procedures that go on where they lost their power.
 
 ghost use Rattle.path_model.specs.KeepingPlays.{KeepingLaws};
+ghost use Rattle.path_model.specs.RecalledSafety.{RecalledSafety};
 ghost use Rattle.path_model.specs.ResumeLaws.{ResumeLaws};
 
 /// Does nothing. Its contract has the laws. A procedure without an invoke whose play ends without a failed directive
@@ -16,4 +17,13 @@ pub fn resume_laws()
 /// and where keeping does not fail, it is the play on the device, and a fault falls where one does there.
 pub fn keeping_laws()
     ensures { KeepingLaws }
+{}
+
+/// Does nothing. Its contract has the laws of what a recalled play launches. A step that is recalled touches no content, so
+/// a match that is recalled says nothing of the contents from which the play goes on. Where each component whose recalled
+/// match stands has a content of that digest and size, but for one that the next free step writes, each launch of a safe
+/// procedure has the digest that was in force, and the size where there was one, whether or not a fault comes. With
+/// nothing to recall nothing is asked of the contents.
+pub fn recalled_safety_laws()
+    ensures { RecalledSafety }
 {}
