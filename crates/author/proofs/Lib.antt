@@ -14,6 +14,7 @@ pub mod OneItem
 pub mod DescriptionGrammar
 pub mod PayloadsAscend
 pub mod MadeAnswers
+pub mod AsGiven
 pub mod EnvelopeLengthFacts
 pub mod MadeWrappers
 pub mod LeftAfter

@@ -29,4 +29,5 @@ pub mod MadeMembers
 pub mod KeysOnce
 pub mod GivenCommands
 pub mod GivenParts
+pub mod GivenEnvelopes
 pub mod DescriptionLaws
