@@ -3,6 +3,7 @@ pub mod ParamPlaces
 pub mod Counts
 pub mod Naming
 pub mod OneFault
+pub mod Alike
 pub mod Likes
 pub mod SameFlaws
 pub mod SameSequences

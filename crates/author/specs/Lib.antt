@@ -14,7 +14,6 @@ pub mod Severing
 pub mod Outlines
 pub mod Payloads
 pub mod Descriptions
-pub mod Alike
 pub mod FileNames
 pub mod Faults
 pub mod Held
