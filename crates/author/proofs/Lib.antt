@@ -3,6 +3,7 @@ pub mod ParamPlaces
 pub mod Counts
 pub mod Naming
 pub mod OneFault
+pub mod Alike
 pub mod Likes
 pub mod SameFlaws
 pub mod SameSequences
@@ -14,6 +15,7 @@ pub mod OneItem
 pub mod DescriptionGrammar
 pub mod PayloadsAscend
 pub mod MadeAnswers
+pub mod AsGiven
 pub mod EnvelopeLengthFacts
 pub mod MadeWrappers
 pub mod LeftAfter

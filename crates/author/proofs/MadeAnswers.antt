@@ -1,5 +1,5 @@
 -- The answer to a description that is made into an envelope.
-use Rattle.std.proofs.Common.{◌≡◌, ℕ, Bool, true, false, Option, length, List, [], ◌∷◌, Result, Ok, Err, refl, sym, ap, subst, ◌∙◌, arith, inl, inr}
+use Rattle.std.proofs.Common.{◌≡◌, ℕ, Bool, true, false, Option, length, List, [], ◌∷◌, Some, None, Result, Ok, Err, refl, sym, ap, subst, ◌∙◌, arith, inl, inr}
 use Rattle.std.specs.Prelude.{IfOk, IfErr}
 use Rattle.serde_json.specs.Data.{Data}
 use Rattle.json_fields.specs.declared.flaw.Flaw.{Flaw}
@@ -11,14 +11,18 @@ use Rattle.suit_envelope.specs.Members.{string_digest}
 use Rattle.suit_envelope.specs.Payloads.{HasPayloads}
 use Rattle.suit_envelope.specs.Said.{EnvelopeOf}
 use Rattle.suit_params.specs.Refusing.{SaysWhole}
+use Rattle.suit_params.specs.declared.digest.Digest.{Digest}
 use Rattle.suit_manifest.specs.ManifestMaking.{placed_manifest}
+use Rattle.suit_manifest.specs.MembersApart.{HasMember}
 use Rattle.suit_manifest.specs.ManifestWriting.{ManifestFits, IsWrittenManifest, IsGrammatical}
 use Rattle.suit_manifest.specs.Manifests.{IsManifest}
 use Rattle.suit_manifest.specs.declared.manifest.Member.{Member}
 use Rattle.suit_manifest.specs.declared.manifest.Member.TheVariants as members
 use Rattle.suit_manifest.specs.declared.manifest.TextMember.{TextMember}
 use Rattle.suit_manifest.specs.declared.manifest.TextMember.TheVariants as texts
-use Rattle.suit_commands.specs.SequenceMaking.{sequence_item}
+use Rattle.suit_commands.specs.SequenceMaking.{sequence_item, step_items, placed}
+use Rattle.suit_commands.specs.Sequences.{elements_place}
+use Rattle.suit_commands.specs.Tree.{SequenceTree}
 use Rattle.det_cbor.specs.DataItem.{spell}
 use Rattle.suit_envelope.specs.declared.parts.EnvelopeParts.{EnvelopeParts}
 use Rattle.author.specs.declared.fields.Described.{Described}
@@ -32,7 +36,7 @@ use Rattle.author.specs.Making.{apart_member, apart_text, made_manifest}
 use Rattle.author.specs.Severances.{parted, severed_content, severed_text}
 use Rattle.author.specs.MadeEnvelopes.{made_parts, made_bytes, IsShort, ExceedsLimit, Trimmed, Whole, AnswersShort, IsMadeOf, IsTooLong, IsMakeFaultOf, IsMadeAs, IsTooLongBy, HasOneBlock, IsAuthenticUnder, HoldsPartsOf, HoldsManifestOf}
 use Rattle.author.specs.MadePayloads.{HoldsPayloadsOf}
-use Rattle.author.specs.MadeMembers.{HoldsSevered, HoldsText, HoldsMembersOf, IsAllowedMember, IsWrittenApart, AreWrittenApart}
+use Rattle.author.specs.MadeMembers.{HoldsSevered, HoldsText, HoldsSeveredOf, HoldsMembersOf, IsAllowedMember, IsWrittenApart, AreWrittenApart}
 use Rattle.author.proofs.DescriptionLawProofs.{is_description}
 
 -- ---- lengths
@@ -131,69 +135,81 @@ grammatical law d files said q accepted reads e fits =
     let same : q.manifest ≡ made_manifest said = ap (λ (x : Parted). x.manifest) e in
     subst IsGrammatical (sym same) (law.grammatical d files said (is_description d accepted) reads (subst ManifestFits same fits))
 
-pub holds_manifest : DescriptionLaws → (d : Data) (files : List (List ℕ × List ℕ)) (bytes : List ℕ) (described_as : Described) (p : EnvelopeParts) (q : Parted) (said : EnvelopeSays)
-    → ∥ IsDescription d ∥₁ → described files d ≡ Ok described_as → q ≡ parted described_as → ManifestFits q.manifest → IsWrittenManifest q.manifest p.manifest → EnvelopeOf bytes said → SaysParts p said
-    → HoldsManifestOf d files bytes
-holds_manifest law d files bytes described_as p q said accepted reads e fits written envelope says =
+-- the manifest of these parts, with its places
+pub manifest_said : DescriptionLaws → (d : Data) (files : List (List ℕ × List ℕ)) (described_as : Described) (p : EnvelopeParts) (q : Parted) (said : EnvelopeSays)
+    → ∥ IsDescription d ∥₁ → described files d ≡ Ok described_as → q ≡ parted described_as → ManifestFits q.manifest → IsWrittenManifest q.manifest p.manifest → SaysParts p said
+    → SaysWhole IsManifest said.manifest_place said.manifest (placed_manifest said.manifest_place q.manifest)
+manifest_said law d files described_as p q said accepted reads e fits written says =
     let place : ℕ = said.manifest_place in
     let held : SaysWhole IsManifest place p.manifest (placed_manifest place q.manifest) = written.says place (grammatical law d files described_as q accepted reads e fits) in
-    record {
-      said = said;
-      envelope = envelope;
-      manifest = q.manifest;
-      is = record { said = described_as; reads = reads; is = ap (λ (x : Parted). x.manifest) e };
-      says_so = subst (λ (b : List ℕ). SaysWhole IsManifest place b (placed_manifest place q.manifest)) (sym says.manifest) held;
-    }
+    subst (λ (b : List ℕ). SaysWhole IsManifest place b (placed_manifest place q.manifest)) (sym says.manifest) held
+
+pub holds_manifest : (d : Data) (files : List (List ℕ × List ℕ)) (bytes : List ℕ) (described_as : Described) (q : Parted) (said : EnvelopeSays) → described files d ≡ Ok described_as → q ≡ parted described_as
+    → EnvelopeOf bytes said → SaysWhole IsManifest said.manifest_place said.manifest (placed_manifest said.manifest_place q.manifest) → HoldsManifestOf d files bytes
+holds_manifest d files bytes described_as q said reads e envelope says_so = record {
+  said = said;
+  envelope = envelope;
+  manifest = q.manifest;
+  is = record { said = described_as; reads = reads; is = ap (λ (x : Parted). x.manifest) e };
+  says_so = says_so;
+}
 
 -- ---- the severed members are those of the description
 
-holds_severed : (count : ℕ) (held : Option (List ℕ)) (place : ℕ) (b : Bool) (m : Member) → IsAllowedMember count m → IsWrittenApart b m → held ≡ severed_content b m
-    → HoldsSevered count held place b m (apart_member b m)
-holds_severed count held place true members.Empty allowed written is = is
-holds_severed count held place true (members.Here s) allowed written is = record {
-  content = spell (sequence_item s);
-  there = is;
-  matches = refl;
-  says_so = written.0.says false count place (allowed written.1);
-}
-holds_severed count held place true (members.Apart digest) allowed written is = is
-holds_severed count held place false m allowed written is = is
+-- A severed member that is given with its content stands in the envelope, and its digest in the manifest. Nothing else stands there.
+pub record StandBeside : Type 0 where
+  pub here :
+      (s : SequenceTree) → (severed_content true (members.Here s) ≡ Some (spell (sequence_item s))) × (apart_member true (members.Here s) ≡ members.Apart (record { bytes = string_digest (spell (sequence_item s)) }))
+  pub empty : severed_content true members.Empty ≡ None
+  pub digest : (digest : Digest) → severed_content true (members.Apart digest) ≡ None
+  pub own : (m : Member) → severed_content false m ≡ None
+  pub text : (content : List ℕ) → (severed_text true (texts.Here content) ≡ Some content) × (apart_text true (texts.Here content) ≡ texts.Apart (record { bytes = string_digest content }))
+  pub no_text : severed_text true texts.Empty ≡ None
+  pub text_digest : (digest : Digest) → severed_text true (texts.Apart digest) ≡ None
+  pub own_text : (t : TextMember) → severed_text false t ≡ None
 
-holds_text : (held : Option (List ℕ)) (b : Bool) (t : TextMember) → held ≡ severed_text b t → HoldsText held b t (apart_text b t)
-holds_text held true texts.Empty is = is
-holds_text held true (texts.Here content) is = (is, refl)
-holds_text held true (texts.Apart digest) is = is
-holds_text held false t is = is
+module _ (beside : StandBeside) where
+  holds_severed : (count : ℕ) (held : Option (List ℕ)) (place : ℕ) (b : Bool) (m : Member) → IsAllowedMember count m → IsWrittenApart b m → held ≡ severed_content b m
+      → HoldsSevered count held place b m (apart_member b m)
+  holds_severed count held place true members.Empty allowed written is = is ∙ beside.empty
+  holds_severed count held place true (members.Here s) allowed written is =
+      subst (λ (x : Member). HasMember count held place x (Some (placed (elements_place place (step_items s)) s))) (sym (beside.here s).1)
+      (record {
+        content = spell (sequence_item s);
+        there = is ∙ (beside.here s).0;
+        matches = refl;
+        says_so = written.0.says false count place (allowed written.1);
+      })
+  holds_severed count held place true (members.Apart digest) allowed written is = is ∙ beside.digest digest
+  holds_severed count held place false m allowed written is = is ∙ beside.own m
 
-pub holds_members : DescriptionLaws → (d : Data) (files : List (List ℕ × List ℕ)) (key bytes : List ℕ) (described_as : Described) (p : EnvelopeParts) (q : Parted) (said : EnvelopeSays)
-    → ∥ IsDescription d ∥₁ → described files d ≡ Ok described_as → q ≡ parted described_as → p ≡ made_parts key q → AreWrittenApart described_as → EnvelopeOf bytes said → SaysParts p said
-    → HoldsMembersOf d files bytes
-holds_members law d files key bytes described_as p q said accepted reads e k written envelope says =
-    let same : p ≡ made_parts key (parted described_as) = k ∙ ap (made_parts key) e in
-    let allowed = law.members d files described_as (is_description d accepted) reads in
-    let n : ℕ = length described_as.manifest.components in
-    record {
-      described_as = described_as;
-      reads = reads;
-      said = said;
-      envelope = envelope;
-      members = record {
+  holds_text : (held : Option (List ℕ)) (b : Bool) (t : TextMember) → held ≡ severed_text b t → HoldsText held b t (apart_text b t)
+  holds_text held true texts.Empty is = is ∙ beside.no_text
+  holds_text held true (texts.Here content) is = (is ∙ (beside.text content).0, (beside.text content).1)
+  holds_text held true (texts.Apart digest) is = is ∙ beside.text_digest digest
+  holds_text held false t is = is ∙ beside.own_text t
+
+  -- the members of these parts
+  pub severed_held : DescriptionLaws → (d : Data) (files : List (List ℕ × List ℕ)) (key : List ℕ) (described_as : Described) (p : EnvelopeParts) (q : Parted) (said : EnvelopeSays)
+      → ∥ IsDescription d ∥₁ → described files d ≡ Ok described_as → q ≡ parted described_as → p ≡ made_parts key q → AreWrittenApart described_as → SaysParts p said → HoldsSeveredOf described_as said
+  severed_held law d files key described_as p q said accepted reads e k written says =
+      let same : p ≡ made_parts key (parted described_as) = k ∙ ap (made_parts key) e in
+      let allowed = law.members d files described_as (is_description d accepted) reads in
+      let n : ℕ = length described_as.manifest.components in
+      record {
         payload_fetch = holds_severed n said.payload_fetch said.payload_fetch_place described_as.severed.payload_fetch described_as.manifest.payload_fetch allowed.0 written.0
             (says.payload_fetch ∙ ap (λ (x : EnvelopeParts). x.payload_fetch) same);
         install = holds_severed n said.install said.install_place described_as.severed.install described_as.manifest.install allowed.1 written.1
             (says.install ∙ ap (λ (x : EnvelopeParts). x.install) same);
         text = holds_text said.text described_as.severed.text described_as.manifest.text (says.text ∙ ap (λ (x : EnvelopeParts). x.text) same);
-      };
-    }
+      }
+
+pub holds_members : (d : Data) (files : List (List ℕ × List ℕ)) (bytes : List ℕ) (described_as : Described) (said : EnvelopeSays) → described files d ≡ Ok described_as → EnvelopeOf bytes said → HoldsSeveredOf described_as said
+    → HoldsMembersOf d files bytes
+holds_members d files bytes described_as said reads envelope members = record { described_as = described_as; reads = reads; said = said; envelope = envelope; members = members }
 
 -- ---- the payloads are those of the description
 
-pub holds_payloads : (d : Data) (files : List (List ℕ × List ℕ)) (key bytes : List ℕ) (described_as : Described) (p : EnvelopeParts) (q : Parted) → described files d ≡ Ok described_as
-    → q ≡ parted described_as → p ≡ made_parts key q → HasPayloads bytes p.payloads → HoldsPayloadsOf d files bytes
-holds_payloads d files key bytes described_as p q reads e k has =
-    let same : p ≡ made_parts key (parted described_as) = k ∙ ap (made_parts key) e in
-    record {
-      described_as = described_as;
-      reads = reads;
-      payloads = subst (HasPayloads bytes) (ap (λ (x : EnvelopeParts). x.payloads) same) has;
-    }
+pub holds_payloads : (d : Data) (files : List (List ℕ × List ℕ)) (bytes : List ℕ) (described_as : Described) (list : List (List ℕ × List ℕ)) → described files d ≡ Ok described_as → list ≡ described_as.payloads
+    → HasPayloads bytes list → HoldsPayloadsOf d files bytes
+holds_payloads d files bytes described_as list reads same has = record { described_as = described_as; reads = reads; payloads = subst (HasPayloads bytes) same has }

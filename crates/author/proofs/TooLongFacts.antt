@@ -1,5 +1,5 @@
 -- A manifest whose contents are too long makes a trimmed envelope that is too long.
-use Rattle.std.proofs.Common.{◌≡◌, ◌<◌, ◌≤◌, ◌-◌, ◌^◌, ℕ, min, Bool, true, false, List, [], ◌++◌, length, Option, Result, Ok, Err, refl, sym, ap, ◌∙◌, arith}
+use Rattle.std.proofs.Common.{◌≡◌, ◌<◌, ◌≤◌, ◌-◌, ◌^◌, ℕ, min, Bool, true, false, List, [], ◌++◌, length, Option, Some, Result, Ok, Err, refl, sym, ap, ◌∙◌, arith}
 use Rattle.std.specs.Prelude.{not, unwrap_or}
 use Rattle.std.specs.Result.{result_ok}
 use Rattle.std.proofs.lemmas.List.{length-append}
@@ -8,7 +8,8 @@ use Rattle.det_cbor.specs.DataItem.{UnsignedInteger, ByteString, spell}
 use Rattle.det_cbor.specs.Heads.{head_bytes}
 use Rattle.serde_json.specs.Data.{Data}
 use Rattle.json_fields.specs.declared.flaw.Flaw.{Flaw}
-use Rattle.suit_commands.specs.SequenceMaking.{step_items}
+use Rattle.suit_commands.specs.SequenceMaking.{sequence_item, step_items}
+use Rattle.suit_commands.specs.Tree.{SequenceTree}
 use Rattle.suit_envelope.specs.Trimmed.{trimmed}
 use Rattle.suit_envelope.specs.declared.parts.EnvelopeParts.{EnvelopeParts}
 use Rattle.suit_manifest.specs.declared.manifest.Member.{Member}
@@ -84,21 +85,25 @@ exceeds d files key accepted h = exceeds_as d files key (described files d) acce
 
 -- ---- severed members that are too long
 
-severed_beside : (files : Files) (b : Bool) (o : Option Data) (m : Member) → held_length files o ≤ member_size m → member_length files (not b) o ≤ content_size (severed_content b m)
-severed_beside files false o m h = omega arith
-severed_beside files true o members.Empty h = h
-severed_beside files true o (members.Here s) h = omega (arith, h, array_longer (step_items s))
-severed_beside files true o (members.Apart digest) h = h
+-- the content of a severed sequence is its byte string
+abbrev pub StandsWhole : Type 0
+StandsWhole = (s : SequenceTree) → severed_content true (members.Here s) ≡ Some (spell (sequence_item s))
 
-severed_inside : (key : List ℕ) (files : Files) (d : Data) (p : Described) → described files d ≡ Ok p → severed_contents files d ≤ contents_length (made_parts key (parted p))
-severed_inside key files d p is =
+severed_beside : StandsWhole → (files : Files) (b : Bool) (o : Option Data) (m : Member) → held_length files o ≤ member_size m → member_length files (not b) o ≤ content_size (severed_content b m)
+severed_beside stands files false o m h = omega arith
+severed_beside stands files true o members.Empty h = h
+severed_beside stands files true o (members.Here s) h = omega (arith, h, array_longer (step_items s), ap content_size (stands s))
+severed_beside stands files true o (members.Apart digest) h = h
+
+severed_inside : StandsWhole → (key : List ℕ) (files : Files) (d : Data) (p : Described) → described files d ≡ Ok p → severed_contents files d ≤ contents_length (made_parts key (parted p))
+severed_inside whole key files d p is =
     let h = stands files d p is in
     let o : Outline = outline_of d in
     omega (
       arith,
       ap (severed_length files o) (severed_said files d p is),
-      severed_beside files p.severed.payload_fetch o.payload_fetch p.manifest.payload_fetch h.payload_fetch,
-      severed_beside files p.severed.install o.install p.manifest.install h.install,
+      severed_beside whole files p.severed.payload_fetch o.payload_fetch p.manifest.payload_fetch h.payload_fetch,
+      severed_beside whole files p.severed.install o.install p.manifest.install h.install,
     )
 
 module _ (d : Data) (files : Files) (key : List ℕ) (accepted : ∥ IsDescription d ∥₁) where
@@ -126,17 +131,17 @@ module _ (d : Data) (files : Files) (key : List ℕ) (accepted : ∥ IsDescripti
     first_as (Ok p) is h = record { said = p; reads = is; passes = Trimmed (omega (arith, h, counted, as_long p is)) }
     first_as (Err flaw) is h = absurd (never_flawed d files flaw accepted is)
 
-    second_as : (r : Result Described Flaw) → described files d ≡ r → n ≤ 16384 → IsTooLong d files key 1048576
-    second_as (Ok p) is h =
+    second_as : StandsWhole → (r : Result Described Flaw) → described files d ≡ r → n ≤ 16384 → IsTooLong d files key 1048576
+    second_as whole (Ok p) is h =
         let parts = made_parts key (parted p) in
-        record { said = p; reads = is; passes = Whole (omega (arith, h, counted, as_long p is)) (omega (arith, long, severed_inside key files d p is, envelope_longer parts)) }
-    second_as (Err flaw) is h = absurd (never_flawed d files flaw accepted is)
+        record { said = p; reads = is; passes = Whole (omega (arith, h, counted, as_long p is)) (omega (arith, long, severed_inside whole key files d p is, envelope_longer parts)) }
+    second_as whole (Err flaw) is h = absurd (never_flawed d files flaw accepted is)
 
     pub first_passed : 16384 < n → IsTooLong d files key 16384
     first_passed h = first_as (described files d) refl h
 
-    pub second_passed : n ≤ 16384 → IsTooLong d files key 1048576
-    second_passed h = second_as (described files d) refl h
+    pub second_passed : StandsWhole → n ≤ 16384 → IsTooLong d files key 1048576
+    second_passed whole h = second_as whole (described files d) refl h
 
 -- ---- a limit that is told
 

@@ -14,7 +14,6 @@ pub mod Severing
 pub mod Outlines
 pub mod Payloads
 pub mod Descriptions
-pub mod Alike
 pub mod FileNames
 pub mod Faults
 pub mod Held
@@ -29,4 +28,5 @@ pub mod MadeMembers
 pub mod KeysOnce
 pub mod GivenCommands
 pub mod GivenParts
+pub mod GivenEnvelopes
 pub mod DescriptionLaws

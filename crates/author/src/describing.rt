@@ -6,13 +6,12 @@ ghost use Rattle.author.specs.declared.fault.DescriptionFault.{DescriptionFault}
 ghost use Rattle.author.specs.Faults.{AreFewAndApart, RefusesComponents, IsDescription, RefusesDescription, IsFaultOf, IsAccepted, IsRefusedFor};
 ghost use Rattle.author.specs.Held.{IsDescriptionOf};
 
-use crate::alike::first_alike;
 use crate::fields::Described;
 use crate::file_names::file_names;
 use crate::{Description, DescriptionFault, FileList};
 use serde_json::Value;
 use std::alloc::Global;
-use suit_params::Identifiers;
+use suit_params::{Identifiers, first_alike};
 
 // Refuses more than eight components, and then two that are alike.
 fn judge_components(components: &Identifiers) -> Result<(), DescriptionFault>
@@ -22,7 +21,7 @@ fn judge_components(components: &Identifiers) -> Result<(), DescriptionFault>
     if components.len() > 8 {
         return Err(DescriptionFault::TooMany(components.len() as u64));
     }
-    match first_alike(components) {
+    match first_alike(components.as_slice()) {
         Some((first, second)) => Err(DescriptionFault::TwoAlike { first, second }),
         None => Ok(()),
     }

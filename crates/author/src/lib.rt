@@ -1,7 +1,6 @@
 //! Descriptions of envelopes in JSON, and the envelopes that are made of them.
 #![tactic(auto)]
 
-mod alike;
 mod bare;
 mod command_name;
 mod commands;

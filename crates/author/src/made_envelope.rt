@@ -4,7 +4,9 @@ ghost use Rattle.std.specs.Prelude.{◌≡◌, ◌<◌, ℕ, List, None, IfOk, I
 ghost use Rattle.suit_manifest.specs.ManifestWriting.{IsWrittenManifest, ManifestFits};
 ghost use Rattle.author.specs.FileNames.{file_names};
 ghost use Rattle.author.specs.Files.{has_files};
+ghost use Rattle.author.specs.GivenEnvelopes.{HoldsAsGiven};
 ghost use Rattle.author.specs.Held.{value_of};
+ghost use Rattle.author.specs.KeysOnce.{HasKeysOnce};
 ghost use Rattle.author.specs.MadeMembers.{HoldsMembersOf};
 ghost use Rattle.author.specs.MadePayloads.{HoldsPayloadsOf};
 ghost use Rattle.author.specs.Outlines.{severed_in, severed_contents};
@@ -103,6 +105,9 @@ fn certain_limit(
 /// The members to be severed and the payloads stand beside its manifest. It is authentic under the key: its wrapper has
 /// just one block, which verifies.
 ///
+/// Where no object of the description has a key twice, what the bytes hold is told by the description's JSON alone: a
+/// member that `sever` names stands in the envelope, with its digest in the manifest, and each payload under its key.
+///
 /// Refuses an envelope whose wrapper and manifest alone take more than 16,384 bytes, and then one of more than
 /// 1,048,576.
 pub fn make(
@@ -124,6 +129,8 @@ pub fn make(
     ensures manifest { IfOk result (HoldsManifestOf (value_of description.now) files.now) }
     ensures members { IfOk result (HoldsMembersOf (value_of description.now) files.now) }
     ensures payloads { IfOk result (HoldsPayloadsOf (value_of description.now) files.now) }
+    ensures as_given { HasKeysOnce (value_of description.now)
+        → IfOk result (HoldsAsGiven (value_of description.now) files.now) }
 {
     description_laws();
     if let Some(limit) = certain_limit(alloc, description, files, key)? {

@@ -8,12 +8,13 @@ use Rattle.json_fields.specs.declared.flaw.JsonFault.{JsonFault}
 use Rattle.json_fields.specs.declared.flaw.JsonFault.TheVariants.{Flawed}
 use Rattle.json_fields.specs.declared.flaw.JsonFault.TheVariants as faults
 use Rattle.json_fields.specs.Answers.{Gives}
+use Rattle.suit_params.specs.Alike.{IsFirstLike, IsFirstAlike, HaveNoneAlike}
 use Rattle.flash_layout.specs.declared.layout.Entry.{Entry}
 use Rattle.flash_layout.specs.declared.layout.Memory.TheVariants.{Ram}
 use Rattle.flash_layout.specs.declared.layout_fault.LayoutFault.{LayoutFault}
 use Rattle.flash_layout.specs.declared.layout_fault.LayoutFault.TheVariants.{BadField, BadHex, BadUuid, TooMany, TwoAlike, Overlap, Outside, NoMemory}
 use Rattle.flash_layout.specs.Devices.{described_layout}
-use Rattle.flash_layout.specs.Overlaps.{IsFirstLike, IsFirstAlike, HaveNoneAlike, IsFirstShared, IsFirstOverlap, HaveNoOverlap, IsFirstOutside}
+use Rattle.flash_layout.specs.Overlaps.{identifier_of, IsFirstShared, IsFirstOverlap, HaveNoOverlap, IsFirstOutside}
 use Rattle.flash_layout.specs.LayoutFaults.{fault_at, fault_of, fault_told, AreHeld, RefusesEntries, Many, Alike, Shared, Beyond, IsLayoutOf, RefusesLayout, BadValue, BadEntries, IsFaultOf, IsAccepted, IsRefusedFor}
 use Rattle.flash_layout.proofs.Kept.{err_not_ok, ok_same}
 
@@ -48,7 +49,7 @@ three m n = grind arith
 entry_none : Entry
 entry_none = record { identifier = []; memory = Ram; slots = 0; starts = []; capacity = 0; vendor = None; class = None; device = None }
 
-alike_not : (layout : List Entry) (i j : ℕ) → HaveNoneAlike layout → IsFirstAlike layout i j → ⊥
+alike_not : (layout : List Entry) (i j : ℕ) → HaveNoneAlike identifier_of layout → IsFirstAlike identifier_of layout i j → ⊥
 alike_not layout i j none a = none i j a.first.below a.inside entry_none (a.first.same entry_none)
 
 overlap_not : (layout : List Entry) (i j : ℕ) → HaveNoOverlap layout → IsFirstOverlap layout i j → ⊥
@@ -62,12 +63,12 @@ not_held size layout f h (Beyond i few apart clear a) = a.outside (h.inside i a.
 
 -- ---- each fault is told once
 
-alike_once : (layout : List Entry) (i j k l : ℕ) → IsFirstAlike layout i j → IsFirstAlike layout k l → (i ≡ k) × (j ≡ l)
+alike_once : (layout : List Entry) (i j k l : ℕ) → IsFirstAlike identifier_of layout i j → IsFirstAlike identifier_of layout k l → (i ≡ k) × (j ≡ l)
 alike_once layout i j k l a b =
     let second : j ≡ l =
     ⊎_elim (λ h. absurd (b.least i j a.first.below h entry_none (a.first.same entry_none)))
     (⊎_elim (λ e. e) (λ h. absurd (a.least k l b.first.below h entry_none (b.first.same entry_none)))) (three j l) in
-    let first_b : IsFirstLike layout j k = subst (λ n. IsFirstLike layout n k) (sym second) b.first in
+    let first_b : IsFirstLike identifier_of layout j k = subst (λ n. IsFirstLike identifier_of layout n k) (sym second) b.first in
     (⊎_elim (λ h. absurd (first_b.least i h entry_none (a.first.same entry_none))) (⊎_elim (λ e. e) (λ h. absurd (a.first.least k h entry_none (first_b.same entry_none)))) (three i k), second)
 
 overlap_once : (layout : List Entry) (i j k l : ℕ) → IsFirstOverlap layout i j → IsFirstOverlap layout k l → (i ≡ k) × (j ≡ l)

@@ -5,12 +5,13 @@ use Rattle.serde_json.specs.Data.{Data}
 use Rattle.json_fields.specs.declared.flaw.Flaw.{Flaw}
 use Rattle.json_fields.specs.declared.flaw.FlawKind.{FlawKind}
 use Rattle.json_fields.specs.declared.flaw.JsonFault.{JsonFault}
+use Rattle.suit_params.specs.Alike.{IsFirstAlike, HaveNoneAlike}
 use Rattle.json_fields.specs.Telling.{by_kind, told, IsAcceptedBut, IsRefusedBut}
 use Rattle.flash_layout.specs.declared.layout.Entry.{Entry}
 use Rattle.flash_layout.specs.declared.layout_fault.LayoutFault.{LayoutFault}
 use Rattle.flash_layout.specs.declared.layout_fault.LayoutFault.TheVariants.{BadField, BadHex, BadUuid, TooMany, TwoAlike, Overlap, Outside, NoMemory}
 use Rattle.flash_layout.specs.Devices.{described_layout}
-use Rattle.flash_layout.specs.Overlaps.{IsFirstAlike, HaveNoneAlike, IsFirstOverlap, HaveNoOverlap, IsFirstOutside, AreInside}
+use Rattle.flash_layout.specs.Overlaps.{identifier_of, IsFirstOverlap, HaveNoOverlap, IsFirstOutside, AreInside}
 
 abbrev pub fault_at : FlawKind → List ℕ → LayoutFault
 fault_at kind pointer = by_kind BadField BadHex BadUuid kind pointer
@@ -24,19 +25,19 @@ fault_told fault = told fault_of NoMemory fault
 -- at most eight components, no two alike, no byte shared, each within a flash of this size
 pub record AreHeld (size : ℕ) (layout : List Entry) : Type 0 where
   pub few : length layout ≤ 8
-  pub apart : HaveNoneAlike layout
+  pub apart : HaveNoneAlike identifier_of layout
   pub clear : HaveNoOverlap layout
   pub inside : AreInside size layout
 
 -- the faults of the components, in this order
 pub data RefusesEntries (size : ℕ) (layout : List Entry) : LayoutFault → Type 0 where
   Many : 8 < length layout → RefusesEntries size layout (TooMany (length layout))
-  Alike : (i j : ℕ) → length layout ≤ 8 → IsFirstAlike layout i j
+  Alike : (i j : ℕ) → length layout ≤ 8 → IsFirstAlike identifier_of layout i j
       → RefusesEntries size layout (TwoAlike i j)
-  Shared : (i j : ℕ) → length layout ≤ 8 → HaveNoneAlike layout → IsFirstOverlap layout i j
-      → RefusesEntries size layout (Overlap i j)
-  Beyond : (i : ℕ) → length layout ≤ 8 → HaveNoneAlike layout → HaveNoOverlap layout
-      → IsFirstOutside size layout i → RefusesEntries size layout (Outside i)
+  Shared : (i j : ℕ) → length layout ≤ 8 → HaveNoneAlike identifier_of layout
+      → IsFirstOverlap layout i j → RefusesEntries size layout (Overlap i j)
+  Beyond : (i : ℕ) → length layout ≤ 8 → HaveNoneAlike identifier_of layout
+      → HaveNoOverlap layout → IsFirstOutside size layout i → RefusesEntries size layout (Outside i)
 
 -- the value describes this layout of a flash of a size
 pub record IsLayoutOf (size : ℕ) (d : Data) (layout : List Entry) : Type 0 where

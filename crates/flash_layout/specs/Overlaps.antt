@@ -5,37 +5,8 @@ use Rattle.flash_layout.specs.Layouts.{slot_starts, slot_size, AreClear, AreAllC
 
 -- ---- identifiers
 
-abbrev pub HaveOneId : List Entry → ℕ → ℕ → Type 0
-HaveOneId layout i j =
-    (d : Entry) → (slice_index_or layout i d).identifier ≡ (slice_index_or layout j d).identifier
-
-abbrev pub HaveOtherIds : List Entry → ℕ → ℕ → Type 0
-HaveOtherIds layout i j =
-    (d : Entry) → (slice_index_or layout i d).identifier ≢ (slice_index_or layout j d).identifier
-
--- none before the last one has its identifier
-abbrev pub HasNoLike : List Entry → ℕ → Type 0
-HasNoLike layout last = (k : ℕ) → k < last → HaveOtherIds layout k last
-
--- this is the first that has
-pub record IsFirstLike (layout : List Entry) (last first : ℕ) : Type 0 where
-  pub below : first < last
-  pub same : HaveOneId layout first last
-  pub least : (k : ℕ) → k < first → HaveOtherIds layout k last
-
--- the first two that are alike: the least second one, and then the least first one
-pub record IsFirstAlike (layout : List Entry) (i j : ℕ) : Type 0 where
-  pub inside : j < length layout
-  pub first : IsFirstLike layout j i
-  pub least : (k l : ℕ) → k < l → l < j → HaveOtherIds layout k l
-
-abbrev pub HaveNoneAlike : List Entry → Type 0
-HaveNoneAlike layout = (i j : ℕ) → i < j → j < length layout → HaveOtherIds layout i j
-
--- the answer of a search for two that are alike
-abbrev pub TellsAlike : List Entry → Option (ℕ × ℕ) → Type 0
-TellsAlike layout answer =
-    MatchOption answer (HaveNoneAlike layout) (λ p. IsFirstAlike layout p.0 p.1)
+abbrev pub identifier_of : Entry → List (List ℕ)
+identifier_of e = e.identifier
 
 -- ---- slots
 

@@ -8,11 +8,12 @@ ghost use Rattle.flash_layout.specs.Layouts.{IsLayout};
 ghost use Rattle.flash_layout.specs.LayoutFaults.{AreHeld, RefusesEntries, IsLayoutOf, RefusesLayout, IsFaultOf, IsAccepted, IsRefusedFor};
 
 use crate::device_fields::device;
-use crate::first_faults::{first_alike, first_outside, first_overlap};
+use crate::first_faults::{first_outside, first_overlap};
 use crate::frame::{MAX_ENTRIES, VERSION_1};
 use crate::{Layout, LayoutFault};
 use serde_json::Value;
 use std::alloc::Global;
+use suit_params::first_alike;
 
 // Refuses more than eight components, two that are alike, two that share a byte, and one outside the flash.
 fn judge(size: u64, layout: &Layout) -> Result<(), LayoutFault>

@@ -1,37 +1,10 @@
-//! The first components that may not stand in one layout.
+//! The first components that share a byte, or lie outside the flash.
 
 ghost use Rattle.std.specs.Prelude.{◌≤◌, ◌<◌, ◌↔◌, All, IsTrue, length, MatchOption};
-ghost use Rattle.flash_layout.specs.Overlaps.{HasNoLike, IsFirstLike, TellsAlike, IsClearItself, ShareNone, SharesNone, IsFirstShared, TellsOverlap, IsFirstOutside, AreInside};
+ghost use Rattle.flash_layout.specs.Overlaps.{IsClearItself, ShareNone, SharesNone, IsFirstShared, TellsOverlap, IsFirstOutside, AreInside};
 
 use crate::Entry;
 use crate::rules::{all_clear, clear, slots_of, starts_behind};
-
-// The first component before another one that has its identifier.
-fn first_like(entries: &[Entry], last: usize) -> Option<usize>
-    requires { last < length entries.now }
-    ensures { MatchOption result (HasNoLike entries.now last) (IsFirstLike entries.now last) }
-{
-    for i in 0..last {
-        if entries[i].identifier.is_same(&entries[last].identifier) {
-            return Some(i);
-        }
-    }
-    None
-}
-
-/// The first two of at most eight components that have the same identifier: the least second one, and then the
-/// least first one.
-pub(crate) fn first_alike(entries: &[Entry]) -> Option<(u32, u32)>
-    requires { length entries.now ≤ 8 }
-    ensures { TellsAlike entries.now result }
-{
-    for last in 0..entries.len() {
-        if let Some(first) = first_like(entries, last) {
-            return Some((first as u32, last as u32));
-        }
-    }
-    None
-}
 
 // Whether a component's slots share no byte.
 fn is_clear_itself(entry: &Entry) -> bool

@@ -1,7 +1,7 @@
 //! Layouts: which components a device has, and where.
 
 use det_cbor::List;
-use suit_params::Identifier;
+use suit_params::{Identified, Identifier};
 
 /// Where a component's content is kept.
 #[derive(Clone, Copy, Debug, PartialEq, Eq)]
@@ -30,6 +30,16 @@ pub struct Entry {
     pub class: Option<[u8; 16]>,
     /// The UUID of the device.
     pub device: Option<[u8; 16]>,
+}
+
+impl Identified for Entry {
+    ghost use Rattle.flash_layout.specs.Overlaps.{identifier_of};
+
+    ghost id = { identifier_of };
+
+    fn identifier(&self) -> &Identifier {
+        &self.identifier
+    }
 }
 
 /// The components of a device, by their indices.

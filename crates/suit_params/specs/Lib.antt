@@ -1,6 +1,7 @@
 pub mod Refusing
 pub mod Digests
 pub mod Identifiers
+pub mod Alike
 pub mod Judging
 pub mod Reading
 pub mod DigestReading

@@ -1,6 +1,7 @@
 //! The parts that all readers of SUIT manifests share: refusals with their places, digests and parameters.
 #![tactic(auto)]
 
+mod alike;
 mod digest;
 mod fault;
 mod identifier;
@@ -17,6 +18,7 @@ mod reading;
 mod refusal;
 mod value_in_force;
 
+pub use alike::{Identified, first_alike};
 pub use digest::{Digest, digest_of, read_digest};
 pub use identifier::{Identifier, Identifiers};
 pub use law::in_force_laws;

@@ -1,6 +1,0 @@
-use Rattle.std.proofs.Common.{ℕ, ◌<◌}
-use Rattle.flash_layout.specs.Overlaps.{HaveOtherIds}
-use Rattle.flash_layout.proofs.first_faults.first_alike.Given as goal
-
-abbrev pub invariant-loop-last : goal.invariant-loop-last
-invariant-loop-last l = (i j : ℕ) → i < j → j < l.last → HaveOtherIds l.entries i j
