@@ -1,6 +1,7 @@
 //! The tests.
 
 mod cbor;
+mod digests;
 mod macs;
 mod params;
 mod rows;

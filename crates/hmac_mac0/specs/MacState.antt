@@ -1,10 +1,20 @@
--- The meaning of a MAC that is being computed.
+-- The meaning of a MAC that is being computed: it was made with the key, and has taken this much of the message.
 use Rattle.std.specs.Prelude.{◌≡◌, ℕ, List, ◌++◌}
-use Rattle.sha2.specs.Hashers.{Holds256}
+use Rattle.sha2.specs.Hashers.{Holds256, Holds512}
+use Rattle.sha2.specs.Sha256.{sha256}
+use Rattle.sha2.specs.Sha512.{sha512}
 use Rattle.hmac_mac0.specs.Hmac.{key_xor}
 use Rattle.hmac_mac0.specs.declared.mac.Mac.{Mac}
+use Rattle.hmac_mac0.specs.declared.mac512.Mac512.{Mac512}
 
--- it was made with the key, and has taken this much of the message
+-- under SHA-256
 unfoldable pub HasTaken : Mac → List ℕ → List ℕ → Type 0
 HasTaken mac key message =
-    Holds256 mac.inner (key_xor key 0x36 ++ message) × (mac.outer ≡ key_xor key 0x5c)
+    Holds256 mac.inner (key_xor sha256 64 key 0x36 ++ message)
+    × (mac.outer ≡ key_xor sha256 64 key 0x5c)
+
+-- under SHA-512
+unfoldable pub HasTaken512 : Mac512 → List ℕ → List ℕ → Type 0
+HasTaken512 mac key message =
+    Holds512 mac.inner (key_xor sha512 128 key 0x36 ++ message)
+    × (mac.outer ≡ key_xor sha512 128 key 0x5c)

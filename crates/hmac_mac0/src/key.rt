@@ -1,16 +1,21 @@
 //! The key as HMAC uses it.
 
 ghost use Rattle.std.specs.Prelude.{◌≡◌, ◌++◌, ◌-◌, ◌≤◌, length, map, bit_xor, replicate};
+ghost use Rattle.sha2.specs.Sha256.{sha256};
+ghost use Rattle.sha2.specs.Sha512.{sha512};
 ghost use Rattle.hmac_mac0.specs.Hmac.{padded_key};
 
-use sha2::{Digest, Sha256};
+use sha2::{Digest, Sha256, Sha512};
 
 // The length of a block of SHA-256, in bytes.
 const BLOCK: usize = 64;
 
-/// The key in a block: filled up with zeros, or hashed first where it is longer.
+// The length of a block of SHA-512, in bytes.
+const BLOCK_512: usize = 128;
+
+/// The key in a block of SHA-256: filled up with zeros, or hashed first where it is longer.
 pub(crate) fn padded(key: &[u8]) -> [u8; 64]
-    ensures { result ≡ padded_key key.now }
+    ensures { result ≡ padded_key sha256 64 key.now }
 {
     if key.len() <= BLOCK {
         filled(key)
@@ -19,22 +24,34 @@ pub(crate) fn padded(key: &[u8]) -> [u8; 64]
     }
 }
 
-// A key of at most a block, with zeros behind it.
-fn filled(key: &[u8]) -> [u8; 64]
-    requires { length key.now ≤ 64 }
-    ensures { result ≡ key.now ++ replicate (64 - length key.now) 0 }
+/// The same in a block of SHA-512.
+pub(crate) fn padded512(key: &[u8]) -> [u8; 128]
+    ensures { result ≡ padded_key sha512 128 key.now }
 {
-    let mut block = [0u8; 64];
+    if key.len() <= BLOCK_512 {
+        filled(key)
+    } else {
+        filled(&Sha512::digest(key))
+    }
+}
+
+// A key of at most a block, with zeros behind it.
+fn filled<const SIZE: usize>(key: &[u8]) -> [u8; SIZE]
+    requires { length key.now ≤ SIZE }
+    ensures { result ≡ key.now ++ replicate (SIZE - length key.now) 0 }
+{
+    let mut block = [0u8; SIZE];
     block[..key.len()].copy_from_slice(key);
     block
 }
 
 /// The block with each byte changed by the same byte.
-pub(crate) fn xored(mut block: [u8; 64], with: u8) -> [u8; 64]
-    ensures { result ≡ map (λ b. bit_xor b with) block }
+pub(crate) fn xored<const SIZE: usize>(block: &[u8; SIZE], with: u8) -> [u8; SIZE]
+    ensures { result ≡ map (λ b. bit_xor b with) block.now }
 {
-    for byte in block.iter_mut() {
+    let mut changed = *block;
+    for byte in changed.iter_mut() {
         *byte ^= with;
     }
-    block
+    changed
 }

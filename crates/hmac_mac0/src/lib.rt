@@ -1,4 +1,4 @@
-//! HMAC-SHA-256 (RFC 2104), and the COSE_Mac0 blocks that carry it (RFC 9052, section 6).
+//! HMAC-SHA-256 and HMAC-SHA-512 (RFC 2104), and the COSE_Mac0 blocks that carry the first (RFC 9052, section 6).
 #![tactic(auto)]
 
 mod block;
@@ -7,10 +7,12 @@ mod header;
 mod key;
 mod layout;
 mod mac;
+mod mac512;
 mod make;
 mod structure;
 mod verdict;
 
 pub use mac::{Mac, hmac};
+pub use mac512::{Mac512, hmac512};
 pub use make::make_block;
 pub use verdict::{MacVerdict, verify};

@@ -23,10 +23,10 @@ impl Mac {
     {
         let block = padded(key);
         let mut inner = Sha256::new();
-        inner.update(xored(block, 0x36));
+        inner.update(xored(&block, 0x36));
         Mac {
             inner,
-            outer: xored(block, 0x5c),
+            outer: xored(&block, 0x5c),
         }
     }
 

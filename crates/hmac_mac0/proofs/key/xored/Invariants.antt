@@ -2,4 +2,4 @@ use Rattle.std.proofs.Common.{◌≡◌, ◌++◌, take, drop, map, bit_xor}
 use Rattle.hmac_mac0.proofs.key.xored.Given as goal
 
 abbrev pub invariant-loop-byte : goal.invariant-loop-byte
-invariant-loop-byte l = l.byte-items ≡ map (λ b. bit_xor b l.with) (take l.byte-index l.fn.block) ++ drop l.byte-index l.fn.block
+invariant-loop-byte g l = l.byte-items ≡ map (λ b. bit_xor b l.with) (take l.byte-index l.block) ++ drop l.byte-index l.block
