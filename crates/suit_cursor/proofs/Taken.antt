@@ -1,7 +1,7 @@
 -- Parameters that are known to be read without a fault.
-use Rattle.std.proofs.Common.{◌≡◌, ◌∙◌, ◌<◌, ℕ, Bool, true, false, cond, eqb, ltb, List, Result, Ok, Err, refl, sym, ap, subst}
+use Rattle.std.proofs.Common.{◌≡◌, ◌∙◌, ℕ, Bool, true, false, cond, eqb, List, Result, Ok, Err, refl, sym, ap, subst}
 use Rattle.std.specs.Prelude.{IsOk}
-use Rattle.std.proofs.lemmas.Bool.{eqb-true, ltb-true}
+use Rattle.std.proofs.lemmas.Bool.{eqb-true}
 use Rattle.det_cbor.specs.declared.head.Head.{Head}
 use Rattle.det_cbor.specs.declared.head.HeadKind.{HeadKind}
 use Rattle.det_cbor.specs.declared.head.HeadKind.TheVariants as kinds
@@ -9,17 +9,16 @@ use Rattle.det_cbor.specs.HeadReading.{◌>>=◌}
 use Rattle.det_cbor.specs.Position.{Position}
 use Rattle.det_cbor.specs.ArgumentLaws.{IsBytes}
 use Rattle.suit_params.specs.declared.refusal.Refusal.{Refusal}
-use Rattle.suit_params.specs.declared.refusal.Why.TheVariants.{Shape, Algorithm, BadParam, BadIndex}
+use Rattle.suit_params.specs.declared.refusal.Why.TheVariants.{Shape, Algorithm, BadParam}
 use Rattle.suit_params.specs.Refusing.{refused}
-use Rattle.suit_params.specs.Reading.{head_from, kind_from, kind_after, bytes_from, only_from, array_from}
+use Rattle.suit_params.specs.Reading.{head_from, kind_from, bytes_from, only_from, array_from}
 use Rattle.suit_params.specs.DigestReading.{value_at, algorithm_after, algorithm_at, elements_at, digest_at}
-use Rattle.suit_params.specs.ParamJudging.{judge_index}
-use Rattle.suit_params.specs.ParamReading.{id_from, held_from, number_from, digest_from}
+use Rattle.suit_params.specs.ParamReading.{id_from, held_from, digest_from}
 use Rattle.suit_cursor.proofs.Known.{ok_is, first_ok, then_ok}
 use Rattle.suit_cursor.proofs.ItsHead.{all_of_it}
 
 -- a test that went well
-pub tested : {A : Type 0} (b : Bool) (r : Result A Refusal) (bad : Refusal) → IsOk (cond b r (Err bad)) → b ≡ true
+tested : {A : Type 0} (b : Bool) (r : Result A Refusal) (bad : Refusal) → IsOk (cond b r (Err bad)) → b ≡ true
 tested true r bad ok = refl
 tested false r bad ok = absurd cc
 
@@ -53,7 +52,7 @@ after_ok array place n q kinds.Negative ok = ap (λ (b : Bool). cond b (Ok q) (E
 after_ok array place n q kind ok = absurd cc
 
 -- an algorithm's head is all of it
-pub algorithm_goes : (array : ℕ) (p : Position) (h : Head) (q : Position) → head_from p ≡ Ok (h, q) → IsOk (algorithm_at array p) → algorithm_at array p ≡ Ok q
+algorithm_goes : (array : ℕ) (p : Position) (h : Head) (q : Position) → head_from p ≡ Ok (h, q) → IsOk (algorithm_at array p) → algorithm_at array p ≡ Ok q
 unfolding algorithm_at
 algorithm_goes array p h q e ok =
     let step = ap (λ (r : Result (Head × Position) Refusal). r >>= λ g. algorithm_after array p.place g.0.value g.1 g.0.kind) e in
@@ -65,7 +64,7 @@ both_at array q = algorithm_at array q >>= λ s. value_at array s >>= λ d. Ok d
 both_is : (place n : ℕ) (q : Position) → IsOk (elements_at place (n, q)) → elements_at place (n, q) ≡ both_at place q
 both_is place n q ok = ap (λ (b : Bool). cond b (both_at place q) (Err (refused place Shape))) (tested (eqb n 2) (both_at place q) (refused place Shape) ok)
 
-pub digest_goes : (p : Position) (n : ℕ) (q : Position) → kind_from kinds.Array Shape p ≡ Ok (n, q) → IsOk (digest_at p) → digest_at p ≡ both_at p.place q
+digest_goes : (p : Position) (n : ℕ) (q : Position) → kind_from kinds.Array Shape p ≡ Ok (n, q) → IsOk (digest_at p) → digest_at p ≡ both_at p.place q
 unfolding digest_at array_from
 digest_goes p n q e ok =
     let step = ap (λ (r : Result (ℕ × Position) Refusal). r >>= elements_at p.place) e in
@@ -75,7 +74,7 @@ pub array_ok : (p : Position) → IsOk (digest_at p) → IsOk (kind_from kinds.A
 unfolding digest_at array_from
 array_ok p ok = first_ok (kind_from kinds.Array Shape p) _ ok
 
-pub algorithm_ok : (array : ℕ) (p : Position) → IsOk (algorithm_at array p) → IsOk (head_from p)
+algorithm_ok : (array : ℕ) (p : Position) → IsOk (algorithm_at array p) → IsOk (head_from p)
 unfolding algorithm_at
 algorithm_ok array p ok = first_ok (head_from p) _ ok
 
@@ -115,10 +114,3 @@ content_goes p c q e bytes ok =
     let goes = subst (λ (s : Result (List ℕ × Position) Refusal). IsOk s) step ok in
     let item = ok_is (only_from c) (first_ok (only_from c) _ goes) in
     step ∙ ap (λ (r : Result Position Refusal). r >>= λ i. digest_at i >>= λ d. Ok (d, q)) item.1 ∙ ap (λ (i : Position). digest_at i >>= λ d. Ok (d, q)) (all_of_it c item.0 bytes item.1)
-
--- ---- indices
-
-index_of : (count place n : ℕ) → IsOk (judge_index count place n) → (n < count) × (judge_index count place n ≡ Ok n)
-index_of count place n ok =
-    let is = tested (ltb n count) (Ok n) (refused place (BadIndex n count)) ok in
-    (ltb-true n count is, ap (λ (b : Bool). cond b (Ok n) (Err (refused place (BadIndex n count)))) is)
