@@ -11,13 +11,13 @@ use Rattle.suit_params.specs.ParamMaking.{IsBelow}
 use Rattle.suit_cursor.specs.declared.command.LentCommand.{LentCommand}
 use Rattle.suit_cursor.specs.declared.command.LentCommand.TheVariants as commands
 use Rattle.suit_cursor.specs.Lending.{command_of}
+use Rattle.suit_cursor.specs.SoftFailure.{soft_by, soft_behind}
 use Rattle.suit_commands.specs.Targets.{NamesSource}
 use Rattle.flash_slots.specs.RamContents.{Held}
 use Rattle.suit_commands.specs.Tree.{Override}
 use Rattle.path_model.specs.Directives.{after_override, soft_after}
 use Rattle.step_machine.specs.declared.machine.Machine.{Machine}
 use Rattle.step_machine.specs.Allowing.{AllowsCommand}
-use Rattle.step_machine.specs.Overriding.{soft_after_list}
 use Rattle.step_machine.specs.Running.{AreSources, IsReady}
 use Rattle.step_machine.specs.UrisSet.{NamesUri}
 
@@ -94,8 +94,15 @@ sources_overridden machine old new component list size ram inside ready command 
 
 -- ---- the state after it
 
+same_soft : (soft : Bool) (p : Param) → soft_by soft p ≡ soft_after soft p
+same_soft soft (params.Soft value) = refl
+same_soft soft p = refl
+
 pub override_is : (parameters : Parameters) (selection : List ℕ) (soft : Bool) (component : ℕ) (list : List Param)
     → after_override (record { parameters = parameters; selection = selection; soft_failure = soft }) component list
-    ≡ record { parameters = overridden parameters component list; selection = selection; soft_failure = soft_after_list soft list }
+    ≡ record { parameters = overridden parameters component list; selection = selection; soft_failure = soft_behind soft list }
 override_is parameters selection soft component [] = refl
-override_is parameters selection soft component (p ∷ list) = override_is (with_param parameters component p) selection (soft_after soft p) component list
+override_is parameters selection soft component (p ∷ list) =
+    let after = with_param parameters component p in
+    override_is after selection (soft_after soft p) component list
+    ∙ ap (λ (b : Bool). record { parameters = overridden after component list; selection = selection; soft_failure = soft_behind b list }) (sym (same_soft soft p))

@@ -16,7 +16,6 @@ pub mod Programs
 pub mod Running
 pub mod Allowing
 pub mod Parts
-pub mod Overriding
 pub mod Areas
 pub mod InUse
 pub mod Replacing

@@ -1,5 +1,8 @@
 pub mod Door
 pub mod Known
+pub mod Reading
+pub mod Passed
+pub mod Taken
 pub mod ItsHead
 pub mod ListedIndices
 pub mod SlicesInForce

@@ -5,3 +5,5 @@ pub mod Spelled
 pub mod Walking
 pub mod Views
 pub mod Within
+pub mod Passing
+pub mod SoftFailure

@@ -10,10 +10,14 @@ mod copying;
 mod entering;
 mod index_view;
 mod indices;
+mod judged;
+mod known_head;
 mod level;
 mod params;
+mod passing;
 mod sequence;
 mod slice_params;
+mod taking;
 #[cfg(test)]
 mod tests;
 mod view;

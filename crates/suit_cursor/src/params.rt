@@ -5,15 +5,18 @@ ghost use Rattle.suit_params.specs.ParamReading.{next_params};
 ghost use Rattle.suit_commands.specs.SequenceReading.{override_from};
 ghost use Rattle.suit_cursor.specs.Lending.{LendsParam};
 
-use det_cbor::Cursor;
+use crate::judged::Judged;
+use crate::passing::take_map;
+use crate::taking::take_param;
+use det_cbor::{Cursor, HeadKind};
 use std::marker::Model;
-use suit_params::{ParamSlice, lend_param, read_item, read_map, same_place};
+use suit_params::{ParamSlice, Why};
 
 /// The parameters of an override that are left, ascending by their keys' numbers (draft-ietf-suit-manifest-25, section
 /// 8.4.10.3), lent by bytes that were judged.
 #[derive(Drop)]
 pub struct ParamView<'a> {
-    cursor: Cursor<'a>,
+    map: Judged<'a>,
     left: u64,
     count: u32,
 }
@@ -26,9 +29,9 @@ impl<'a> Model for ParamView<'a> {
 
     ghost use Rattle.suit_cursor.specs.LentParts.{lent_params, AreParams};
 
-    ghost view = { λ p. lent_params p.count p.left p.cursor };
+    ghost view = { λ p. lent_params p.count p.left p.map };
 
-    ghost invariant = { λ p. AreParams p.count p.left p.cursor };
+    ghost invariant = { λ p. AreParams p.count p.left p.map };
 }
 
 // The parameters of the next item, which is a map.
@@ -37,10 +40,10 @@ fn lend_map<'a>(cursor: &mut Cursor<'a>, count: u32) -> ParamView<'a>
     requires { IsOk (next_params count cursor.old) }
     ensures { next_params count cursor.old ≡ Ok (result, cursor.new) }
 {
-    let mut map = read_item(cursor).unwrap();
-    let pairs = read_map(&mut map).unwrap();
+    let mut map = take_map(cursor, count);
+    let pairs = map.value(HeadKind::Map, Why::Shape);
     ParamView {
-        cursor: map,
+        map,
         left: pairs,
         count,
     }
@@ -61,20 +64,21 @@ impl<'a> ParamView<'a> {
         ensures same { self.new ≡ self.old }
     {
         ParamView {
-            cursor: same_place(&mut self.cursor),
+            map: self.map.copy(),
             left: self.left,
             count: self.count,
         }
     }
 
     /// The next parameter, its bytes lent. `None` stands exactly at the end.
+    #[inline(always)]
     pub fn next(&mut self) -> Option<ParamSlice<'a>>
         ensures { LendsParam self.old self.new result }
     {
         if self.left == 0 {
             return None;
         }
-        let param = lend_param(&mut self.cursor, self.count).unwrap();
+        let param = take_param(&mut self.map, self.count);
         self.left -= 1;
         Some(param)
     }

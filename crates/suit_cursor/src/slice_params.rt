@@ -3,6 +3,7 @@
 ghost use Rattle.std.specs.Prelude.{◌≡◌, ◌<◌, [], ◌∷◌, length, option_map};
 ghost use Rattle.suit_params.specs.InForce.{none_in_force, in_force, with_param, overridden, IsOverridden};
 ghost use Rattle.suit_params.specs.ParamSlices.{param_of};
+ghost use Rattle.suit_cursor.specs.SoftFailure.{soft_by, soft_behind};
 
 use crate::ParamView;
 use std::marker::Model;
@@ -24,6 +25,17 @@ impl<'a> Model for SliceParams<'a> {
     ghost use Rattle.suit_cursor.specs.Lending.{params_in};
 
     ghost view = { λ a. params_in a.held };
+}
+
+// Soft failure behind a parameter.
+#[inline(always)]
+fn soft_by(soft_failure: bool, param: &ParamSlice<'_>) -> bool
+    ensures { result ≡ soft_by soft_failure (param_of param.now) }
+{
+    match param {
+        ParamSlice::Soft(value) => *value,
+        _ => soft_failure,
+    }
 }
 
 impl<'a> SliceParams<'a> {
@@ -60,6 +72,7 @@ impl<'a> SliceParams<'a> {
     }
 
     // Replaces the value of one key.
+    #[inline(always)]
     fn put(&mut self, component: u32, param: ParamSlice<'a>)
         requires { component < 8 }
         ensures { self.new ≡ with_param self.old component (param_of param.entry) }
@@ -69,13 +82,17 @@ impl<'a> SliceParams<'a> {
     }
 
     // Replaces the values of the keys that are left, one after another.
-    fn put_each(&mut self, component: u32, mut list: ParamView<'a>)
+    fn put_each(&mut self, component: u32, mut list: ParamView<'a>, soft_failure: bool) -> bool
         requires { component < 8 }
-        ensures { self.new ≡ overridden self.old component list.entry }
+        ensures exact { self.new ≡ overridden self.old component list.entry }
+        ensures soft { result ≡ soft_behind soft_failure list.entry }
     {
+        let mut soft = soft_failure;
         while let Some(param) = list.next() {
+            soft = soft_by(soft, &param);
             self.put(component, param);
         }
+        soft
     }
 
     /// Replaces the value of one component's key, and no other.
@@ -89,13 +106,14 @@ impl<'a> SliceParams<'a> {
     }
 
     /// Overrides a component's parameters by those that are left of an override: each replaces the one with its key, and
-    /// all others stay.
-    pub fn override_with(&mut self, component: u32, list: ParamView<'a>)
+    /// all others stay. Answers soft failure behind them, which was this before.
+    pub fn override_with(&mut self, component: u32, list: ParamView<'a>, soft_failure: bool) -> bool
         requires { component < 8 }
         ensures exact { self.new ≡ overridden self.old component list.entry }
         ensures last { IsOverridden self.old self.new component list.entry }
+        ensures soft { result ≡ soft_behind soft_failure list.entry }
     {
         self.whole();
-        self.put_each(component, list);
+        self.put_each(component, list, soft_failure)
     }
 }

@@ -1,7 +1,6 @@
 use Rattle.std.proofs.Common.{◌∙◌, sym, ap}
 use Rattle.std.specs.Prelude.{Bool}
 use Rattle.suit_params.specs.InForce.{Parameters, overridden}
-use Rattle.step_machine.specs.Overriding.{soft_after_list}
 use Rattle.step_machine.specs.Running.{selected_list}
 use Rattle.step_machine.proofs.Sourcing.{override_is}
 use Rattle.step_machine.proofs.overriding.override_with.Goals as goal
@@ -10,7 +9,8 @@ pub returns-clause-after : goal.returns-clause-after
 returns-clause-after c =
     let ps = c.args.state.now.params in
     let selection = selected_list c.args.state.now.selected in
+    let soft = c.args.state.now.soft_failure in
     let list = c.args.list in
-    ap (λ (x : Parameters). record { parameters = x; selection = selection; soft_failure = c.soft_after_list-state.result }) (c.override_with.ensures.exact ∙ ap (overridden ps c.args.component) c.copy.ensures.copied)
-    ∙ ap (λ (b : Bool). record { parameters = overridden ps c.args.component list; selection = selection; soft_failure = b }) (c.soft_after_list-state.ensures ∙ ap (soft_after_list c.args.state.now.soft_failure) c.copy.ensures.same)
-    ∙ sym (override_is ps selection c.args.state.now.soft_failure c.args.component list)
+    ap (λ (x : Parameters). record { parameters = x; selection = selection; soft_failure = c.override_with-state.result }) c.override_with-state.ensures.exact
+    ∙ ap (λ (b : Bool). record { parameters = overridden ps c.args.component list; selection = selection; soft_failure = b }) c.override_with-state.ensures.soft
+    ∙ sym (override_is ps selection soft c.args.component list)

@@ -5,5 +5,5 @@ use Rattle.suit_cursor.proofs.slice_params.SliceParams.override_with.Goals as go
 
 pub returns-clause-last : goal.returns-clause-last
 returns-clause-last c =
-    subst (λ (after : Parameters). IsOverridden c.args.self.now after c.args.component c.args.list) (sym c.put_each.ensures)
+    subst (λ (after : Parameters). IsOverridden c.args.self.now after c.args.component c.args.list) (sym c.put_each.ensures.exact)
     (is_overridden c.args.self.now c.args.component c.args.list c.whole.ensures c.requires)
