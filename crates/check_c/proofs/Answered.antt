@@ -8,7 +8,7 @@ use Rattle.admission.specs.declared.refusal.NotOpened.{NotOpened}
 use Rattle.admission.specs.declared.refusal.NotOpened.TheVariants as not_opened
 use Rattle.admission.specs.declared.refusal.NotSafe.{NotSafe}
 use Rattle.admission.specs.declared.refusal.NotSafe.TheVariants as not_safe
-use Rattle.check_c.specs.Answering.{IsFileAnswer, IsManifestAnswer, IsManifestRefusedAs, IsRefusedAs, NotRun, NotTaken, Opened, Unopened, tells_not_opened, tells_not_taken}
+use Rattle.check_c.specs.Answering.{IsFileAnswer, IsManifestAnswer, IsManifestRefusedAs, NotRun, NotTaken, Opened, Unopened, tells_not_opened, tells_not_taken}
 use Rattle.check_c.specs.Checking.{IsNotSafeManifest, tells_not_safe}
 use Rattle.suit_answers.specs.Answers.{code_of}
 use Rattle.suit_answers.specs.declared.answer.Answer.{Answer}

@@ -1,4 +1,4 @@
-use Rattle.std.proofs.Common.{rules, ◌≡◌, ◌⊎◌, ◌∙◌, ap, inl, inr, sym}
+use Rattle.std.proofs.Common.{rules, ◌∙◌, ap, inl, inr, sym}
 use Rattle.std.proofs.Math.Facts.{to_z-of_z}
 use Rattle.std.specs.Int.{w32}
 use Rattle.check_c.proofs.Answered.{coded}
