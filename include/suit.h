@@ -76,9 +76,10 @@ int32_t suit_authentic(const uint8_t *file, size_t length, const uint8_t *key, s
 int32_t suit_status(const uint8_t *flash, size_t length, struct suit_record *out);
 
 /* SUIT_DONE exactly where on each path of both procedures of the manifest each invoke is covered, unless memory runs out, which
- * is SUIT_NO_MEMORY; SUIT_UNSAFE where on some path one is not, and SUIT_TOO_WIDE where there is too much to judge. The other
- * answers are those of the program's `check`; where the grammar refuses the bytes, which is SUIT_REFUSED, *place is that of the
- * fault, and otherwise it stays as it was. */
+ * is SUIT_NO_MEMORY; SUIT_UNSAFE where on some path one is not, and SUIT_TOO_WIDE where there is too much to judge. Before that,
+ * and each exactly where it is so: SUIT_TOO_LONG where the trimmed envelope has more than 16,384 bytes, SUIT_SEVERED where a
+ * member that stands apart is not there, and SUIT_DIFFERS where it has another digest. Where the grammar refuses the bytes, which
+ * is SUIT_REFUSED, *place is that of the fault, and otherwise it stays as it was. */
 int32_t suit_check(const uint8_t *file, size_t length, uint64_t *place);
 
 /* The envelope with its wrapper and manifest alone, to the front of the room: SUIT_DONE, and *count bytes of it; the rest of the room

@@ -1,3 +1,4 @@
 pub mod BootAnswers
 pub mod Images
+pub mod SlotAnswers
 pub mod SlotsInUse

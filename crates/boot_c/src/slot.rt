@@ -1,14 +1,16 @@
 //! The slot of a component that is in use.
 
+ghost use Rattle.boot_c.specs.SlotAnswers.{IsFaultAnswer, IsHeldAnswer, IsSlotAnswer};
 ghost use Rattle.boot_c.specs.SlotsInUse.{IsInUse, IsSlotOf};
 ghost use Rattle.flash_layout.specs.Configs.{IsAllowed};
 ghost use Rattle.flash_layout.specs.Layouts.{IsEntry};
 ghost use Rattle.flash_layout.specs.declared.frame.TheConstants.{VERSION_1};
 ghost use Rattle.flash_layout.specs.declared.layout.Memory.TheVariants as memory;
 ghost use Rattle.invoke_proc.specs.Banks.{config_in};
-ghost use Rattle.std.specs.Prelude.{◌≡◌, ◌≢◌, ◌<◌, IfErr, IfOk, length};
+ghost use Rattle.std.specs.Prelude.{◌≡◌, ◌≢◌, ◌⊎◌, ◌<◌, IfErr, IfOk, length};
 ghost use Rattle.step_machine.specs.InUse.{slot_in_use};
 ghost use Rattle.suit_answers.specs.Answers.{code_of};
+ghost use Rattle.suit_answers.specs.declared.answer.Answer.{Answer};
 ghost use Rattle.suit_answers.specs.declared.answer.Answer.TheVariants as answers;
 
 use flash_layout::{
@@ -17,7 +19,7 @@ use flash_layout::{
 };
 use flash_slots::length;
 use flash_view::ViewDisk;
-use rollback_record::load_record_by;
+use rollback_record::{load_record_by, record_laws};
 use std::alloc::Global;
 use suit_answers::Answer;
 
@@ -85,10 +87,12 @@ fn slot_by(flash: &[u8], layout: &Layout, key: &Key, component: u32) -> Result<S
     requires held { config_in (length flash.now) flash.now layout.now key.now }
     ensures slot { IfOk result (IsInUse flash.now component) }
     ensures told { IfErr result (λ answer. answer ≢ answers.Done) }
+    ensures answers { IfErr result (IsSlotAnswer flash.now component) }
 {
     let entries = layout.as_slice();
-    let Some(entry) = entries.get(component as usize) else {
-        return Err(Answer::UnknownComponent);
+    let entry = match entries.get(component as usize) {
+        Some(entry) => entry,
+        None => return Err(Answer::UnknownComponent),
     };
     match entry.memory {
         Memory::Flash => {}
@@ -111,6 +115,7 @@ fn slot_by(flash: &[u8], layout: &Layout, key: &Key, component: u32) -> Result<S
 fn slot_from(alloc: Global, flash: &[u8], component: u32) -> Result<SuitSlot, Answer>
     ensures slot { IfOk result (IsInUse flash.now component) }
     ensures told { IfErr result (λ answer. answer ≢ answers.Done) }
+    ensures answers { IfErr result (IsSlotAnswer flash.now component) }
 {
     let mut disk = ViewDisk::new(flash);
     match load_config(alloc, &mut disk) {
@@ -121,19 +126,37 @@ fn slot_from(alloc: Global, flash: &[u8], component: u32) -> Result<SuitSlot, An
     }
 }
 
+// See `suit_slot`.
+fn slot_told(alloc: Global, flash: &[u8], component: u32, out: &mut SuitSlot) -> Answer
+    ensures slot { result ≡ answers.Done → IsInUse flash.now component out.new }
+    ensures stays { result ≢ answers.Done → out.new ≡ out.old }
+    ensures answers { IsSlotAnswer flash.now component result }
+    ensures every_answer { (answer : Answer) → IsHeldAnswer flash.now component answer
+        → (result ≡ answer) ⊎ IsFaultAnswer result }
+{
+    config_laws();
+    record_laws();
+    match slot_from(alloc, flash, component) {
+        Ok(slot) => {
+            *out = slot;
+            Answer::Done
+        }
+        Err(answer) => answer,
+    }
+}
+
 /// Tells where the content of a component stands that is in use, by its index in the layout: 0, and otherwise `out` stays as it
-/// was: 13 where the flash has no configuration, 15 where it has no record, 18 where its layout has no such component in flash, 8
-/// where the flash failed and 11 where memory ran out.
+/// was: 13 where the flash has no configuration, 18 where its layout has no such component in flash, and then 15 where it has no
+/// record; 8 where the flash failed and 11 where memory ran out.
 #[unsafe(no_mangle)]
 pub extern "C" fn suit_slot(alloc: Global, flash: &[u8], component: u32, out: &mut SuitSlot) -> i32
     ensures slot { result ≡ code_of answers.Done → IsInUse flash.now component out.new }
     ensures stays { result ≢ code_of answers.Done → out.new ≡ out.old }
+    ensures answers { (answer : Answer)
+        × (result ≡ code_of answer) × IsSlotAnswer flash.now component answer }
+    ensures every_answer { (answer : Answer) → IsHeldAnswer flash.now component answer
+        → (result ≡ code_of answer) ⊎ (result ≡ code_of answers.FlashFault)
+        ⊎ (result ≡ code_of answers.NoMemory) }
 {
-    match slot_from(alloc, flash, component) {
-        Ok(slot) => {
-            *out = slot;
-            Answer::Done.code()
-        }
-        Err(answer) => answer.code(),
-    }
+    slot_told(alloc, flash, component, out).code()
 }

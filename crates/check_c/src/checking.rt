@@ -3,6 +3,13 @@
 ghost use Rattle.admission.specs.Opening.{HasManifest};
 ghost use Rattle.admission.specs.declared.refusal.NotOpened.TheVariants as refusals;
 ghost use Rattle.admission.specs.declared.refusal.NotSafe.{NotSafe};
+ghost use Rattle.check_c.specs.Answering.{
+  IsFileAnswer,
+  IsManifestAnswer,
+  IsRefusedAs,
+  tells_not_opened,
+  tells_not_taken,
+};
 ghost use Rattle.check_c.specs.Checking.{
   IsMemberRefusalAt,
   IsNotSafeFile,
@@ -16,9 +23,12 @@ ghost use Rattle.check_c.specs.Checking.{
 };
 ghost use Rattle.std.specs.Prelude.{◌≡◌, ◌≢◌, ◌⊎◌, ◌<◌, ◌^◌, length};
 ghost use Rattle.suit_answers.specs.Answers.{code_of};
+ghost use Rattle.suit_answers.specs.declared.answer.Answer.{Answer};
 ghost use Rattle.suit_answers.specs.declared.answer.Answer.TheVariants as answers;
 ghost use Rattle.suit_envelope.specs.Places.{MembersEndBelow};
 ghost use Rattle.suit_envelope.specs.Said.{said_by};
+ghost use Rattle.suit_manifest.specs.MembersApart.{LacksMembers};
+ghost use Rattle.suit_manifest.specs.declared.members.MemberFault.{MemberFault};
 ghost use Rattle.suit_manifest.specs.declared.members.MemberFault.TheVariants as faults;
 
 use admission::{LONGEST_TRIMMED, NotOpened, NotSafe, Opened, admission_laws, judge, open};
@@ -33,6 +43,7 @@ fn not_opened(refusal: NotOpened, place: &mut u64) -> Answer
     ensures narrow { result ≢ answers.TooWide }
     ensures refused { result ≡ answers.Refused → IsRefusalAt refusal place.new }
     ensures starved { refusal ≡ refusals.NoMemory → result ≡ answers.NoMemory }
+    ensures told { result ≡ tells_not_opened refusal }
 {
     match refusal {
         NotOpened::NoEnvelope(refusal) | NotOpened::NoManifest(refusal) => {
@@ -51,6 +62,7 @@ fn not_taken(fault: MemberFault, place: &mut u64) -> Answer
     ensures narrow { result ≢ answers.TooWide }
     ensures refused { result ≡ answers.Refused → IsMemberRefusalAt fault place.new }
     ensures starved { fault ≡ faults.NoMemory → result ≡ answers.NoMemory }
+    ensures told { result ≡ tells_not_taken fault }
 {
     match fault {
         MemberFault::Severed(_) => Answer::Severed,
@@ -91,6 +103,10 @@ fn judge_opened(alloc: Global, file: &Opened<'_>, place: &mut u64) -> Answer
         → (result ≡ tells_not_safe why) ⊎ (result ≡ answers.NoMemory) }
     ensures refused { result ≡ answers.Refused
         → RefusesMemberAt (said_by file.now.envelope) file.now.manifest place.new }
+    ensures answers { IsManifestAnswer (said_by file.now.envelope) file.now.manifest result }
+    ensures every_fault { (fault : MemberFault)
+        → LacksMembers (said_by file.now.envelope) file.now.manifest fault
+        → (result ≡ tells_not_taken fault) ⊎ (result ≡ answers.NoMemory) }
 {
     procedure_laws();
     let members = match members_of(alloc, &file.envelope, &file.manifest) {
@@ -113,6 +129,9 @@ fn judge_file(alloc: Global, bytes: &[u8], place: &mut u64) -> Answer
     ensures every_refusal { (why : NotSafe) → IsNotSafeFile bytes.now why
         → (result ≡ tells_not_safe why) ⊎ (result ≡ answers.NoMemory) }
     ensures refused { result ≡ answers.Refused → IsRefusedAt bytes.now place.new }
+    ensures answers { IsFileAnswer bytes.now result }
+    ensures every_answer { (answer : Answer) → IsRefusedAs bytes.now answer
+        → (result ≡ answer) ⊎ (result ≡ answers.NoMemory) }
 {
     admission_laws();
     match open(alloc, bytes, LONGEST_TRIMMED) {
@@ -123,7 +142,8 @@ fn judge_file(alloc: Global, bytes: &[u8], place: &mut u64) -> Answer
 
 /// Judges a file, as the program's `check`: 0 exactly where on each path of both procedures each invoke is covered, 1 where on
 /// one it is not, 12 where there is too much to judge, and 11 where memory ran out. Where the grammar refuses the bytes, which
-/// is 3, `place` is that of the fault, in bytes from the first. The other answers are those of the program too.
+/// is 3, `place` is that of the fault, in bytes from the first. 21 where the trimmed envelope is too long, 16 where a member
+/// that stands apart is not there, and 17 where it has another digest.
 #[unsafe(no_mangle)]
 pub extern "C" fn suit_check(alloc: Global, file: &[u8], place: &mut u64) -> i32
     ensures safe { result ≡ code_of answers.Done → IsSafeFile file.now }
@@ -134,6 +154,9 @@ pub extern "C" fn suit_check(alloc: Global, file: &[u8], place: &mut u64) -> i32
     ensures every_refusal { (why : NotSafe) → IsNotSafeFile file.now why
         → (result ≡ code_of (tells_not_safe why)) ⊎ (result ≡ code_of answers.NoMemory) }
     ensures refused { result ≡ code_of answers.Refused → IsRefusedAt file.now place.new }
+    ensures answers { (answer : Answer) × (result ≡ code_of answer) × IsFileAnswer file.now answer }
+    ensures every_answer { (answer : Answer) → IsRefusedAs file.now answer
+        → (result ≡ code_of answer) ⊎ (result ≡ code_of answers.NoMemory) }
 {
     judge_file(alloc, file, place).code()
 }

@@ -1,5 +1,8 @@
-use Rattle.std.proofs.Common.{◌≡◌, ◌<◌, ℕ, List, Some, length, refl, slice_index_or, subst}
+use Rattle.std.proofs.Common.{◌≡◌, ◌<◌, ◌≤◌, ℕ, List, None, Some, inl, inr, length, refl, slice_index_or, subst}
+use Rattle.boot_c.proofs.SlotAnswers.{stands_in}
+use Rattle.boot_c.specs.SlotAnswers.{NoComponent, NoRecord}
 use Rattle.boot_c.specs.SlotsInUse.{IsSlotOf}
+use Rattle.flash_layout.specs.declared.layout.Memory.TheVariants as memory
 use Rattle.flash_layout.specs.Frames.{head_of}
 use Rattle.flash_layout.specs.declared.frame.TheConstants.{VERSION_1}
 use Rattle.flash_layout.specs.declared.layout.Entry.{Entry}
@@ -23,3 +26,30 @@ returns-in-Ok-clause-slot c =
       stands = c.in-Flash.is;
       stands_there = subst (λ (n : ℕ). IsSlotOf entry n c.args.flash.now c.in-Ok.slot) c.number_of-number.ensures.is c.in-Ok.ensures;
     }
+
+pub returns-in-None-clause-answers : goal.returns-in-None-clause-answers
+returns-in-None-clause-answers c = inr (NoComponent (record {
+  layout = c.args.layout.now;
+  key = c.args.key.now;
+  config = c.requires.held;
+  none = inl (subst (λ (l : List Entry). length l ≤ c.args.component) c.as_slice-entries.ensures c.in-None.ensures.lookup.3);
+}) refl)
+
+pub returns-in-Ram-clause-answers : goal.returns-in-Ram-clause-answers
+returns-in-Ram-clause-answers c = inr (NoComponent (record {
+  layout = c.args.layout.now;
+  key = c.args.key.now;
+  config = c.requires.held;
+  none = inr (stands_in c.args.layout.now c.as_slice-entries.result.now c.args.component memory.Ram c.in-Some.entry.now c.as_slice-entries.ensures c.in-Some.ensures.lookup.3.0 c.in-Some.ensures.lookup.3.1 c.in-Ram.is);
+}) refl)
+
+pub returns-in-Ok-None-clause-answers : goal.returns-in-Ok-None-clause-answers
+returns-in-Ok-None-clause-answers c =
+    let here = subst (RecordOf VERSION_1 (head_of VERSION_1 c.new-disk.result.bytes)) c.in-Ok-None.field-0-is (c.in-Ok-None.ensures.exact refl) in
+    inr (NoRecord (record {
+      layout = c.args.layout.now;
+      key = c.args.key.now;
+      config = c.requires.held;
+      stands = stands_in c.args.layout.now c.as_slice-entries.result.now c.args.component memory.Flash c.in-Some.entry.now c.as_slice-entries.ensures c.in-Some.ensures.lookup.3.0 c.in-Some.ensures.lookup.3.1 c.in-Flash.is;
+      none = subst (λ (d : ViewState). RecordOf VERSION_1 (head_of VERSION_1 d.bytes) None) c.new-disk.ensures here;
+    }) refl)

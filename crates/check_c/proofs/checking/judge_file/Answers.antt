@@ -1,6 +1,8 @@
 use Rattle.std.proofs.Common.{inr, subst}
 use Rattle.admission.specs.Starting.{SpellManifest}
+use Rattle.check_c.proofs.Answered.{manifest_told, not_opened_answered, not_opened_once, opened_answered, told_so}
 use Rattle.check_c.proofs.Refused.{opening_refused}
+use Rattle.check_c.specs.Answering.{IsManifestRefusedAs, Opened, Unopened, tells_not_opened}
 use Rattle.check_c.specs.Checking.{AtMember, IsNotSafeManifest, IsSafeManifest}
 use Rattle.suit_envelope.specs.Envelopes.{EnvelopeSays}
 use Rattle.suit_envelope.specs.Said.{said_by}
@@ -47,3 +49,23 @@ returns-in-Ok-clause-refused c told = AtMember (said_by c.in-Ok.file.envelope) c
 
 pub returns-in-Err-clause-refused : goal.returns-in-Err-clause-refused
 returns-in-Err-clause-refused c told = opening_refused c.args.bytes.now c.in-Err.refusal _ (c.not_opened.ensures.refused told) c.in-Err.ensures.refused
+
+pub returns-in-Ok-clause-answers : goal.returns-in-Ok-clause-answers
+returns-in-Ok-clause-answers c = opened_answered c.args.bytes.now (said_by c.in-Ok.file.envelope) c.in-Ok.file.manifest _ c.in-Ok.ensures.opened c.judge_opened.ensures.answers
+
+pub returns-in-Err-clause-answers : goal.returns-in-Err-clause-answers
+returns-in-Err-clause-answers c = not_opened_answered c.args.bytes.now c.in-Err.refusal _ c.not_opened.ensures.told c.in-Err.ensures.refused
+
+pub returns-in-Ok-clause-every_answer : goal.returns-in-Ok-clause-every_answer
+returns-in-Ok-clause-every_answer c answer (Unopened refusal not_opened is) = absurd (c.in-Ok.ensures.every_refusal refusal not_opened)
+returns-in-Ok-clause-every_answer c answer (Opened said manifest other refused) =
+    let opened = c.in-Ok.ensures.opened in
+    let here : SpellManifest c.args.bytes.now (said_by c.in-Ok.file.envelope) c.in-Ok.file.manifest = record { spell = opened.within.spell; says = opened.says } in
+    let there : SpellManifest c.args.bytes.now said manifest = record { spell = other.within.spell; says = other.says } in
+    let one = c.admission_laws.ensures.starting.one_manifest c.args.bytes.now said (said_by c.in-Ok.file.envelope) manifest c.in-Ok.file.manifest there here in
+    let so : IsManifestRefusedAs (said_by c.in-Ok.file.envelope) c.in-Ok.file.manifest answer = subst (λ (s : EnvelopeSays). IsManifestRefusedAs s c.in-Ok.file.manifest answer) one.0 (subst (λ (m : Manifest). IsManifestRefusedAs said m answer) one.1 refused) in
+    manifest_told (said_by c.in-Ok.file.envelope) c.in-Ok.file.manifest c.judge_opened.result answer c.judge_opened.ensures.every_fault c.judge_opened.ensures.every_refusal so
+
+pub returns-in-Err-clause-every_answer : goal.returns-in-Err-clause-every_answer
+returns-in-Err-clause-every_answer c answer (Unopened refusal not_opened is) = told_so c.not_opened.result (tells_not_opened refusal) answer is (not_opened_once c.in-Err.refusal refusal c.not_opened.result c.not_opened.ensures.told (c.in-Err.ensures.every_refusal refusal not_opened))
+returns-in-Err-clause-every_answer c answer (Opened said manifest opened refused) = inr (c.not_opened.ensures.starved (c.in-Err.ensures.every_opened said manifest opened))

@@ -1,4 +1,5 @@
 use Rattle.suit_envelope.specs.Said.{said_by}
+use Rattle.check_c.proofs.Answered.{not_run_answered, not_taken_answered, not_taken_once}
 use Rattle.check_c.proofs.Refused.{member_refused}
 use Rattle.check_c.proofs.checking.judge_opened.Goals as goal
 
@@ -14,3 +15,18 @@ judge-requires-clause-invocation c =
 
 pub returns-in-Err-clause-refused : goal.returns-in-Err-clause-refused
 returns-in-Err-clause-refused c told = member_refused (said_by c.args.file.now.envelope) c.args.file.now.manifest c.in-Err.fault _ (c.not_taken.ensures.refused told) c.in-Err.ensures.refused
+
+pub returns-in-Err-clause-answers : goal.returns-in-Err-clause-answers
+returns-in-Err-clause-answers c = not_taken_answered (said_by c.args.file.now.envelope) c.args.file.now.manifest c.in-Err.fault _ c.not_taken.ensures.told c.in-Err.ensures.refused
+
+pub returns-in-Err-clause-every_fault : goal.returns-in-Err-clause-every_fault
+returns-in-Err-clause-every_fault c fault lacks = not_taken_once c.in-Err.fault fault _ c.not_taken.ensures.told (c.in-Err.ensures.every_fault fault lacks)
+
+pub returns-in-Ok-judge-clause-every_fault : goal.returns-in-Ok-judge-clause-every_fault
+returns-in-Ok-judge-clause-every_fault c fault lacks = absurd (c.in-Ok.ensures.every_fault fault lacks)
+
+pub returns-clause-answers : goal.returns-clause-answers
+returns-clause-answers c = not_run_answered (said_by c.args.file.now.envelope) c.args.file.now.manifest c.in-Ok.members c.in-Err-judge.refusal _ c.in-Ok.ensures.ok c.not_safe.ensures c.in-Err-judge.ensures.refused
+
+pub returns-clause-every_fault : goal.returns-clause-every_fault
+returns-clause-every_fault c fault lacks = absurd (c.in-Ok.ensures.every_fault fault lacks)

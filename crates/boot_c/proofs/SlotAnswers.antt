@@ -1,0 +1,102 @@
+-- A flash has one answer for a component.
+use Rattle.std.specs.Prelude.{◌≡◌, ◌⊎◌, ◌<◌, ◌≤◌, ℕ, ℤ, List, None, Some, length, slice_index_or}
+use Rattle.std.proofs.Common.{◌∙◌, ap, arith, inl, inr, subst, sym}
+use Rattle.boot_c.specs.BootAnswers.{HasNoConfig}
+use Rattle.boot_c.specs.SlotAnswers.{InUse, IsFaultAnswer, IsHeldAnswer, IsSlotAnswer, LacksComponent, NoComponent, NoConfig, NoRecord, StandsIn}
+use Rattle.boot_c.specs.SlotsInUse.{IsInUse}
+use Rattle.boot_c.specs.declared.slot.SuitSlot.{SuitSlot}
+use Rattle.flash_layout.specs.ConfigLaws.{OneAnswer}
+use Rattle.flash_layout.specs.Configs.{Bad, Blank, Config, Configured}
+use Rattle.flash_layout.specs.Frames.{head_of}
+use Rattle.flash_layout.specs.declared.frame.TheConstants.{VERSION_1}
+use Rattle.flash_layout.specs.declared.key.Key.{Key}
+use Rattle.flash_layout.specs.declared.layout.Entry.{Entry}
+use Rattle.flash_layout.specs.declared.layout.Memory.{Memory}
+use Rattle.flash_layout.specs.declared.layout.Memory.TheVariants as memory
+use Rattle.flash_layout.specs.declared.slot.Record.{Record}
+use Rattle.invoke_proc.specs.Banks.{config_in, record_in}
+use Rattle.rollback_record.specs.RecordLaws as records
+use Rattle.suit_answers.specs.Answers.{code_of}
+use Rattle.suit_answers.specs.declared.answer.Answer.{Answer}
+use Rattle.suit_answers.specs.declared.answer.Answer.TheVariants as answers
+
+-- ---- a flash has one configuration
+
+layout_or : List Entry → Config → List Entry
+layout_or other (Configured layout key) = layout
+layout_or other Blank = other
+layout_or other Bad = other
+
+one_layout : (law : OneAnswer) (flash : List ℕ) (layout others : List Entry) (key other : Key) → config_in (length flash) flash layout key → config_in (length flash) flash others other → layout ≡ others
+unfolding layout_or
+one_layout law flash layout others key other a b = ap (layout_or layout) (law VERSION_1 (length flash) (head_of VERSION_1 flash) (Configured layout key) (Configured others other) a b)
+
+blank_is_none : (layout : List Entry) (key : Key) → Blank ≡ Configured layout key → ⊥
+blank_is_none layout key e = absurd cc
+
+bad_is_none : (layout : List Entry) (key : Key) → Bad ≡ Configured layout key → ⊥
+bad_is_none layout key e = absurd cc
+
+never_both : (law : OneAnswer) (flash : List ℕ) (layout : List Entry) (key : Key) → HasNoConfig flash → config_in (length flash) flash layout key → ⊥
+never_both law flash layout key (inl blank) config = blank_is_none layout key (law VERSION_1 (length flash) (head_of VERSION_1 flash) Blank (Configured layout key) blank config)
+never_both law flash layout key (inr bad) config = bad_is_none layout key (law VERSION_1 (length flash) (head_of VERSION_1 flash) Bad (Configured layout key) bad config)
+
+-- ---- a component stands in one memory
+
+ram_or_flash : memory.Ram ≡ memory.Flash → ⊥
+ram_or_flash e = absurd cc
+
+other_memory : (layout : List Entry) (component : ℕ) → StandsIn layout component memory.Ram → StandsIn layout component memory.Flash → ⊥
+other_memory layout component ram flash =
+    let one : ram.entry ≡ flash.entry = ram.is ram.entry ∙ sym (flash.is ram.entry) in
+    ram_or_flash (sym ram.stands ∙ ap (λ (e : Entry). e.memory) one ∙ flash.stands)
+
+lacks_none : (layout : List Entry) (component : ℕ) → (length layout ≤ component) ⊎ StandsIn layout component memory.Ram → StandsIn layout component memory.Flash → ⊥
+lacks_none layout component (inl beyond) stands = omega (arith, beyond, stands.within)
+lacks_none layout component (inr ram) stands = other_memory layout component ram stands
+
+pub stands_in : (layout entries : List Entry) (component : ℕ) (m : Memory) (entry : Entry) → entries ≡ layout → component < length entries → ((d : Entry) → entry ≡ slice_index_or entries component d) → entry.memory ≡ m → StandsIn layout component m
+stands_in layout entries component m entry same within is stands =
+    subst (λ (l : List Entry). StandsIn l component m) same (record { within = within; entry = entry; is = is; stands = stands })
+
+in_use_stands : (flash : List ℕ) (component : ℕ) (slot : SuitSlot) (is : IsInUse flash component slot) → StandsIn is.layout component memory.Flash
+in_use_stands flash component slot is = record { within = is.within; entry = is.entry; is = is.is; stands = is.stands }
+
+-- ---- the reasons exclude each other
+
+component_or_stands : (law : OneAnswer) (flash : List ℕ) (component : ℕ) (lacks : LacksComponent flash component) (layout : List Entry) (key : Key) → config_in (length flash) flash layout key → StandsIn layout component memory.Flash → ⊥
+component_or_stands law flash component lacks layout key config stands =
+    lacks_none lacks.layout component lacks.none (subst (λ (l : List Entry). StandsIn l component memory.Flash) (one_layout law flash layout lacks.layout key lacks.key config lacks.config) stands)
+
+some_or_none : (r : Record) → Some r ≡ None → ⊥
+some_or_none r e = absurd cc
+
+record_or_none : (law : records.OneAnswer) (flash : List ℕ) (r : Record) → record_in flash (Some r) → record_in flash None → ⊥
+record_or_none law flash r some none = some_or_none r (law VERSION_1 (head_of VERSION_1 flash) (Some r) None some none)
+
+pub one_held : (law : OneAnswer) (one_record : records.OneAnswer) (flash : List ℕ) (component : ℕ) (a b : Answer) → IsHeldAnswer flash component a → IsHeldAnswer flash component b → a ≡ b
+one_held law one_record flash component a b (InUse slot is x) (InUse other also y) = x ∙ sym y
+one_held law one_record flash component a b (InUse slot is x) (NoConfig none y) = absurd (never_both law flash is.layout is.key none is.config)
+one_held law one_record flash component a b (InUse slot is x) (NoComponent lacks y) = absurd (component_or_stands law flash component lacks is.layout is.key is.config (in_use_stands flash component slot is))
+one_held law one_record flash component a b (InUse slot is x) (NoRecord lacks y) = absurd (record_or_none one_record flash is.installed is.recorded lacks.none)
+one_held law one_record flash component a b (NoConfig none x) (InUse slot is y) = absurd (never_both law flash is.layout is.key none is.config)
+one_held law one_record flash component a b (NoConfig none x) (NoConfig also y) = x ∙ sym y
+one_held law one_record flash component a b (NoConfig none x) (NoComponent lacks y) = absurd (never_both law flash lacks.layout lacks.key none lacks.config)
+one_held law one_record flash component a b (NoConfig none x) (NoRecord lacks y) = absurd (never_both law flash lacks.layout lacks.key none lacks.config)
+one_held law one_record flash component a b (NoComponent lacks x) (InUse slot is y) = absurd (component_or_stands law flash component lacks is.layout is.key is.config (in_use_stands flash component slot is))
+one_held law one_record flash component a b (NoComponent lacks x) (NoConfig none y) = absurd (never_both law flash lacks.layout lacks.key none lacks.config)
+one_held law one_record flash component a b (NoComponent lacks x) (NoComponent also y) = x ∙ sym y
+one_held law one_record flash component a b (NoComponent lacks x) (NoRecord none y) = absurd (component_or_stands law flash component lacks none.layout none.key none.config none.stands)
+one_held law one_record flash component a b (NoRecord lacks x) (InUse slot is y) = absurd (record_or_none one_record flash is.installed is.recorded lacks.none)
+one_held law one_record flash component a b (NoRecord lacks x) (NoConfig none y) = absurd (never_both law flash lacks.layout lacks.key none lacks.config)
+one_held law one_record flash component a b (NoRecord none x) (NoComponent lacks y) = absurd (component_or_stands law flash component lacks none.layout none.key none.config none.stands)
+one_held law one_record flash component a b (NoRecord lacks x) (NoRecord also y) = x ∙ sym y
+
+pub told_held : (law : OneAnswer) (one_record : records.OneAnswer) (flash : List ℕ) (component : ℕ) (a b : Answer) → IsSlotAnswer flash component a → IsHeldAnswer flash component b → (a ≡ b) ⊎ IsFaultAnswer a
+told_held law one_record flash component a b (inl fault) held = inr fault
+told_held law one_record flash component a b (inr is) held = inl (one_held law one_record flash component a b is held)
+
+pub coded : (z : ℤ) (a b : Answer) → z ≡ code_of a → (a ≡ b) ⊎ IsFaultAnswer a → (z ≡ code_of b) ⊎ (z ≡ code_of answers.FlashFault) ⊎ (z ≡ code_of answers.NoMemory)
+coded z a b is (inl same) = inl (is ∙ ap code_of same)
+coded z a b is (inr (inl fault)) = inr (inl (is ∙ ap code_of fault))
+coded z a b is (inr (inr starved)) = inr (inr (is ∙ ap code_of starved))
