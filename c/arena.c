@@ -17,7 +17,7 @@ struct taken {
 };
 
 static uint8_t *room;
-static size_t room_length, in_use, peak;
+static size_t room_length, in_use, peak, asked, refused;
 
 static struct block *at(size_t place) { return (struct block *)(room + place); }
 
@@ -26,11 +26,15 @@ static size_t behind(size_t place) { return place + sizeof(struct block) + at(pl
 void suit_arena(void *given, size_t length) {
   room = given;
   room_length = length - length % 16;
-  in_use = peak = 0;
+  in_use = peak = asked = refused = 0;
   *at(0) = (struct block){room_length - sizeof(struct block), 0};
 }
 
 size_t suit_arena_peak(void) { return peak; }
+
+size_t suit_arena_asked(void) { return asked; }
+
+void suit_arena_refuse(size_t number) { refused = number; }
 
 static void count(size_t more) {
   in_use += more;
@@ -74,7 +78,9 @@ static struct taken taken(void *bytes) {
   return bytes ? (struct taken){1, bytes} : (struct taken){0, nothing};
 }
 
-struct taken rattle_alloc(uint64_t length, uint64_t alignment) { return taken(take(length ? length : alignment)); }
+struct taken rattle_alloc(uint64_t length, uint64_t alignment) {
+  return taken(++asked == refused ? NULL : take(length ? length : alignment));
+}
 
 void rattle_dealloc(void *bytes) {
   struct block *block = (struct block *)bytes - 1;

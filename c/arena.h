@@ -12,4 +12,10 @@ void suit_arena(void *room, size_t length);
 /* The most bytes that were in use at once, with what each block costs besides. */
 size_t suit_arena_peak(void);
 
+/* How many blocks were asked for since the room was given. */
+size_t suit_arena_asked(void);
+
+/* Refuses the block with this number, counted from 1 since the room was given, and no other. Giving a room refuses none. */
+void suit_arena_refuse(size_t number);
+
 #endif
