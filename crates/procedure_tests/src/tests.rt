@@ -1,0 +1,7 @@
+//! The tests.
+
+mod device;
+mod drawing;
+mod drawn;
+mod player;
+mod spelled;

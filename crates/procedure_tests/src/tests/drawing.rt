@@ -1,0 +1,187 @@
+//! Procedures that are drawn: command sequences of three components, in bytes.
+
+ghost use Rattle.std.specs.Prelude.{◌<◌};
+
+use std::alloc::{AllocError, Global};
+
+// Each with two values. The digests are those of the bytes "abc" and "a".
+const PARAMS: [[&[u8]; 2]; 8] = [
+    [b"\x01\x50aaaaaaaaaaaaaaaa", b"\x01\x50bbbbbbbbbbbbbbbb"],
+    [
+        b"\x03\x58\x24\x82\x2f\x58\x20\xba\x78\x16\xbf\x8f\x01\xcf\xea\x41\x41\x40\xde\x5d\xae\x22\x23\xb0\x03\x61\xa3\x96\x17\x7a\x9c\xb4\x10\xff\x61\xf2\x00\x15\xad",
+        b"\x03\x58\x24\x82\x2f\x58\x20\xca\x97\x81\x12\xca\x1b\xbd\xca\xfa\xc2\x31\xb3\x9a\x23\xdc\x4d\xa7\x86\xef\xf8\x14\x7c\x4e\x72\xb9\x80\x77\x85\xaf\xee\x48\xbb",
+    ],
+    [b"\x05\x00", b"\x05\x01"],
+    [b"\x0d\xf5", b"\x0d\xf4"],
+    [b"\x0e\x03", b"\x0e\x01"],
+    [b"\x12\x41a", b"\x12\x43abc"],
+    [b"\x15\x61a", b"\x15\x61b"],
+    [b"\x16\x00", b"\x16\x02"],
+];
+
+const CONDITIONS: [&[u8]; 6] = [
+    b"\x01\x0f",
+    b"\x03\x0f",
+    b"\x03\x0f",
+    b"\x05\x0f",
+    b"\x06\x0f",
+    b"\x0e\x0f",
+];
+
+const INDICES: [&[u8]; 5] = [
+    b"\x0c\x00",
+    b"\x0c\x01",
+    b"\x0c\x02",
+    b"\x0c\xf5",
+    b"\x0c\x82\x02\x00",
+];
+
+const DIRECTIVES: [&[u8]; 7] = [
+    b"\x12\x0f",
+    b"\x12\x0f",
+    b"\x15\x0f",
+    b"\x16\x0f",
+    b"\x18\x1f\x0f",
+    b"\x17\x0f",
+    b"\x17\x0f",
+];
+
+// All parameters of all components, as they are likeliest.
+const SETS: &[u8] = b"\x0c\xf5\x14\xa5\x05\x00\x0e\x03\x12\x41a\x15\x61a\x16\x01";
+
+/// A linear congruential generator.
+#[derive(Drop)]
+pub(crate) struct Draws {
+    pub alloc: Global,
+    pub state: u64,
+}
+
+impl Draws {
+    fn below(&mut self, limit: u64) -> usize
+        requires { 0 < limit }
+        ensures { result < limit }
+    {
+        self.state = self
+            .state
+            .wrapping_mul(6_364_136_223_846_793_005)
+            .wrapping_add(1_442_695_040_888_963_407);
+        ((self.state >> 33) % limit) as usize
+    }
+}
+
+// Sequences that a command may have inside; none where there are no bytes.
+#[derive(Clone, Copy)]
+struct Inner<'a> {
+    one: &'a [u8],
+    other: &'a [u8],
+}
+
+const NO_INNER: Inner<'static> = Inner {
+    one: b"",
+    other: b"",
+};
+
+// A byte string that holds a sequence of fewer than 65,536 bytes.
+fn push_held(bytes: &mut Vec<u8>, held: &[u8]) -> Result<(), AllocError> {
+    let length = held.len();
+    if length < 24 {
+        bytes.push(0x40 + length as u8)?;
+    } else if length < 256 {
+        bytes.extend_from_slice(&[0x58, length as u8])?;
+    } else {
+        bytes.extend_from_slice(&[0x59, (length / 256 % 256) as u8, (length % 256) as u8])?;
+    }
+    Ok(bytes.extend_from_slice(held)?)
+}
+
+// An override of some parameters.
+fn push_override(draws: &mut Draws, bytes: &mut Vec<u8>) -> Result<(), AllocError> {
+    let mut params = Vec::new(draws.alloc);
+    let mut head: u8 = 0xa0;
+    for values in &PARAMS {
+        let value = match draws.below(8) {
+            0..5 => continue,
+            5 | 6 => values[0],
+            _ => values[1],
+        };
+        params.extend_from_slice(value)?;
+        head = head.wrapping_add(1);
+    }
+    bytes.extend_from_slice(&[0x14, head])?;
+    Ok(bytes.extend_from_slice(&params)?)
+}
+
+fn push_try(draws: &mut Draws, inner: Inner<'_>, bytes: &mut Vec<u8>) -> Result<(), AllocError> {
+    bytes.extend_from_slice(b"\x0f\x82")?;
+    push_held(bytes, inner.one)?;
+    if draws.below(2) == 0 {
+        return Ok(bytes.push(0xf6)?);
+    }
+    push_held(bytes, inner.other)
+}
+
+fn push_command(
+    draws: &mut Draws,
+    shared: bool,
+    inner: Inner<'_>,
+    bytes: &mut Vec<u8>,
+) -> Result<(), AllocError> {
+    match draws.below(10) {
+        0 | 1 if !inner.one.is_empty() => push_try(draws, inner, bytes),
+        2 if !inner.one.is_empty() => {
+            bytes.extend_from_slice(b"\x18\x20")?;
+            push_held(bytes, inner.one)
+        }
+        3 => Ok(bytes.extend_from_slice(INDICES[draws.below(5)])?),
+        4 | 5 => push_override(draws, bytes),
+        6..9 if shared => push_override(draws, bytes),
+        6..9 => Ok(bytes.extend_from_slice(DIRECTIVES[draws.below(7)])?),
+        _ => Ok(bytes.extend_from_slice(CONDITIONS[draws.below(6)])?),
+    }
+}
+
+// These commands, and one to four that are drawn.
+fn drawn(
+    draws: &mut Draws,
+    shared: bool,
+    first: &[u8],
+    inner: Inner<'_>,
+) -> Result<Vec<u8>, AllocError> {
+    let times = draws.below(4) + 1;
+    let mut head = 0x80 + 2 * times as u8;
+    if !first.is_empty() {
+        head = head.wrapping_add(4);
+    }
+    let mut bytes = Vec::from_slice(draws.alloc, &[head])?;
+    bytes.extend_from_slice(first)?;
+    for _ in 0..times {
+        push_command(draws, shared, inner, &mut bytes)?;
+    }
+    Ok(bytes)
+}
+
+/// A shared sequence that sets parameters of all components, with inner sequences.
+pub(crate) fn drawn_shared(draws: &mut Draws) -> Result<Vec<u8>, AllocError> {
+    let one = drawn(draws, true, b"", NO_INNER)?;
+    let inner = Inner {
+        one: &one,
+        other: &one,
+    };
+    drawn(draws, true, SETS, inner)
+}
+
+/// A member, with inner sequences inside others.
+pub(crate) fn drawn_member(draws: &mut Draws) -> Result<Vec<u8>, AllocError> {
+    let one = drawn(draws, false, b"", NO_INNER)?;
+    let other = drawn(draws, false, b"", NO_INNER)?;
+    let inner = Inner {
+        one: &one,
+        other: &other,
+    };
+    let outer = drawn(draws, false, b"", inner)?;
+    let inner = Inner {
+        one: &outer,
+        other: &other,
+    };
+    drawn(draws, false, b"", inner)
+}
