@@ -20,7 +20,8 @@ use suit_envelope::Envelope;
 pub fn update_program<'a>(envelope: &Envelope<'a>, view: ManifestView<'a>) -> Program<'a>
     requires few { length view.components < 2 ^ 32 }
     requires ends { MembersEndBelow (2 ^ 64) (said_by envelope.now) }
-    ensures { (members : Members) → HasMembers (said_by envelope.now) (manifest_of view.entry) members
+    ensures { (members : Members)
+        → HasMembers (said_by envelope.now) (manifest_of view.entry) members
         → program_tree result ≡ update_tree (manifest_of view.entry) members }
 {
     let count = view.components.len() as u32;
