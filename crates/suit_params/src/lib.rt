@@ -19,7 +19,7 @@ mod reading;
 mod refusal;
 mod value_in_force;
 
-pub use alike::{Identified, first_alike};
+pub use alike::{Identified, IdentifiedList, first_alike, first_like};
 pub use digest::{Digest, digest_of, read_digest};
 pub use digest_writing::push_digest;
 pub use identifier::{Identifier, Identifiers};

@@ -21,7 +21,8 @@ fn push_held_digest(out: &mut Bytes, digest: &Digest) -> Result<(), AllocError>
     ensures fits { OnOk result (IsDigestBytes digest.now.bytes) }
 {
     push_kind(out, HeadKind::Bytes, 36)?;
-    push_digest(out, digest)
+    push_digest(out, digest)?;
+    Ok(())
 }
 
 fn push_value(out: &mut Bytes, param: &Param) -> Result<(), AllocError>
