@@ -58,10 +58,10 @@ impl<'a, T: Identified> IdentifiedList for &'a [T] {
 
 /// The first before another one that has its identifier, by its number.
 pub fn first_like<L: IdentifiedList + Drop>(mut all: L, last: usize) -> Option<usize>
-    requires { last < length (L.items all.entry) }
+    requires { last < length (L.items all) }
     ensures { MatchOption result
-        (HasNoLike L.id_of (L.items all.entry) last)
-        (IsFirstLike L.id_of (L.items all.entry) last) }
+        (HasNoLike L.id_of (L.items all) last)
+        (IsFirstLike L.id_of (L.items all) last) }
 {
     for i in 0..last {
         if all.are_same(i, last) {
