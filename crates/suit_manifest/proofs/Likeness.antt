@@ -110,7 +110,7 @@ differ_unlike ids last i in_i in_last differ = elim (either (are_like ids last i
 
 -- the answer of a search
 pub first_told : (ids : Ids) (last : ℕ) (found : Option ℕ) → MatchOption found (HasNoLike (λ id. id) ids last) (IsFirstLike (λ id. id) ids last) → found ≡ first_like ids last
-first_told ids last None none = sym (none_least (are_like ids last) last 0 (λ m le lt. unlike_there m lt))
+first_told ids last None none = sym (none_least (are_like ids last) last 0 (λ m le lt. unlike_there m (omega (arith, lt))))
   where
     unlike_there : (m : ℕ) → m < last → are_like ids last m ≡ false
     unlike_there m lt = elim (either (are_like ids last m)) [
