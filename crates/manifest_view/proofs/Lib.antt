@@ -1,3 +1,3 @@
-pub mod Alike
+pub mod SameIdentifiers
 pub mod Elements
 pub mod ViewAnswers
