@@ -18,7 +18,7 @@ loop-last-preserved c =
       apart_step c.args.ids.now (length c.args.ids.now) c.loop-last.last c.loop-last.items c.read_item.new.cursor c.in_ok-read_item.field-0 _ inside c.in_ok-read_item.ensures.exact none c.loop-last.invariant.1,
     )
 
-pub returns-in-Some-clause-apart : goal.returns-in-Some-apart
+pub returns-in-Some-clause-apart : goal.returns-in-Some-clause-apart
 returns-in-Some-clause-apart c =
     let inside : c.loop-last.last < length c.args.ids.now = omega (arith, c.loop-last-test.true, c.len-last-end.ensures) in
     let found = first_told _ c.loop-last.last (Some c.in-Some.first) c.in-Some.ensures ∙ ap (λ (ids : List (List (List ℕ))). first_like ids c.loop-last.last) (c.copy.ensures.copied ∙ c.loop-last.invariant.0) in
