@@ -17,7 +17,7 @@ use suit_params::{Digest, push_digest};
 fn digest_bytes(alloc: Global, digest: &Digest) -> Result<Bytes, AllocError>
     ensures spelling { IfOk result (λ bytes. bytes ≡ spell (digest_item digest.now.bytes)) }
     ensures valid { IfOk result (λ _. IsValid (digest_item digest.now.bytes)) }
-    ensures long { length digest.now.bytes ≡ 32 }
+    ensures long { IfOk result (λ _. length digest.now.bytes ≡ 32) }
 {
     let mut out = Bytes::new(alloc);
     push_digest(&mut out, digest)?;
