@@ -8,21 +8,19 @@ ghost use Rattle.suit_envelope.specs.Authentic.{payload_of};
 ghost use Rattle.suit_envelope.specs.WrapperParts.{WrapperSays};
 ghost use Rattle.author.specs.MadeEnvelopes.{made_block};
 
-use det_cbor::{Bytes, HeadKind, push_count, push_kind, push_string};
+use det_cbor::{Bytes, push_count, push_string};
 use hmac_mac0::make_block;
 use std::alloc::{AllocError, Global};
-use suit_params::Digest;
+use suit_params::{Digest, push_digest};
 
 // A digest's array (draft-ietf-suit-manifest-25, section 10).
 fn digest_bytes(alloc: Global, digest: &Digest) -> Result<Bytes, AllocError>
     ensures spelling { IfOk result (λ bytes. bytes ≡ spell (digest_item digest.now.bytes)) }
     ensures valid { IfOk result (λ _. IsValid (digest_item digest.now.bytes)) }
-    ensures long { length digest.now.bytes ≡ 32 }
+    ensures long { IfOk result (λ _. length digest.now.bytes ≡ 32) }
 {
     let mut out = Bytes::new(alloc);
-    push_count(&mut out, 2)?;
-    push_kind(&mut out, HeadKind::Negative, 15)?;
-    push_string(&mut out, &digest.bytes)?;
+    push_digest(&mut out, digest)?;
     Ok(out)
 }
 

@@ -21,7 +21,7 @@ use Rattle.suit_manifest.specs.declared.manifest.TextMember.{TextMember}
 use Rattle.suit_manifest.specs.declared.manifest.TextMember.TheVariants as texts
 use Rattle.suit_manifest.specs.ManifestLaws.{ManifestLaws}
 use Rattle.suit_manifest.specs.ManifestMaking.{unplaced_held, unplaced_severed, unplaced_manifest}
-use Rattle.suit_manifest.specs.ManifestWriting.{IsGrammatical, IsSevered, IsDigestBytes}
+use Rattle.suit_manifest.specs.ManifestWriting.{IsGrammatical, IsSevered}
 use Rattle.suit_manifest.specs.Manifests.{count_said}
 use Rattle.suit_manifest.specs.MembersApart.{HasMember, HasMembers}
 use Rattle.suit_params.specs.declared.digest.Digest.{Digest}

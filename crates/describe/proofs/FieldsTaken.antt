@@ -16,7 +16,7 @@ use Rattle.suit_manifest.specs.declared.manifest.Member.TheVariants as members
 use Rattle.suit_manifest.specs.declared.manifest.TextMember.{TextMember}
 use Rattle.suit_manifest.specs.declared.manifest.TextMember.TheVariants as texts
 use Rattle.suit_manifest.specs.ManifestMaking.{unplaced_held}
-use Rattle.suit_manifest.specs.ManifestWriting.{IsDigestBytes}
+use Rattle.suit_params.specs.Digests.{IsDigestBytes}
 use Rattle.author.specs.Descriptions.{scope_of, field_sequence, takes_field}
 use Rattle.author.specs.Members.{described_member, is_one_item}
 use Rattle.author.specs.Severing.{none_severed, severed_from}

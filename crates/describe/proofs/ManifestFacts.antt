@@ -5,7 +5,7 @@ use Rattle.std.specs.List.{AllByRecursion}
 use Rattle.det_cbor.specs.DataItem.{DataItem, MapOf, DataPairs, NoPairs, PairThen, spell, Spells, IsByte, IsValid, IsValidWithin, AreValidWithin, ArePairsWithin}
 use Rattle.det_cbor.specs.ItemSkipping.{item_split}
 use Rattle.det_cbor.specs.OneReading.{StartsWithItem}
-use Rattle.suit_params.specs.Digests.{IsDigest}
+use Rattle.suit_params.specs.Digests.{IsDigest, IsDigestBytes}
 use Rattle.suit_params.specs.Params.{pairs_place}
 use Rattle.suit_envelope.specs.Envelopes.{Entry, entries, is_number}
 use Rattle.suit_manifest.specs.declared.manifest.Manifest.{Manifest}
@@ -15,7 +15,6 @@ use Rattle.suit_manifest.specs.declared.manifest.TextMember.{TextMember}
 use Rattle.suit_manifest.specs.declared.manifest.TextMember.TheVariants as texts
 use Rattle.suit_manifest.specs.Components.{string_items, identifier_items, IsShort}
 use Rattle.suit_manifest.specs.Manifests.{IsManifest, SaysSevered, SaysHere, SaysApart, SaysTextMember, SaysTextHere, SaysTextApart, SeveredUnder, TextUnder}
-use Rattle.suit_manifest.specs.ManifestWriting.{IsDigestBytes}
 use Rattle.suit_manifest.specs.Maps.{entry_under, entries_of}
 use Rattle.author.specs.Members.{is_one_item}
 use Rattle.describe.proofs.IdentifiersRead.{IsReadable}

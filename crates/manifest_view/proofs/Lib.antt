@@ -1,2 +1,3 @@
+pub mod SameIdentifiers
 pub mod Elements
 pub mod ViewAnswers

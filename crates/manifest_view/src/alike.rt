@@ -1,9 +1,10 @@
-//! Identifiers that are alike.
+//! Whether lent identifiers are alike.
 
 ghost use Rattle.std.specs.Prelude.{◌≡◌, ◌<◌, [], length, get_or};
-ghost use Rattle.suit_manifest.specs.ComponentsJudging.{first_like, same_id};
+ghost use Rattle.suit_manifest.specs.ComponentsJudging.{same_id};
 
 use crate::{LentIdentifier, LentIdentifiers};
+use suit_params::IdentifiedList;
 
 // The identifier at this place of the order.
 fn at<'a>(ids: &mut LentIdentifiers<'a>, n: u64) -> LentIdentifier<'a>
@@ -35,16 +36,14 @@ fn are_same(mut id: LentIdentifier<'_>, mut other: LentIdentifier<'_>) -> bool
     other.next().is_none()
 }
 
-/// The first identifier before another one that is like it, by its number.
-pub(crate) fn first_like(ids: &mut LentIdentifiers<'_>, last: u64) -> Option<u64>
-    requires { last < length ids.old }
-    ensures found { result ≡ first_like ids.old last }
-    ensures same { ids.new ≡ ids.old }
-{
-    for i in 0..last {
-        if are_same(at(ids, i), at(ids, last)) {
-            return Some(i);
-        }
+impl<'a> IdentifiedList for LentIdentifiers<'a> {
+    type Item = LentIdentifier<'a>;
+
+    ghost items = { λ ids. ids };
+
+    ghost id_of = { λ id. id };
+
+    fn are_same(&mut self, one: usize, other: usize) -> bool {
+        are_same(at(self, one as u64), at(self, other as u64))
     }
-    None
 }

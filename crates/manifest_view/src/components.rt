@@ -6,10 +6,11 @@ ghost use Rattle.suit_manifest.specs.Elements.{all_from};
 ghost use Rattle.suit_manifest.specs.ComponentsReading.{part_at, identifier_at, apart_from, ids_from, counted_ids, components_at};
 
 use crate::LentIdentifiers;
-use crate::alike::first_like;
 use det_cbor::Cursor;
 use suit_manifest::MAX_COMPONENTS;
-use suit_params::{Refusal, Why, read_array, read_content, read_item, refused, same_place};
+use suit_params::{
+    Refusal, Why, first_like, read_array, read_content, read_item, refused, same_place,
+};
 
 // A byte string.
 fn judge_part(mut item: Cursor<'_>) -> Result<(), Refusal>
@@ -77,8 +78,8 @@ fn judge_apart(ids: &mut LentIdentifiers<'_>, mut items: Cursor<'_>) -> Result<(
 {
     for last in 1..ids.len() {
         read_item(&mut items)?;
-        if let Some(first) = first_like(ids, last) {
-            return refused(items.place(), Why::TwoAlike(first, last));
+        if let Some(first) = first_like(ids.copy(), last as usize) {
+            return refused(items.place(), Why::TwoAlike(first as u64, last));
         }
     }
     Ok(())

@@ -1,8 +1,10 @@
 -- Reading elements, one by one.
-use Rattle.std.proofs.Common.{◌≡◌, ℕ, suc, ◌+◌, ◌-◌, ◌<◌, List, [], ◌∷◌, ◌++◌, None, Result, Ok, Err, refl, sym, ap, ◌∙◌, append_assoc, arith}
+use Rattle.std.proofs.Common.{◌≡◌, ℕ, suc, ◌+◌, ◌-◌, ◌<◌, List, [], ◌∷◌, ◌++◌, Some, None, Result, Ok, Err, refl, sym, ap, ◌∙◌, append_assoc, arith}
 use Rattle.det_cbor.specs.HeadReading.{◌>>=◌}
 use Rattle.det_cbor.specs.Position.{Position}
 use Rattle.suit_params.specs.declared.refusal.Refusal.{Refusal}
+use Rattle.suit_params.specs.declared.refusal.Why.TheVariants.{TwoAlike}
+use Rattle.suit_params.specs.Refusing.{refused}
 use Rattle.suit_params.specs.Reading.{inner_from}
 use Rattle.suit_manifest.specs.Elements.{all_from}
 use Rattle.suit_manifest.specs.ComponentsJudging.{first_like}
@@ -33,4 +35,11 @@ apart_step ids count last at next inner total lt item none so_far =
     let one : count - last ≡ suc (count - (last + 1)) = omega arith in
     let after : last + 1 ≡ suc last = omega arith in
     let step : apart_from ids last (count - last) at ≡ apart_from ids (last + 1) (count - (last + 1)) next = rw (one, ← item, ← none, after) refl in
+    sym step ∙ so_far
+
+pub apart_found : (ids : List (List (List ℕ))) (count last i : ℕ) (at next inner : Position) (total : Result Unit Refusal) → last < count → Ok (inner, next) ≡ inner_from at → Some i ≡ first_like ids last
+    → apart_from ids last (count - last) at ≡ total → Err (refused next.place (TwoAlike i last)) ≡ total
+apart_found ids count last i at next inner total lt item found so_far =
+    let one : count - last ≡ suc (count - (last + 1)) = omega arith in
+    let step : apart_from ids last (count - last) at ≡ Err (refused next.place (TwoAlike i last)) = rw (one, ← item, ← found) refl in
     sym step ∙ so_far

@@ -1,12 +1,13 @@
 -- The first two identifiers that are alike.
 use Rattle.std.proofs.Common.{◌≡◌, ◌≢◌, ℕ, zero, suc, ◌+◌, ◌-◌, ◌<◌, ◌≤◌, Bool, true, false, cond, List, [], length, get_or, Option, Some, None, Ok, Err, refl, sym, ap, subst, ◌∙◌, inl, inr, ◌⊎◌, arith}
-use Rattle.std.specs.Prelude.{slice_get}
+use Rattle.std.specs.Prelude.{slice_get, MatchOption}
 use Rattle.std.proofs.lemmas.Option.{slice_get-get_or}
 use Rattle.det_cbor.specs.DataItem.{DataItems, NoItems, ItemThen, item_count}
 use Rattle.det_cbor.specs.HeadReading.{◌>>=◌}
 use Rattle.det_cbor.specs.ResultLaws.{bind_ok, same_err}
 use Rattle.suit_params.specs.declared.refusal.Refusal.{Refusal}
 use Rattle.suit_params.specs.declared.refusal.Why.TheVariants.{TwoAlike}
+use Rattle.suit_params.specs.Alike.{HasNoLike, IsFirstLike}
 use Rattle.suit_params.specs.Refusing.{refused}
 use Rattle.suit_commands.specs.Sequences.{place_after}
 use Rattle.suit_manifest.specs.Components.{AreApart, AreAlike, element_place}
@@ -106,6 +107,25 @@ differ_unlike ids last i in_i in_last differ = elim (either (are_like ids last i
   | inl like ↦ absurd (differ (like_same ids last i in_i in_last like))
   | inr unlike ↦ unlike
 ]
+
+-- the answer of a search
+pub first_told : (ids : Ids) (last : ℕ) (found : Option ℕ) → MatchOption found (HasNoLike (λ id. id) ids last) (IsFirstLike (λ id. id) ids last) → found ≡ first_like ids last
+first_told ids last None none = sym (none_least (are_like ids last) last 0 (λ m le lt. unlike_there m (omega (arith, lt))))
+  where
+    unlike_there : (m : ℕ) → m < last → are_like ids last m ≡ false
+    unlike_there m lt = elim (either (are_like ids last m)) [
+      | inl like ↦ absurd (none m lt [] (same_true (get_or ids m []) (get_or ids last []) like))
+      | inr unlike ↦ unlike
+    ]
+first_told ids last (Some i) so = sym (is_least (are_like ids last) last 0 i (record {
+  from = omega arith;
+  below = omega (arith, so.below);
+  passes = subst (λ (id : List (List ℕ)). same_id (get_or ids i []) id ≡ true) (so.same []) (same_itself (get_or ids i []));
+  before = λ m le lt. elim (either (are_like ids last m)) [
+    | inl like ↦ absurd (so.least m lt [] (same_true (get_or ids m []) (get_or ids last []) like))
+    | inr unlike ↦ unlike
+  ];
+}))
 
 pub none_apart : (ids : Ids) → ((l : ℕ) → l < length ids → first_like ids l ≡ None) → AreApart ids
 none_apart ids none i j lt inside = unlike_differ ids j i (omega (arith, lt, inside)) inside (least_none (are_like ids j) j 0 (none j inside) i (omega arith) (omega (arith, lt)))

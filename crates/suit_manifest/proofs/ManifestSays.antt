@@ -5,7 +5,7 @@ use Rattle.std.specs.List.{AllByRecursion}
 use Rattle.det_cbor.specs.DataItem.{ByteString, TextString, UnsignedInteger, ArrayOf, spell}
 use Rattle.suit_params.specs.Refusing.{SaysHeld, content_place}
 use Rattle.suit_params.specs.Params.{pairs_place}
-use Rattle.suit_params.specs.Digests.{digest_item, IsDigest}
+use Rattle.suit_params.specs.Digests.{digest_item, IsDigest, IsDigestBytes}
 use Rattle.suit_commands.specs.Allowed.{levels_allowed}
 use Rattle.suit_commands.specs.Selections.{Among}
 use Rattle.suit_commands.specs.Tree.{SequenceTree}
@@ -22,7 +22,7 @@ use Rattle.suit_manifest.specs.Common.{CommonSays, IsCommon, common_keys}
 use Rattle.suit_manifest.specs.Maps.{MaySayUnder}
 use Rattle.suit_manifest.specs.Manifests.{IsManifest, IsVersion, SaysNumber, SaysText, SaysSevered, SaysHere, SaysApart, SaysTextMember, SaysTextHere, SaysTextApart, SeveredUnder, TextUnder, manifest_keys, count_said}
 use Rattle.suit_manifest.specs.ManifestMaking.{Row, row_pairs, place_among, place_under, text_item, held_item, severed_item, text_member_item, common_rows, common_item, manifest_rows, manifest_item, placed_held, placed_severed, value_place, placed_manifest}
-use Rattle.suit_manifest.specs.ManifestWriting.{IsDigestBytes, HeldFits, SeveredFits, TextFits, CommonFits, ManifestFits, IsHeldSequence, IsSevered, IsTextMember, IsGrammatical}
+use Rattle.suit_manifest.specs.ManifestWriting.{HeldFits, SeveredFits, TextFits, CommonFits, ManifestFits, IsHeldSequence, IsSevered, IsTextMember, IsGrammatical}
 use Rattle.suit_manifest.proofs.MapRows.{Ascend, value_among, says_among, absent_among, rows_known}
 use Rattle.suit_manifest.proofs.ManifestValid.{common_ascends, manifest_ascends, common_valid}
 

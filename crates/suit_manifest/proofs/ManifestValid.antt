@@ -3,7 +3,7 @@ use Rattle.std.proofs.Common.{◌≡◌, ℕ, List, [], ◌∷◌, length, Optio
 use Rattle.std.specs.Prelude.{IfSome}
 use Rattle.std.specs.List.{AllByRecursion}
 use Rattle.det_cbor.specs.DataItem.{ArrayOf, item_count, IsString, IsValid, IsValidWithin, AreValidWithin}
-use Rattle.suit_params.specs.Digests.{digest_item}
+use Rattle.suit_params.specs.Digests.{digest_item, IsDigestBytes}
 use Rattle.suit_commands.specs.Tree.{SequenceTree}
 use Rattle.suit_manifest.specs.declared.manifest.Manifest.{Manifest}
 use Rattle.suit_manifest.specs.declared.manifest.Member.{Member}
@@ -12,7 +12,7 @@ use Rattle.suit_manifest.specs.declared.manifest.TextMember.{TextMember}
 use Rattle.suit_manifest.specs.declared.manifest.TextMember.TheVariants as texts
 use Rattle.suit_manifest.specs.Components.{string_items, identifier_items}
 use Rattle.suit_manifest.specs.ManifestMaking.{text_item, held_item, severed_item, text_member_item, common_rows, common_item, manifest_rows, manifest_item}
-use Rattle.suit_manifest.specs.ManifestWriting.{IsDigestBytes, IsUtf8String, IdentifierFits, ComponentsFit, HeldFits, SeveredFits, TextFits, CommonFits, ManifestFits}
+use Rattle.suit_manifest.specs.ManifestWriting.{IsUtf8String, IdentifierFits, ComponentsFit, HeldFits, SeveredFits, TextFits, CommonFits, ManifestFits}
 use Rattle.suit_manifest.proofs.MapRows.{Ascend, map_valid}
 
 -- ---- components

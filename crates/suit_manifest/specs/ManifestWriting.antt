@@ -2,8 +2,9 @@
 use Rattle.std.specs.Prelude.{◌≡◌, ◌≤◌, ℕ, Bool, true, false, List, length, IfSome}
 use Rattle.std.specs.List.{AllByRecursion}
 use Rattle.std.specs.Str.{IsUtf8}
-use Rattle.det_cbor.specs.DataItem.{DataItem, spell, Spells, IsByte, IsString}
+use Rattle.det_cbor.specs.DataItem.{DataItem, spell, Spells, IsString}
 use Rattle.suit_params.specs.Refusing.{SaysWhole}
+use Rattle.suit_params.specs.Digests.{IsDigestBytes}
 use Rattle.suit_commands.specs.Tree.{SequenceTree}
 use Rattle.suit_commands.specs.Allowed.{IsSequence, levels_allowed}
 use Rattle.suit_commands.specs.SequenceMaking.{sequence_item}
@@ -18,9 +19,6 @@ use Rattle.suit_manifest.specs.Manifests.{IsManifest, count_said}
 use Rattle.suit_manifest.specs.ManifestMaking.{common_item, placed_manifest, unplaced_manifest}
 
 -- ---- bounds by the types of the code, and of the sequences by the calls that write them
-
-abbrev pub IsDigestBytes : List ℕ → Type 0
-IsDigestBytes digest = (length digest ≡ 32) × AllByRecursion IsByte digest
 
 abbrev pub IsUtf8String : List ℕ → Type 0
 IsUtf8String text = IsString text × IsUtf8 text

@@ -5,12 +5,11 @@ ghost use Rattle.suit_params.specs.Answering.{Gives};
 ghost use Rattle.suit_manifest.specs.Elements.{all_from};
 ghost use Rattle.suit_manifest.specs.ComponentsReading.{part_at, identifier_at, apart_from, ids_from, counted_ids, components_at};
 
-use crate::alike::first_like;
 use det_cbor::{Bytes, Cursor};
 use std::alloc::Global;
 use suit_params::{
-    Fault, Identifier, Identifiers, Refusal, Why, copy_left, read_array, read_content, read_item,
-    refused, same_place,
+    Fault, Identifier, Identifiers, Refusal, Why, copy_left, first_like, read_array, read_content,
+    read_item, refused, same_place,
 };
 
 /// How many components a manifest may have.
@@ -71,7 +70,7 @@ fn judge_apart(ids: &Identifiers, mut items: Cursor<'_>) -> Result<(), Refusal>
 {
     for last in 1..ids.len() {
         read_item(&mut items)?;
-        if let Some(first) = first_like(ids, last) {
+        if let Some(first) = first_like(ids.as_slice(), last) {
             return refused(items.place(), Why::TwoAlike(first as u64, last as u64));
         }
     }

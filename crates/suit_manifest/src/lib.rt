@@ -2,7 +2,6 @@
 //! members that stand apart, and their two procedures.
 #![tactic(auto)]
 
-mod alike;
 mod common;
 mod components;
 mod decode;

@@ -3,13 +3,10 @@
 ghost use Rattle.std.specs.Prelude.{◌≡◌, ◌++◌, OnOk};
 ghost use Rattle.det_cbor.specs.DataItem.{UnsignedInteger, ByteString, spell, IsString};
 ghost use Rattle.det_cbor.specs.Heads.{head_bytes};
-ghost use Rattle.suit_params.specs.Digests.{digest_item};
 ghost use Rattle.suit_commands.specs.SequenceWriting.{IsU64};
-ghost use Rattle.suit_manifest.specs.ManifestWriting.{IsDigestBytes};
 
-use det_cbor::{Bytes, HeadKind, push_count, push_kind, push_number, push_string};
+use det_cbor::{Bytes, HeadKind, push_kind, push_number, push_string};
 use std::alloc::AllocError;
-use suit_params::Digest;
 
 /// Adds the head of a map of so many pairs.
 pub(crate) fn push_map(out: &mut Bytes, pairs: u64) -> Result<(), AllocError>
@@ -36,15 +33,4 @@ pub(crate) fn push_string_pair(out: &mut Bytes, key: u64, content: &[u8]) -> Res
 {
     push_number(out, key)?;
     push_string(out, content)
-}
-
-/// Adds a digest's array (draft-ietf-suit-manifest-25, section 10).
-pub(crate) fn push_digest(out: &mut Bytes, digest: &Digest) -> Result<(), AllocError>
-    ensures ok { OnOk result (out.new ≡ out.old ++ spell (digest_item digest.now.bytes)) }
-    ensures fits { OnOk result (IsDigestBytes digest.now.bytes) }
-{
-    push_count(out, 2)?;
-    push_kind(out, HeadKind::Negative, 15)?;
-    push_string(out, &digest.bytes)?;
-    Ok(())
 }

@@ -2,17 +2,16 @@
 
 ghost use Rattle.std.specs.Prelude.{◌≡◌, ◌++◌, IfSome, OnOk};
 ghost use Rattle.det_cbor.specs.DataItem.{DataPairs, UnsignedInteger, spell, spell_pairs, IsString};
-ghost use Rattle.suit_params.specs.Digests.{digest_item};
+ghost use Rattle.suit_params.specs.Digests.{digest_item, IsDigestBytes};
 ghost use Rattle.suit_commands.specs.SequenceMaking.{inner_item};
 ghost use Rattle.suit_manifest.specs.ManifestMaking.{pair_then, text_item, held_item, severed_item, text_member_item};
-ghost use Rattle.suit_manifest.specs.ManifestWriting.{IsDigestBytes, IsUtf8String, HeldFits, SeveredFits, TextFits};
+ghost use Rattle.suit_manifest.specs.ManifestWriting.{IsUtf8String, HeldFits, SeveredFits, TextFits};
 
-use crate::pieces::push_digest;
 use crate::{Member, TextMember};
 use det_cbor::{Bytes, Text, push_number, push_string, push_text};
 use std::alloc::{AllocError, Global};
 use suit_commands::{Sequence, encode_sequence};
-use suit_params::Digest;
+use suit_params::{Digest, push_digest};
 
 // Adds a number, and a sequence in a byte string.
 fn push_here(

@@ -1,7 +1,6 @@
 -- How a map of parameters is spelled, piece by piece.
 use Rattle.std.proofs.Common.{◌≡◌, ◌<◌, ◌^◌, ℕ, List, ◌++◌, length, refl, sym, ap, ◌∙◌, append_assoc}
 use Rattle.std.specs.List.{AllByRecursion}
-use Rattle.std.proofs.lemmas.List.{append-nil}
 use Rattle.det_cbor.specs.Heads.{head_bytes}
 use Rattle.det_cbor.specs.DataItem.{ByteString, pair_count, spell, spell_pairs}
 use Rattle.suit_params.specs.Digests.{digest_item}
@@ -9,9 +8,6 @@ use Rattle.suit_params.specs.declared.param.Param.{Param}
 use Rattle.suit_params.specs.ParamMaking.{param_pairs, params_item, IsParam}
 use Rattle.suit_params.specs.ParamWriting.{IsWritten}
 use Rattle.suit_params.proofs.ParamWritten.{digest_length, params_counted, written_says, written_valid}
-
-regrouped : (out a b c d : List ℕ) → (((out ++ a) ++ b) ++ c) ++ d ≡ out ++ (a ++ (b ++ (c ++ d)))
-regrouped out a b c d = simp append_assoc
 
 pub is_written : (ps : List Param) → length ps < 2 ^ 64 → AllByRecursion IsParam ps → IsWritten ps
 is_written ps few all count place below ascending =
@@ -21,13 +17,11 @@ is_written ps few all count place below ascending =
       says_so = written_says count place ps all below;
     }
 
--- the pieces of a byte string that holds a digest
-pub digest_written : (out d : List ℕ) → length d ≡ 32
-    → (((out ++ head_bytes 2 36) ++ head_bytes 4 2) ++ head_bytes 1 15) ++ spell (ByteString d) ≡ out ++ spell (ByteString (spell (digest_item d)))
+-- the head of a byte string that holds a digest, and the digest's array
+pub digest_written : (out d : List ℕ) → length d ≡ 32 → (out ++ head_bytes 2 36) ++ spell (digest_item d) ≡ out ++ spell (ByteString (spell (digest_item d)))
 digest_written out d long =
-    let all : spell (digest_item d) ≡ head_bytes 4 2 ++ (head_bytes 1 15 ++ spell (ByteString d)) = ap (λ (r : List ℕ). head_bytes 4 2 ++ (head_bytes 1 15 ++ r)) (append-nil (spell (ByteString d))) in
-    let front : spell (ByteString (spell (digest_item d))) ≡ head_bytes 2 36 ++ spell (digest_item d) = ap (λ (n : ℕ). head_bytes 2 n ++ spell (digest_item d)) (digest_length d long) in
-    regrouped out (head_bytes 2 36) (head_bytes 4 2) (head_bytes 1 15) (spell (ByteString d)) ∙ sym (ap (λ (r : List ℕ). out ++ r) (front ∙ ap (λ (r : List ℕ). head_bytes 2 36 ++ r) all))
+    let held : spell (ByteString (spell (digest_item d))) ≡ head_bytes 2 36 ++ spell (digest_item d) = ap (λ (n : ℕ). head_bytes 2 n ++ spell (digest_item d)) (digest_length d long) in
+    append_assoc out (head_bytes 2 36) (spell (digest_item d)) ∙ sym (ap (λ (r : List ℕ). out ++ r) held)
 
 -- the head of a map and its pairs
 pub params_spelled : (out : List ℕ) (n : ℕ) (ps : List Param) → n ≡ length ps → (out ++ head_bytes 5 n) ++ spell_pairs (param_pairs ps) ≡ out ++ spell (params_item ps)
@@ -39,6 +33,3 @@ params_spelled out n ps is =
 
 pub after_two : (out a b l m : List ℕ) → l ≡ out ++ a → m ≡ l ++ b → m ≡ (out ++ a) ++ b
 after_two out a b l m e f = f ∙ ap (λ (k : List ℕ). k ++ b) e
-
-pub after_four : (out a b c d l m n o : List ℕ) → l ≡ out ++ a → m ≡ l ++ b → n ≡ m ++ c → o ≡ n ++ d → o ≡ (((out ++ a) ++ b) ++ c) ++ d
-after_four out a b c d l m n o e f g h = h ∙ ap (λ (k : List ℕ). k ++ d) (g ∙ ap (λ (k : List ℕ). k ++ c) (after_two out a b l m e f))

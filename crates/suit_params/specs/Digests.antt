@@ -1,7 +1,8 @@
 -- SUIT_Digest (draft-ietf-suit-manifest-25, section 10): an array of the algorithm and the digest.
 use Rattle.std.specs.Prelude.{◌≡◌, ◌≢◌, ℕ, ◌+◌, List, length}
+use Rattle.std.specs.List.{AllByRecursion}
 use Rattle.det_cbor.specs.Heads.{head_bytes}
-use Rattle.det_cbor.specs.DataItem.{DataItem, UnsignedInteger, NegativeInteger, ByteString, ArrayOf, NoItems, ItemThen, spell}
+use Rattle.det_cbor.specs.DataItem.{DataItem, UnsignedInteger, NegativeInteger, ByteString, ArrayOf, NoItems, ItemThen, spell, IsByte}
 use Rattle.suit_params.specs.declared.refusal.Refusal.{Refusal}
 use Rattle.suit_params.specs.declared.refusal.Why.TheVariants.{Shape, Algorithm}
 use Rattle.suit_params.specs.Refusing.{refused, IsByteString}
@@ -15,6 +16,10 @@ sha_256 = NegativeInteger 15
 
 abbrev pub digest_item : List ℕ → DataItem
 digest_item digest = pair_item sha_256 (ByteString digest)
+
+-- the bytes of a SHA-256
+abbrev pub IsDigestBytes : List ℕ → Type 0
+IsDigestBytes digest = (length digest ≡ 32) × AllByRecursion IsByte digest
 
 pub record IsDigest (place : ℕ) (x : DataItem) (digest : List ℕ) : Type 0 where
   pub is : x ≡ digest_item digest

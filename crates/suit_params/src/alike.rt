@@ -23,13 +23,48 @@ impl Identified for Identifier {
     }
 }
 
-// The first before another one that has its identifier.
-fn first_like<T: Identified>(all: &[T], last: usize) -> Option<usize>
-    requires { last < length all.now }
-    ensures { MatchOption result (HasNoLike T.id all.now last) (IsFirstLike T.id all.now last) }
+/// Things that have identifiers, by their numbers.
+pub trait IdentifiedList {
+    ghost use Rattle.std.specs.Prelude.{◌≡◌, ◌<◌, ℕ, List, length, MatchBool};
+    ghost use Rattle.suit_params.specs.Alike.{HaveOneId, HaveOtherIds};
+
+    type Item;
+
+    ghost items: { Self → List Self.Item };
+
+    ghost id_of: { Self.Item → List (List ℕ) };
+
+    /// Whether these two have the same identifier.
+    fn are_same(&mut self, one: usize, other: usize) -> bool
+        requires one { one < length (items self.old) }
+        requires other { other < length (items self.old) }
+        ensures told { MatchBool result
+            (HaveOneId id_of (items self.old) one other)
+            (HaveOtherIds id_of (items self.old) one other) }
+        ensures kept { self.new ≡ self.old };
+}
+
+impl<'a, T: Identified> IdentifiedList for &'a [T] {
+    type Item = T;
+
+    ghost items = { λ all. all.now };
+
+    ghost id_of = { T.id };
+
+    fn are_same(&mut self, one: usize, other: usize) -> bool {
+        self[one].identifier().is_same(self[other].identifier())
+    }
+}
+
+/// The first before another one that has its identifier, by its number.
+pub fn first_like<L: IdentifiedList + Drop>(mut all: L, last: usize) -> Option<usize>
+    requires { last < length (L.items all) }
+    ensures { MatchOption result
+        (HasNoLike L.id_of (L.items all) last)
+        (IsFirstLike L.id_of (L.items all) last) }
 {
     for i in 0..last {
-        if all[i].identifier().is_same(all[last].identifier()) {
+        if all.are_same(i, last) {
             return Some(i);
         }
     }

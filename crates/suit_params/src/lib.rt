@@ -3,6 +3,7 @@
 
 mod alike;
 mod digest;
+mod digest_writing;
 mod fault;
 mod identifier;
 mod law;
@@ -18,8 +19,9 @@ mod reading;
 mod refusal;
 mod value_in_force;
 
-pub use alike::{Identified, first_alike};
+pub use alike::{Identified, IdentifiedList, first_alike, first_like};
 pub use digest::{Digest, digest_of, read_digest};
+pub use digest_writing::push_digest;
 pub use identifier::{Identifier, Identifiers};
 pub use law::in_force_laws;
 pub use param::{Param, ParamKey};

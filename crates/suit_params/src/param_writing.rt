@@ -1,30 +1,27 @@
 //! Writing maps of parameters.
 
-ghost use Rattle.std.specs.Prelude.{◌≡◌, ◌++◌, length, OnOk, OnErr};
+ghost use Rattle.std.specs.Prelude.{◌≡◌, ◌++◌, OnOk, OnErr};
 ghost use Rattle.std.specs.List.{AllByRecursion};
-ghost use Rattle.det_cbor.specs.DataItem.{ByteString, spell, spell_pairs, IsString};
+ghost use Rattle.det_cbor.specs.DataItem.{ByteString, spell, spell_pairs};
 ghost use Rattle.det_cbor.specs.Prefix.{IsPrefix};
-ghost use Rattle.suit_params.specs.Digests.{digest_item};
+ghost use Rattle.suit_params.specs.Digests.{digest_item, IsDigestBytes};
 ghost use Rattle.suit_params.specs.ParamKeys.{key_of, key_item};
 ghost use Rattle.suit_params.specs.ParamMaking.{value_item, param_pairs, params_item, IsParam};
 ghost use Rattle.suit_params.specs.ParamWriting.{IsWritten};
 
-use crate::{Digest, Param, ParamList};
+use crate::{Digest, Param, ParamList, push_digest};
 use det_cbor::{Bytes, HeadKind, push_flag, push_kind, push_number, push_string, push_text};
 use std::alloc::{AllocError, Global};
 
 // A byte string of 36 bytes, which holds the digest's array.
-fn push_digest(out: &mut Bytes, digest: &Digest) -> Result<(), AllocError>
+fn push_held_digest(out: &mut Bytes, digest: &Digest) -> Result<(), AllocError>
     ensures ok { OnOk result
         (out.new ≡ out.old ++ spell (ByteString (spell (digest_item digest.now.bytes)))) }
     ensures err { OnErr result (IsPrefix out.old out.new) }
-    ensures long { length digest.now.bytes ≡ 32 }
-    ensures string { OnOk result (IsString digest.now.bytes) }
+    ensures fits { OnOk result (IsDigestBytes digest.now.bytes) }
 {
     push_kind(out, HeadKind::Bytes, 36)?;
-    push_kind(out, HeadKind::Array, 2)?;
-    push_kind(out, HeadKind::Negative, 15)?;
-    push_string(out, &digest.bytes)?;
+    push_digest(out, digest)?;
     Ok(())
 }
 
@@ -35,7 +32,7 @@ fn push_value(out: &mut Bytes, param: &Param) -> Result<(), AllocError>
 {
     match param {
         Param::Vendor(id) | Param::Class(id) | Param::Device(id) => push_string(out, id),
-        Param::Digest(digest) => push_digest(out, digest),
+        Param::Digest(digest) => push_held_digest(out, digest),
         Param::Slot(number) | Param::Size(number) => push_number(out, *number),
         Param::Strict(flag) | Param::Soft(flag) => push_flag(out, *flag),
         Param::Content(bytes) | Param::Args(bytes) => push_string(out, bytes.as_slice()),
