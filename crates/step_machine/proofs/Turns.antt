@@ -1,5 +1,5 @@
 -- The turns of the loops over steps, selected components and the sequences of a try each.
-use Rattle.std.proofs.Common.{◌≡◌, ℕ, ◌+◌, ◌*◌, ◌<◌, ◌≤◌, ◌∙◌, List, [], ◌∷◌, Some, None, Result, Ok, Err, length, refl, sym, ap, subst, true, false, inl, inr, arith}
+use Rattle.std.proofs.Common.{◌≡◌, ℕ, ◌+◌, ◌*◌, ◌<◌, ◌≤◌, ◌∙◌, List, [], ◌∷◌, Option, Some, None, Result, Ok, Err, length, refl, sym, ap, subst, true, false, inl, inr, arith}
 use Rattle.std.specs.List.{AllByRecursion}
 use Rattle.std.specs.Prelude.{OnOk}
 use Rattle.suit_params.specs.InForce.{Parameters}
@@ -181,27 +181,27 @@ module _ (machine : Machine) (branches : BranchesTree) (place at : ℕ) (whole :
     from_entry : inside ≡ entry_state (state_of now) at true
     from_entry = entered ∙ ap (λ (x : Progress). entry_state (state_of x) at true) same
 
-    pub try_done : (params : Parameters) → params ≡ t.parameters → RunsKept machine (sequence_part inner machine.program.now.count) inside m (Ok tt) t n
-        → RunsKept machine whole (state_of now) start (Ok tt) (state_of (record later { params = params })) n
-    try_done params copied runs =
+    pub try_done : (after : Progress) → after ≡ record later { params = t.parameters } → RunsKept machine (sequence_part inner machine.program.now.count) inside m (Ok tt) t n
+        → RunsKept machine whole (state_of now) start (Ok tt) (state_of after) n
+    try_done after left runs =
         let one = subst (λ (x : State). RunsKept machine (sequence_part inner machine.program.now.count) x m (Ok tt) t n) from_entry runs in
         let done = runs_last machine whole (trying_part (sequence_part inner machine.program.now.count) others at) (state_of now) start (state_of now) m law trying (Ok tt) (with_params (state_of now) t.parameters) n (branch_done machine (sequence_part inner machine.program.now.count) at (state_of now) m n t others one) in
-        subst (λ (x : Progress). RunsKept machine whole (state_of now) start (Ok tt) (state_of (record x { params = params })) n) (sym same)
-        (subst (λ (ps : Parameters). RunsKept machine whole (state_of now) start (Ok tt) (with_params (state_of now) ps) n) (sym copied) done)
+        subst (λ (x : Progress). RunsKept machine whole (state_of now) start (Ok tt) (state_of x) n) (sym (left ∙ ap (λ (x : Progress). record x { params = t.parameters }) same)) done
 
-    pub try_stopped : (stop out : Stop) → passed_on stop later.soft_failure ≡ Some out → RunsKept machine (sequence_part inner machine.program.now.count) inside m (Err stop) t n
-        → RunsKept machine whole (state_of now) start (Err out) (state_of later) n
-    try_stopped stop out passed runs =
+    pub try_stopped : (after : Progress) → after ≡ later → (stop out : Stop) → passed_on stop after.soft_failure ≡ Some out → RunsKept machine (sequence_part inner machine.program.now.count) inside m (Err stop) t n
+        → RunsKept machine whole (state_of now) start (Err out) (state_of after) n
+    try_stopped after left stop out passed runs =
         let one = subst (λ (x : State). RunsKept machine (sequence_part inner machine.program.now.count) x m (Err stop) t n) from_entry runs in
-        let e : passed_on stop now.soft_failure ≡ Some out = ap (λ (x : Progress). passed_on stop x.soft_failure) (sym same) ∙ passed in
-        subst (λ (x : Progress). RunsKept machine whole (state_of now) start (Err out) (state_of x) n) (sym same)
+        let was : after ≡ now = left ∙ same in
+        let e : passed_on stop now.soft_failure ≡ Some out = ap (λ (x : Progress). passed_on stop x.soft_failure) (sym was) ∙ passed in
+        subst (λ (x : Progress). RunsKept machine whole (state_of now) start (Err out) (state_of x) n) (sym was)
         (runs_last machine whole (trying_part (sequence_part inner machine.program.now.count) others at) (state_of now) start (state_of now) m law trying (Err out) (state_of now) n (branch_stops machine (sequence_part inner machine.program.now.count) at (state_of now) m n t others stop out e b.sources one))
 
-    pub try_next : (stop : Stop) → passed_on stop later.soft_failure ≡ None → RunsKept machine (sequence_part inner machine.program.now.count) inside m (Err stop) t n
+    pub try_next : (after : Progress) → after ≡ later → (stop : Stop) → passed_on stop after.soft_failure ≡ None → RunsKept machine (sequence_part inner machine.program.now.count) inside m (Err stop) t n
         → Begun machine whole (branches_part rest machine.program.now.count place at) (state_of now) start (state_of now) n
-    try_next stop passed runs =
+    try_next after left stop passed runs =
         let one = subst (λ (x : State). RunsKept machine (sequence_part inner machine.program.now.count) x m (Err stop) t n) from_entry runs in
-        let e : passed_on stop now.soft_failure ≡ None = ap (λ (x : Progress). passed_on stop x.soft_failure) (sym same) ∙ passed in
+        let e : passed_on stop now.soft_failure ≡ None = ap (λ (x : Progress). passed_on stop x.soft_failure) (sym (left ∙ same)) ∙ passed in
         begun_tried machine whole (sequence_part inner machine.program.now.count) others at (state_of now) start (state_of now) m n t law trying stop e one
 
 -- ---- an inner sequence
@@ -210,18 +210,25 @@ module _ (machine : Machine) (inner : SequenceTree) (at : ℕ) (s0 inside : Stat
   from_here : (r : Result (Unit {0}) Stop) → RunsKept machine (sequence_part inner machine.program.now.count) inside m r t n → RunsKept machine (sequence_part inner machine.program.now.count) (entry_state s0 at false) m r t n
   from_here r runs = subst (λ (x : State). RunsKept machine (sequence_part inner machine.program.now.count) x m r t n) entered runs
 
-  pub inner_ran : (params : Parameters) → params ≡ t.parameters → RunsKept machine (sequence_part inner machine.program.now.count) inside m (Ok tt) t n
-      → RunsKept machine (inner_part (sequence_part inner machine.program.now.count) at) s0 m (Ok tt) (record s0 { parameters = params }) n
-  inner_ran params copied runs =
-      subst (λ (ps : Parameters). RunsKept machine (inner_part (sequence_part inner machine.program.now.count) at) s0 m (Ok tt) (record s0 { parameters = ps }) n) (sym copied)
+  pub inner_ran : (after : State) → after ≡ record s0 { parameters = t.parameters } → RunsKept machine (sequence_part inner machine.program.now.count) inside m (Ok tt) t n
+      → RunsKept machine (inner_part (sequence_part inner machine.program.now.count) at) s0 m (Ok tt) after n
+  inner_ran after left runs =
+      subst (λ (x : State). RunsKept machine (inner_part (sequence_part inner machine.program.now.count) at) s0 m (Ok tt) x n) (sym left)
       (inner_done machine (sequence_part inner machine.program.now.count) at s0 m n t (from_here (Ok tt) runs))
 
-  pub inner_softly : (stop : Stop) → passed_on stop s0.soft_failure ≡ None → AreSources machine s0.parameters → RunsKept machine (sequence_part inner machine.program.now.count) inside m (Err stop) t n
-      → RunsKept machine (inner_part (sequence_part inner machine.program.now.count) at) s0 m (Ok tt) s0 n
-  inner_softly stop passed sources runs =
-      inner_soft machine (sequence_part inner machine.program.now.count) at s0 m n t stop passed sources (from_here (Err stop) runs)
+  -- it was stopped, and the outer one is as it was
+  module _ (after : State) (same : after ≡ s0) (sources : AreSources machine s0.parameters) where
+    passed_before : (stop : Stop) (out : Option Stop) → passed_on stop after.soft_failure ≡ out → passed_on stop s0.soft_failure ≡ out
+    passed_before stop out passed = ap (λ (x : State). passed_on stop x.soft_failure) (sym same) ∙ passed
 
-  pub inner_out : (stop out : Stop) → passed_on stop s0.soft_failure ≡ Some out → AreSources machine s0.parameters → RunsKept machine (sequence_part inner machine.program.now.count) inside m (Err stop) t n
-      → RunsKept machine (inner_part (sequence_part inner machine.program.now.count) at) s0 m (Err out) s0 n
-  inner_out stop out passed sources runs =
-      inner_stops machine (sequence_part inner machine.program.now.count) at s0 m n t stop out passed sources (from_here (Err stop) runs)
+    pub inner_softly : (stop : Stop) → passed_on stop after.soft_failure ≡ None → RunsKept machine (sequence_part inner machine.program.now.count) inside m (Err stop) t n
+        → RunsKept machine (inner_part (sequence_part inner machine.program.now.count) at) s0 m (Ok tt) after n
+    inner_softly stop passed runs =
+        subst (λ (x : State). RunsKept machine (inner_part (sequence_part inner machine.program.now.count) at) s0 m (Ok tt) x n) (sym same)
+        (inner_soft machine (sequence_part inner machine.program.now.count) at s0 m n t stop (passed_before stop None passed) sources (from_here (Err stop) runs))
+
+    pub inner_out : (stop out : Stop) → passed_on stop after.soft_failure ≡ Some out → RunsKept machine (sequence_part inner machine.program.now.count) inside m (Err stop) t n
+        → RunsKept machine (inner_part (sequence_part inner machine.program.now.count) at) s0 m (Err out) after n
+    inner_out stop out passed runs =
+        subst (λ (x : State). RunsKept machine (inner_part (sequence_part inner machine.program.now.count) at) s0 m (Err out) x n) (sym same)
+        (inner_stops machine (sequence_part inner machine.program.now.count) at s0 m n t stop out (passed_before stop (Some out) passed) sources (from_here (Err stop) runs))

@@ -74,14 +74,27 @@ impl<'p> Selected<'p> {
 }
 
 impl<'p> Progress<'p> {
-    /// The state of an inner sequence, which begins with one component selected.
-    pub(crate) fn entered(&self, component: u32, soft_failure: bool) -> Progress<'p>
-        ensures { state_of result ≡ entry_state (state_of self.now) component soft_failure }
+    /// Begins an inner sequence, with one component selected. Answers the state of the outer one.
+    pub(crate) fn enter(&mut self, component: u32, soft_failure: bool) -> Progress<'p>
+        ensures outer { result ≡ self.old }
+        ensures inner { state_of self.new ≡ entry_state (state_of self.old) component soft_failure }
     {
+        let selected = self.selected.copy();
+        self.selected = Selected::One(component);
+        let outer_soft_failure = self.soft_failure;
+        self.soft_failure = soft_failure;
         Progress {
             params: self.params.copy(),
-            selected: Selected::One(component),
-            soft_failure,
+            selected,
+            soft_failure: outer_soft_failure,
         }
+    }
+
+    /// Goes on with the outer sequence behind an inner one, whose parameters stay in force.
+    pub(crate) fn leave(&mut self, outer: &mut Progress<'p>)
+        ensures { self.new ≡ record outer.old { params = self.old.params } }
+    {
+        self.selected = outer.selected.copy();
+        self.soft_failure = outer.soft_failure;
     }
 }

@@ -246,16 +246,19 @@ fn run_inner<'p, H: Host, D: Disk, L: Launcher, T: Trail>(
         (⟦<D as Stages<H, L, T>>⟧.of_work work.new trail.new) }
     ensures selected { state.new.selected ≡ state.old.selected }
 {
-    let mut inside = state.entered(component, false);
-    match sequence(machine, work, trail, inner, &mut inside) {
+    let mut outer = state.enter(component, false);
+    match sequence(machine, work, trail, inner, state) {
         Ok(()) => {
-            state.params = inside.params.copy();
+            state.leave(&mut outer);
             Ok(())
         }
-        Err(stop) => match passed_on(stop, state.soft_failure) {
-            None => Ok(()),
-            Some(stop) => Err(stop),
-        },
+        Err(stop) => {
+            *state = outer;
+            match passed_on(stop, state.soft_failure) {
+                None => Ok(()),
+                Some(stop) => Err(stop),
+            }
+        }
     }
 }
 
@@ -294,13 +297,14 @@ fn try_each<'p, H: Host, D: Disk, L: Launcher, T: Trail>(
         match branch {
             LentBranch::Null => return Ok(()),
             LentBranch::Inner(inner) => {
-                let mut inside = state.entered(component, true);
-                match sequence(machine, work, trail, inner, &mut inside) {
+                let mut entry = state.enter(component, true);
+                match sequence(machine, work, trail, inner, state) {
                     Ok(()) => {
-                        state.params = inside.params.copy();
+                        state.leave(&mut entry);
                         return Ok(());
                     }
                     Err(stop) => {
+                        *state = entry;
                         if let Some(stop) = passed_on(stop, state.soft_failure) {
                             return Err(stop);
                         }

@@ -191,15 +191,15 @@ sequence-returns-clause-runs g t c =
 
 pub run_inner-returns-in-Some-clause-runs : goal.run_inner-returns-in-Some-clause-runs
 run_inner-returns-in-Some-clause-runs g t c =
-    inner_out c.args.machine.now c.args.inner c.args.component (state_of c.args.state.now) (state_of c.entered-inside.result) c.entered-inside.ensures _ _ (state_of c.sequence.new.state) c.in-Err.stop c.in-Some.stop (sym c.passed_on.ensures ∙ c.in-Some.is) c.requires.under_way.sources c.in-Err.ensures.runs
+    inner_out c.args.machine.now c.args.inner c.args.component (state_of c.args.state.now) (state_of c.enter-outer.new.self) c.enter-outer.ensures.inner _ _ (state_of c.sequence.new.state) (state_of c.enter-outer.result) (ap state_of c.enter-outer.ensures.outer) c.requires.under_way.sources c.in-Err.stop c.in-Some.stop (sym c.passed_on.ensures ∙ c.in-Some.is) c.in-Err.ensures.runs
 
 pub run_inner-returns-in-Ok-clause-runs : goal.run_inner-returns-in-Ok-clause-runs
 run_inner-returns-in-Ok-clause-runs g t c =
-    inner_ran c.args.machine.now c.args.inner c.args.component (state_of c.args.state.now) (state_of c.entered-inside.result) c.entered-inside.ensures _ _ (state_of c.sequence.new.state) _ c.copy-state.ensures c.in-Ok.ensures.runs
+    inner_ran c.args.machine.now c.args.inner c.args.component (state_of c.args.state.now) (state_of c.enter-outer.new.self) c.enter-outer.ensures.inner _ _ (state_of c.sequence.new.state) (state_of c.leave.new.self) (ap state_of (c.leave.ensures ∙ ap (λ (x : Progress). record x { params = c.sequence.new.state.params }) c.enter-outer.ensures.outer)) c.in-Ok.ensures.runs
 
 pub run_inner-returns-in-None-clause-runs : goal.run_inner-returns-in-None-clause-runs
 run_inner-returns-in-None-clause-runs g t c =
-    inner_softly c.args.machine.now c.args.inner c.args.component (state_of c.args.state.now) (state_of c.entered-inside.result) c.entered-inside.ensures _ _ (state_of c.sequence.new.state) c.in-Err.stop (sym c.passed_on.ensures ∙ c.in-None.is) c.requires.under_way.sources c.in-Err.ensures.runs
+    inner_softly c.args.machine.now c.args.inner c.args.component (state_of c.args.state.now) (state_of c.enter-outer.new.self) c.enter-outer.ensures.inner _ _ (state_of c.sequence.new.state) (state_of c.enter-outer.result) (ap state_of c.enter-outer.ensures.outer) c.requires.under_way.sources c.in-Err.stop (sym c.passed_on.ensures ∙ c.in-None.is) c.in-Err.ensures.runs
 
 pub try_each-loop-branch-init : goal.try_each-loop-branch-init
 try_each-loop-branch-init g t c = record {
@@ -222,18 +222,18 @@ try_each-sequence-requires g t c κs within =
     let inv = c.loop-branch.invariant in
     let lends : c.loop-branch.branches ≡ BranchThen c.in-Inner.inner c.next.new.self = c.in-Some.ensures ∙ ap (λ (x : LentBranch). branch_before (branch_of x) c.next.new.self) c.in-Inner.is in
     let smaller = branch_smaller c.loop-branch.branches c.next.new.self c.in-Inner.inner lends in
-    let entered = c.entered-inside.ensures in
+    let entered = c.enter-entry.ensures.inner in
     let allowed = subst (λ (x : State). AllowsSequence c.args.machine.now c.in-Inner.inner x.selection) (sym entered)
     (allows_branch c.args.machine.now c.in-Inner.inner c.next.new.self c.args.component (subst (λ (x : BranchesTree). AllowsBranches c.args.machine.now x c.args.component) lends inv.allowed)) in
     let sources = subst (λ (x : Progress). AreSources c.args.machine.now x.params) (sym inv.same) inv.begun.sources in
     let under_way = subst (IsUnderWay c.args.machine.now) (sym entered) (record { sources = sources; selection = (c.requires.inside, tt) }) in
-    let room = room_next (branches_work c.args.branches c.args.machine.now.program.now.count) (branches_work c.loop-branch.branches c.args.machine.now.program.now.count) (work_of c.in-Inner.inner c.args.machine.now.program.now.count (length (selected_list c.entered-inside.result.selected))) (branches_work c.next.new.self c.args.machine.now.program.now.count) _ _ inv.room (branch_work c.loop-branch.branches c.next.new.self c.in-Inner.inner c.args.machine.now.program.now.count (length (selected_list c.entered-inside.result.selected)) lends (ap (λ (x : State). length x.selection) c.entered-inside.ensures)) c.requires.room in
+    let room = room_next (branches_work c.args.branches c.args.machine.now.program.now.count) (branches_work c.loop-branch.branches c.args.machine.now.program.now.count) (work_of c.in-Inner.inner c.args.machine.now.program.now.count (length (selected_list c.enter-entry.new.self.selected))) (branches_work c.next.new.self c.args.machine.now.program.now.count) _ _ inv.room (branch_work c.loop-branch.branches c.next.new.self c.in-Inner.inner c.args.machine.now.program.now.count (length (selected_list c.enter-entry.new.self.selected)) lends (ap (λ (x : State). length x.selection) c.enter-entry.ensures.inner)) c.requires.room in
     (omega (arith, inv.few, smaller.0, c.decreases), (within.0, (within.1.0, (within.1.1.0, (within.1.1.1, (inv.ready, (allowed, (under_way, (inv.begun.trailed, room)))))))))
 
 pub try_each-returns-in-Ok-clause-room : goal.try_each-returns-in-Ok-clause-room
 try_each-returns-in-Ok-clause-room g t c =
     let lends : c.loop-branch.branches ≡ BranchThen c.in-Inner.inner c.next.new.self = c.in-Some.ensures ∙ ap (λ (x : LentBranch). branch_before (branch_of x) c.next.new.self) c.in-Inner.is in
-    leaves_stopped (branches_work c.args.branches c.args.machine.now.program.now.count) (branches_work c.loop-branch.branches c.args.machine.now.program.now.count) (work_of c.in-Inner.inner c.args.machine.now.program.now.count (length (selected_list c.entered-inside.result.selected))) (branches_work c.next.new.self c.args.machine.now.program.now.count) _ _ c.loop-branch.invariant.room (branch_work c.loop-branch.branches c.next.new.self c.in-Inner.inner c.args.machine.now.program.now.count (length (selected_list c.entered-inside.result.selected)) lends (ap (λ (x : State). length x.selection) c.entered-inside.ensures)) _ _ c.in-Ok.ensures.room
+    leaves_stopped (branches_work c.args.branches c.args.machine.now.program.now.count) (branches_work c.loop-branch.branches c.args.machine.now.program.now.count) (work_of c.in-Inner.inner c.args.machine.now.program.now.count (length (selected_list c.enter-entry.new.self.selected))) (branches_work c.next.new.self c.args.machine.now.program.now.count) _ _ c.loop-branch.invariant.room (branch_work c.loop-branch.branches c.next.new.self c.in-Inner.inner c.args.machine.now.program.now.count (length (selected_list c.enter-entry.new.self.selected)) lends (ap (λ (x : State). length x.selection) c.enter-entry.ensures.inner)) _ _ c.in-Ok.ensures.room
 
 pub try_each-loop-branch-preserved : goal.try_each-loop-branch-preserved
 try_each-loop-branch-preserved g t c =
@@ -242,12 +242,12 @@ try_each-loop-branch-preserved g t c =
     let smaller = branch_smaller c.loop-branch.branches c.next.new.self c.in-Inner.inner lends in
     record {
       few = omega (arith, inv.few, smaller.1);
-      same = inv.same;
+      same = c.enter-entry.ensures.outer ∙ inv.same;
       ready = ready_after c.args.machine.now _ _ c.in-Err.ensures.runs.stays.outside inv.ready;
       allowed = allows_others c.args.machine.now c.in-Inner.inner c.next.new.self c.args.component (subst (λ (x : BranchesTree). AllowsBranches c.args.machine.now x c.args.component) lends inv.allowed);
-      begun = try_next c.args.machine.now c.loop-branch.branches c.args.place c.args.component _ c.args.state.now _ c.loop-branch.state _ inv.begun (λ told. g.met.D.Disk.obeys c.loop-branch.work.disk.now told) inv.same c.in-Inner.inner c.next.new.self lends (state_of c.entered-inside.result) c.entered-inside.ensures (state_of c.sequence.new.state) _ c.in-Err.stop (sym c.passed_on.ensures ∙ c.in_default-passed_on.is) c.in-Err.ensures.runs;
-      room = leaves_next (branches_work c.args.branches c.args.machine.now.program.now.count) (branches_work c.loop-branch.branches c.args.machine.now.program.now.count) (work_of c.in-Inner.inner c.args.machine.now.program.now.count (length (selected_list c.entered-inside.result.selected))) (branches_work c.next.new.self c.args.machine.now.program.now.count) _ _ inv.room (branch_work c.loop-branch.branches c.next.new.self c.in-Inner.inner c.args.machine.now.program.now.count (length (selected_list c.entered-inside.result.selected)) lends (ap (λ (x : State). length x.selection) c.entered-inside.ensures)) _ tt
-          (softly_spends (work_of c.in-Inner.inner c.args.machine.now.program.now.count (length (selected_list c.entered-inside.result.selected))) _ _ c.in-Err.stop c.loop-branch.state.soft_failure (sym c.passed_on.ensures ∙ c.in_default-passed_on.is) c.in-Err.ensures.room);
+      begun = try_next c.args.machine.now c.loop-branch.branches c.args.place c.args.component _ c.args.state.now _ c.loop-branch.state _ inv.begun (λ told. g.met.D.Disk.obeys c.loop-branch.work.disk.now told) inv.same c.in-Inner.inner c.next.new.self lends (state_of c.enter-entry.new.self) c.enter-entry.ensures.inner (state_of c.sequence.new.state) _ c.enter-entry.result c.enter-entry.ensures.outer c.in-Err.stop (sym c.passed_on.ensures ∙ c.in_default-passed_on.is) c.in-Err.ensures.runs;
+      room = leaves_next (branches_work c.args.branches c.args.machine.now.program.now.count) (branches_work c.loop-branch.branches c.args.machine.now.program.now.count) (work_of c.in-Inner.inner c.args.machine.now.program.now.count (length (selected_list c.enter-entry.new.self.selected))) (branches_work c.next.new.self c.args.machine.now.program.now.count) _ _ inv.room (branch_work c.loop-branch.branches c.next.new.self c.in-Inner.inner c.args.machine.now.program.now.count (length (selected_list c.enter-entry.new.self.selected)) lends (ap (λ (x : State). length x.selection) c.enter-entry.ensures.inner)) _ tt
+          (softly_spends (work_of c.in-Inner.inner c.args.machine.now.program.now.count (length (selected_list c.enter-entry.new.self.selected))) _ _ c.in-Err.stop c.enter-entry.result.soft_failure (sym c.passed_on.ensures ∙ c.in_default-passed_on.is) c.in-Err.ensures.room);
       leaves = leaves_then inv.leaves c.in-Err.ensures.leaves;
     }
 
@@ -259,7 +259,7 @@ pub try_each-returns-in-Ok-clause-runs : goal.try_each-returns-in-Ok-clause-runs
 try_each-returns-in-Ok-clause-runs g t c =
     let inv = c.loop-branch.invariant in
     let lends : c.loop-branch.branches ≡ BranchThen c.in-Inner.inner c.next.new.self = c.in-Some.ensures ∙ ap (λ (x : LentBranch). branch_before (branch_of x) c.next.new.self) c.in-Inner.is in
-    try_done c.args.machine.now c.loop-branch.branches c.args.place c.args.component _ c.args.state.now _ c.loop-branch.state _ inv.begun (λ told. g.met.D.Disk.obeys c.loop-branch.work.disk.now told) inv.same c.in-Inner.inner c.next.new.self lends (state_of c.entered-inside.result) c.entered-inside.ensures (state_of c.sequence.new.state) _ _ c.copy-state.ensures c.in-Ok.ensures.runs
+    try_done c.args.machine.now c.loop-branch.branches c.args.place c.args.component _ c.args.state.now _ c.loop-branch.state _ inv.begun (λ told. g.met.D.Disk.obeys c.loop-branch.work.disk.now told) inv.same c.in-Inner.inner c.next.new.self lends (state_of c.enter-entry.new.self) c.enter-entry.ensures.inner (state_of c.sequence.new.state) _ c.leave.new.self (c.leave.ensures ∙ ap (λ (x : Progress). record x { params = c.sequence.new.state.params }) c.enter-entry.ensures.outer) c.in-Ok.ensures.runs
 
 pub try_each-returns-in-Ok-clause-leaves : goal.try_each-returns-in-Ok-clause-leaves
 try_each-returns-in-Ok-clause-leaves g t c = leaves_then c.loop-branch.invariant.leaves c.in-Ok.ensures.leaves
@@ -268,7 +268,7 @@ pub try_each-returns-in-Some-passed_on-clause-runs : goal.try_each-returns-in-So
 try_each-returns-in-Some-passed_on-clause-runs g t c =
     let inv = c.loop-branch.invariant in
     let lends : c.loop-branch.branches ≡ BranchThen c.in-Inner.inner c.next.new.self = c.in-Some.ensures ∙ ap (λ (x : LentBranch). branch_before (branch_of x) c.next.new.self) c.in-Inner.is in
-    try_stopped c.args.machine.now c.loop-branch.branches c.args.place c.args.component _ c.args.state.now _ c.loop-branch.state _ inv.begun (λ told. g.met.D.Disk.obeys c.loop-branch.work.disk.now told) inv.same c.in-Inner.inner c.next.new.self lends (state_of c.entered-inside.result) c.entered-inside.ensures (state_of c.sequence.new.state) _ c.in-Err.stop c.in-Some-passed_on.stop (sym c.passed_on.ensures ∙ c.in-Some-passed_on.is) c.in-Err.ensures.runs
+    try_stopped c.args.machine.now c.loop-branch.branches c.args.place c.args.component _ c.args.state.now _ c.loop-branch.state _ inv.begun (λ told. g.met.D.Disk.obeys c.loop-branch.work.disk.now told) inv.same c.in-Inner.inner c.next.new.self lends (state_of c.enter-entry.new.self) c.enter-entry.ensures.inner (state_of c.sequence.new.state) _ c.enter-entry.result c.enter-entry.ensures.outer c.in-Err.stop c.in-Some-passed_on.stop (sym c.passed_on.ensures ∙ c.in-Some-passed_on.is) c.in-Err.ensures.runs
 
 pub try_each-returns-in-Some-passed_on-clause-leaves : goal.try_each-returns-in-Some-passed_on-clause-leaves
 try_each-returns-in-Some-passed_on-clause-leaves g t c = leaves_then c.loop-branch.invariant.leaves c.in-Err.ensures.leaves
