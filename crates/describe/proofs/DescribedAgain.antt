@@ -25,6 +25,7 @@ use Rattle.suit_manifest.specs.ManifestWriting.{IsGrammatical, IsSevered}
 use Rattle.suit_manifest.specs.Manifests.{count_said}
 use Rattle.suit_manifest.specs.MembersApart.{HasMember, HasMembers}
 use Rattle.suit_params.specs.declared.digest.Digest.{Digest}
+use Rattle.suit_params.specs.Digests.{IsDigestBytes}
 use Rattle.json_fields.specs.declared.flaw.Flaw.{Flaw}
 use Rattle.author.specs.Making.{apart_member, apart_text as made_text, made_manifest}
 use Rattle.author.specs.Members.{is_one_item}
