@@ -159,6 +159,48 @@ def filled(place, forks, tail):
     return place(forks, [command for n in range(low) for command in tail(n)])
 
 
+# ---- loops in which what happens is told again and again
+
+WRITE = ("act", b"\x12\x0f")
+SWAP = ("act", b"\x18\x1f\x0f")
+INVOKE = ("act", b"\x17\x0f")
+ALL = ("index", b"\x0c\xf5", 2)
+
+
+def content(byte, length):
+    return override((18, byte_string(bytes([byte]) * length)))
+
+
+def turns(count):
+    """A list of two components that take turns."""
+    return index(*[0, 1] * (count // 2))
+
+
+def looped(counts, inner):
+    """Commands in loops over two components, each inside the one before."""
+    for count in reversed(counts):
+        inner = [turns(count), run(*inner)]
+    return inner + [index(0)]
+
+
+def in_loops():
+    """Commands that are done millions of times, each behind its name."""
+    start = [ALL, override((18, b"\x41\xaa"), (22, b"\x01")), index(0)]
+    sizes = [command for number in range(100) for command in (override((3, digest(IMAGE)), (14, head(0, number))), MATCH)]
+    apart = [command for number in range(200) for command in (size(number), index(number % 2))]
+    longs = [content(number, 4100) for number in range(3)]
+    yield "a content of 14,000 bytes, overridden 2,000,000 times", looped((126, 126, 126), [content(7, 14_000)])
+    yield "a content of 4,000 bytes, overridden 2,000,000 times", looped((126, 126, 126), [content(7, 4_000)])
+    yield "three contents of 4,100 bytes, each overridden 680,000 times", looped((100, 100, 68), [index(0), *longs])
+    yield "the same at two components, each 410,000 times", looped((100, 100, 40), [ALL, *longs])
+    yield "a write, done 4,000,000 times", start + looped((20, 20, 2), [WRITE] * 5000)
+    yield "a swap, done 4,000,000 times", start + looped((20, 20, 2), [SWAP] * 5000)
+    yield "200 overrides, one apart from the next, each done 10,000 times", looped((100, 100), apart)
+    invokes = [one for number in range(100) for one in (size(number), INVOKE)]
+    yield "invokes under 100 sizes, done 2,000,000 times", sizes + [index(*[0] * 100), run(index(*[0] * 200), run(*invokes)), index(0)]
+    yield "4,000,000 matches", [index(*[0, 1] * 1000), override((3, digest(IMAGE)))] + [MATCH] * 2000
+
+
 def enclosed(stored, commands, is_wanted, count):
     """They are in the validate member where the states behind them are wanted, else in the invoke member."""
     ids = b"".join(b"\x81\x41" + bytes([number]) for number in range(count))
@@ -186,3 +228,9 @@ def worst(stored, count):
         commands = filled(place, [fork(number) for number in range(many)], TAILS[name])
         shows = "%s %s behind %d times %s%s" % (name, place.__name__, many, fork.__name__, ", with a member behind" if is_wanted else "")
         yield shows, enclosed(stored, commands, is_wanted, 2)
+
+
+def dear(stored):
+    """Those in loops, as envelopes."""
+    for shows, commands in in_loops():
+        yield shows, enclosed(stored, commands, False, 2)

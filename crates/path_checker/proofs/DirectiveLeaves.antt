@@ -100,16 +100,15 @@ Adds-no_copy p c k ps n same none =
 same_number : (a b : ℕ) → ◌≡◌ {A = Option ℕ} (Some a) (Some b) → a ≡ b
 same_number a b e = cc
 
-pub Adds-swap : (p c source : ℕ) (k one : Kept) (ps : Parameters) (n n' : List Kept) → ps ≡ k.state.parameters → Some source ≡ number_of (in_force ps c keys.Source) → one ≡ with_events k (Wrote c ∷ []) → n' ≡ n ++ with_events one (Wrote source ∷ []) ∷ []
+pub Adds-swap : (p c source : ℕ) (k : Kept) (ps : Parameters) (n n' : List Kept) → ps ≡ k.state.parameters → Some source ≡ number_of (in_force ps c keys.Source) → n' ≡ n ++ with_events k (Wrote c ∷ Wrote source ∷ []) ∷ []
     → (f : List Stopped) → Adds (acts_course acts.Swap p c) (k ∷ []) n n' f f
-Adds-swap p c source k one ps n n' same some is pushed =
+Adds-swap p c source k ps n n' same some pushed =
     let both : List Event = Wrote c ∷ Wrote source ∷ [] in
     let some' : Some source ≡ number_of (in_force k.state.parameters c keys.Source) = subst (λ (q : Parameters). Some source ≡ number_of (in_force q c keys.Source)) same some in
-    let made : with_events one (Wrote source ∷ []) ≡ with_events k both = ap (λ (x : Kept). with_events x (Wrote source ∷ [])) is ∙ ap (λ (es : List Event). record { facts = k.facts; events = es; state = k.state }) (append_assoc k.events (Wrote c ∷ []) (Wrote source ∷ [])) in
     let s = writes_at p k (number_of (in_force k.state.parameters c keys.Source)) (λ source. Wrote c ∷ Wrote source ∷ []) both (subst (λ (o : Option ℕ). is_some o ≡ true) some' refl)
     (λ a e. ap (λ (x : ℕ). Wrote c ∷ Wrote x ∷ []) (same_number a source (sym e ∙ sym some')))
     in
-    Adds-writing (acts_course acts.Swap p c) p k both n n' (record { there = s.there; back = s.back }) (tt, (tt, tt)) (tt, (tt, (tt, tt))) (subst (λ (x : Kept). n' ≡ n ++ x ∷ []) made pushed)
+    Adds-writing (acts_course acts.Swap p c) p k both n n' (record { there = s.there; back = s.back }) (tt, (tt, tt)) (tt, (tt, (tt, tt))) pushed
 
 pub Adds-no_swap : (p c : ℕ) (k : Kept) (ps : Parameters) (n : List Kept) → ps ≡ k.state.parameters → None ≡ number_of (in_force ps c keys.Source) → (f : List Stopped) → Adds (acts_course acts.Swap p c) (k ∷ []) n n f f
 Adds-no_swap p c k ps n same none =

@@ -68,6 +68,12 @@ after_write standing after c loses events stand c' d' s' = (
   ],
 )
 
+-- and after a swap
+pub stands_swap : (standing between after : StandingMatches) (events : List Event) (c s : ℕ) → Loses standing c between → Loses between s after → Stands standing events → Stands after (events ++ Wrote c ∷ Wrote s ∷ [])
+stands_swap standing between after events c s one two stand =
+    subst (Stands after) (append_assoc events (Wrote c ∷ []) (Wrote s ∷ []))
+    (after_write between after s two (events ++ Wrote c ∷ []) (after_write standing between c one events stand))
+
 -- an event that neither matches nor writes
 abbrev IsPlain : Event → Type 0
 IsPlain e = (c : ℕ) (d : Digest) (s : Option ℕ) → (e ≡ Matched c d s → ⊥) × (WritesTo c e → ⊥)
@@ -90,10 +96,6 @@ first event (other ∷ events) = other
 same_one : (one other : Event) → one ∷ [] ≡ other ∷ [] → one ≡ other
 unfolding first
 same_one one other is = ap (first one) is
-
-same_head : (one other : Event) (rest more : List Event) → one ∷ rest ≡ other ∷ more → one ≡ other
-unfolding first
-same_head one other rest more is = ap (first one) is
 
 pub told_matched : (standing after : StandingMatches) (told : Told) (c : ℕ) (own : Bor LentMatch) → told ≡ tells.Matched c own → Gains standing c (match_of own.now) after → (event : Event) → told_by told ≡ event ∷ [] → StandsAfter standing event after
 told_matched standing after told c own is gains event one =
@@ -144,13 +146,11 @@ told_other standing (tells.Wrote c) no_match no_write event one = absurd (no_wri
 told_other standing (tells.Matched c own) no_match no_write event one = absurd (no_match c own refl)
 told_other standing (tells.Failed p) no_match no_write event one = by_plain standing _ event (λ c' d' s'. (λ is. absurd cc, λ w. w)) one
 told_other standing (tells.Invoked i) no_match no_write event one = by_plain standing _ event (λ c' d' s'. (λ is. absurd cc, λ w. w)) one
-told_other standing (tells.Several bits components steps) no_match no_write event one = λ events stand. subst (λ (es : List Event). Stands standing (events ++ es)) one (stands_sequence standing events (sequence_tree steps.now) (components_of components) stand)
-told_other standing (tells.Sets bits components list) no_match no_write event one = sets (components_of components) list.now one
-  where
-    sets : (cs : List ℕ) (params : List Param) → sets_at cs params ≡ event ∷ [] → StandsAfter standing event standing
-    sets [] params is = absurd cc
-    sets (c ∷ cs) [] is = sets cs [] is
-    sets (c ∷ cs) (param ∷ params) is = subst (λ (e : Event). StandsAfter standing e standing) (same_head (Set c param) event (set_events c params ++ sets_at cs (param ∷ params)) [] is) (after_plain standing (Set c param) (λ c' d' s'. (λ is. absurd cc, λ w. w)))
+told_other standing (tells.Covered c own) no_match no_write event one = by_plain standing _ event (λ c' d' s'. (λ is. absurd cc, λ w. w)) one
+told_other standing (tells.Swapped c s) no_match no_write event one = absurd cc
+told_other standing (tells.Several several) no_match no_write event one = λ events stand. subst (λ (es : List Event). Stands standing (events ++ es)) one (stands_sequence standing events (sequence_tree several.now.steps.now) (components_of several.now.components) stand)
+told_other standing (tells.Sets c list) no_match no_write event one = λ events stand. subst (λ (es : List Event). Stands standing (events ++ es)) one (stands_sets standing events (c ∷ []) list.now stand)
+told_other standing (tells.SetsAt sets) no_match no_write event one = λ events stand. subst (λ (es : List Event). Stands standing (events ++ es)) one (stands_sets standing events (components_of sets.now.components) sets.now.list.now stand)
 
 -- ---- where the same matches are held
 

@@ -12,10 +12,15 @@ use Rattle.suit_params.specs.declared.param.Param.{Param}
 use Rattle.suit_commands.specs.Tree.{CommandTree, Override, SequenceTree, NoSteps, StepThen}
 use Rattle.suit_commands.specs.View.{sequence_tree}
 use Rattle.path_checker.specs.Selecting.{components_of}
-use Rattle.path_checker.specs.Matches.{match_of, match_event}
+use Rattle.path_checker.specs.Matches.{match_of, match_event, covered_event}
 use Rattle.path_checker.specs.declared.judge_plan.trace.Invoke.{Invoke}
 use Rattle.path_checker.specs.declared.judge_plan.trace.Told.{Told}
 use Rattle.path_checker.specs.declared.judge_plan.trace.Told.TheVariants as told
+use Rattle.path_checker.specs.declared.judge_plan.trace.Four.{Four}
+use Rattle.path_checker.specs.declared.judge_plan.trace.Waiting.{Waiting}
+use Rattle.path_checker.specs.declared.judge_plan.trace.Waiting.TheVariants as waiting
+use Rattle.path_checker.specs.declared.judge_plan.sets.SetsAt.{SetsAt}
+use Rattle.path_checker.specs.declared.judge_plan.sets.Several.{Several}
 
 abbrev pub event_of : Happened → Event
 event_of (lent.Tried component kind passed) = events.Tried component kind passed
@@ -42,15 +47,33 @@ abbrev pub sequence_sets : SequenceTree → List ℕ → List Event
 sequence_sets NoSteps components = []
 sequence_sets (StepThen place command rest) components = command_sets command components ++ sequence_sets rest components
 
+abbrev pub sets_of : SetsAt → List Event
+sets_of sets = sets_at (components_of sets.components) sets.list.now
+
+abbrev pub several_sets : Several → List Event
+several_sets several = sequence_sets (sequence_tree several.steps.now) (components_of several.components)
+
 abbrev pub told_by : Told → List Event
 told_by (told.Tried component kind passed) = events.Tried component kind passed ∷ []
 told_by (told.Missed component) = events.Missed component ∷ []
 told_by (told.Wrote component) = events.Wrote component ∷ []
 told_by (told.Matched component own) = match_event component (match_of own.now) ∷ []
 told_by (told.Failed place) = events.Failed place ∷ []
-told_by (told.Invoked invoke) = invoke_event invoke ∷ []
-told_by (told.Sets bits components list) = sets_at (components_of components) list.now
-told_by (told.Several bits components steps) = sequence_sets (sequence_tree steps.now) (components_of components)
+told_by (told.Swapped component source) = events.Wrote component ∷ events.Wrote source ∷ []
+told_by (told.Covered component own) = covered_event component (match_of own.now) ∷ []
+told_by (told.Invoked invoke) = invoke_event invoke.now ∷ []
+told_by (told.Sets component list) = sets_at (component ∷ []) list.now
+told_by (told.SetsAt sets) = sets_of sets.now
+told_by (told.Several several) = several_sets several.now
+
+abbrev pub four_told : Four → List Event
+four_told told = told_by told.one ++ told_by told.two ++ told_by told.three ++ told_by told.four
+
+abbrev pub waiting_told : Waiting → List Event
+waiting_told waiting.Nothing = []
+waiting_told (waiting.One one) = told_by one
+waiting_told (waiting.Two one two) = told_by one ++ told_by two
+waiting_told (waiting.Three one two three) = told_by one ++ told_by two ++ told_by three
 
 abbrev pub all_told : List Told → List Event
 all_told [] = []

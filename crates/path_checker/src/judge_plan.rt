@@ -30,6 +30,7 @@ mod procedure_walk;
 mod reuse;
 mod same_param;
 mod selected;
+mod sets;
 mod standing;
 mod straight;
 mod trace;

@@ -88,8 +88,7 @@ fn swap<'a>(
 {
     match k.params.source(component) {
         Some(source) => {
-            happens(memory, k, Happened::Wrote { component })?;
-            happens(memory, k, Happened::Wrote { component: source })?;
+            k.history.add_swap(memory, component, source)?;
             Ok(true)
         }
         None => Ok(false),

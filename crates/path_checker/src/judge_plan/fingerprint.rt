@@ -11,8 +11,13 @@ pub(crate) fn mixed(print: u64, number: u64) -> u64 {
 /// The fingerprint of bytes.
 pub(crate) fn of_bytes(bytes: &[u8]) -> u64 {
     let mut print = 1;
-    for byte in bytes {
-        print = mixed(print, *byte as u64);
+    let mut left = bytes;
+    while let Some((eight, rest)) = left.split_first_chunk::<8>() {
+        print = mixed(print, u64::from_le_bytes(*eight));
+        left = rest;
+    }
+    for byte in left {
+        print = mixed(print, u64::from(*byte));
     }
     print
 }

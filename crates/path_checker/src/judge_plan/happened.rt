@@ -1,6 +1,6 @@
 //! Events of a path, lent from the procedure.
 
-ghost use Rattle.std.specs.Prelude.{◌≡◌, ◌≤◌};
+ghost use Rattle.std.specs.Prelude.{◌≡◌};
 ghost use Rattle.std.specs.Option.{option_copied};
 
 use suit_commands::TestKind;
@@ -34,21 +34,6 @@ pub(crate) enum Happened<'a> {
     Failed {
         place: u64,
     },
-}
-
-/// An even number of its own for each kind.
-pub(crate) fn even_number(kind: TestKind) -> u64
-    ensures { result ≤ 12 }
-{
-    match kind {
-        TestKind::Vendor => 0,
-        TestKind::Class => 2,
-        TestKind::Device => 4,
-        TestKind::Slot => 6,
-        TestKind::ImageMatch => 8,
-        TestKind::CheckContent => 10,
-        TestKind::Abort => 12,
-    }
 }
 
 /// How a failed condition ended a sequence: by an event, or as a try each of which each branch had failed before.

@@ -4,6 +4,7 @@ ghost use Rattle.std.specs.Prelude.{◌≡◌, ◌↔◌, [], ◌∷◌, ◌++�
 ghost use Rattle.path_model.specs.Safe.{HasMatched};
 ghost use Rattle.path_model.specs.Following.{SameMatches};
 ghost use Rattle.path_model.specs.declared.event.Event.{Event as TheEvent};
+ghost use Rattle.path_model.specs.declared.event.Event.TheVariants.{Wrote};
 ghost use Rattle.suit_commands.specs.View.{sequence_tree};
 ghost use Rattle.path_checker.specs.Happening.{event_of, after_end, sets_at, sequence_sets, told_by};
 ghost use Rattle.path_checker.specs.Selecting.{components_of};
@@ -130,26 +131,43 @@ impl<'a> History<'a> {
         ensures { OnOk result
             (self.new ≡ self.old ++ sets_at (components_of components.entry) list.now) }
     {
-        self.past.add(memory, Told::sets(place, components, list))?;
+        let told = Told::sets(memory, place, components, list)?;
+        self.past.add(memory, told)?;
         Ok(())
     }
 
-    /// The events of overrides at the same components more, which are lent already. They end no match.
-    pub(crate) fn add_lent(
+    /// The events of a swap more: both components are written.
+    pub(crate) fn add_swap(
+        &mut self,
+        memory: Memory<'a>,
+        component: u32,
+        source: u32,
+    ) -> Result<(), AllocError>
+        ensures { OnOk result
+            (self.new ≡ self.old ++ Wrote component ∷ Wrote source ∷ []) }
+    {
+        self.past.add(memory, Told::Swapped { component, source })?;
+        self.standing.lose(component);
+        self.standing.lose(source);
+        Ok(())
+    }
+
+    /// The events of overrides at the same components more. They end no match.
+    pub(crate) fn add_told(
         &mut self,
         memory: Memory<'a>,
         steps: &[Step],
         components: Components<'_>,
-        told: &'a Told<'a>,
+        told: Told<'a>,
     ) -> Result<(), AllocError>
-        requires { told_by told.now
+        requires { told_by told
             ≡ sequence_sets (sequence_tree steps.now) (components_of components) }
         ensures { OnOk result
             (self.new
             ≡ self.old
             ++ sequence_sets (sequence_tree steps.now) (components_of components.entry)) }
     {
-        self.past.add_lent(memory, told)?;
+        self.past.add(memory, told)?;
         Ok(())
     }
 

@@ -2,7 +2,7 @@
 
 ghost use Rattle.std.specs.Prelude.{◌≡◌, ◌↔◌, [], ◌∷◌, IsTrue, IfOk, OnOk};
 ghost use Rattle.path_checker.specs.Exploring.{In};
-ghost use Rattle.path_checker.specs.Matches.{Match as TheMatch, match_of, matches_from, match_event, SameMembers};
+ghost use Rattle.path_checker.specs.Matches.{Match as TheMatch, match_of, matches_from, match_event, covered_event, SameMembers};
 
 use crate::judge_plan::fingerprint::{mixed, of_bytes, of_number};
 use crate::judge_plan::links::Links;
@@ -48,7 +48,6 @@ impl<'a> Match<'a> {
     /// In memory that all states share. The next state mostly comes to the same.
     pub(crate) fn lent(
         memory: Memory<'a>,
-        component: u32,
         digest: &'a Digest,
         size: Option<u64>,
     ) -> Result<&'a Match<'a>, AllocError>
@@ -65,13 +64,9 @@ impl<'a> Match<'a> {
                 return Ok(other);
             }
         }
-        match memory.events.try_alloc(Match::new(digest, size)) {
-            Ok(own) => {
-                memory.keep_match(print, own);
-                Ok(own)
-            }
-            Err(_) => Err(AllocError),
-        }
+        let own = memory.events.try_alloc(Match::new(digest, size))?;
+        memory.keep_match(print, own)?;
+        Ok(own)
     }
 
     /// The event that a component matched so.
@@ -82,6 +77,18 @@ impl<'a> Match<'a> {
             component,
             digest: *self.digest,
             size: self.size,
+        }
+    }
+
+    /// The event of an invoke of a component that it covers.
+    pub(crate) fn invoked(&self, component: u32) -> Event
+        ensures { result ≡ covered_event component (match_of self.now) }
+    {
+        Event::Invoked {
+            component,
+            digest: Some(*self.digest),
+            size: self.size,
+            passed: true,
         }
     }
 

@@ -16,14 +16,17 @@ pub(crate) const COMPARED: u64 = 4_194_304;
 const LEAST: u64 = 32;
 
 // More states than these share their parameters, even where each has to be compared for it.
-const CROWD: usize = 16_384;
+const CROWD: usize = 4_096;
 
-// How many events are kept where states go on alone, each of which comes to the same events, and how many matches: a power
-// of two, above the number of pairs of a digest and a size in a manifest of 16,384 bytes.
+// How many overrides are kept, and how many matches, at most: a power of two, above the number of pairs of a digest and a size
+// in a manifest of 16,384 bytes.
 const KEPT: usize = 262_144;
 
-// How many are kept before that: a power of two.
-const FIRST: usize = 64;
+// How many are kept at first: a power of two.
+const FIRST: usize = 8;
+
+// By how much they become more where more are made.
+const MORE: usize = 16;
 
 /// The allocators of a judgement, and how many matches it may still compare. Events are freed together, when it ends.
 #[derive(Clone, Copy)]
@@ -38,9 +41,10 @@ pub(crate) struct Memory<'a> {
 /// The values made last, in any state.
 #[derive(Drop)]
 pub(crate) struct Last<'a> {
-    // The last events and matches, by their fingerprints.
-    told: Cell<&'a [Cell<Option<&'a Told<'a>>>]>,
+    // The last overrides and matches, by their fingerprints, and how many were made.
+    told: Cell<&'a [Cell<Option<Told<'a>>>]>,
     matches: Cell<&'a [Cell<Option<&'a Match<'a>>>]>,
+    made: Cell<usize>,
     // How many states are kept at once.
     states: Cell<usize>,
     /// The parameters after an override.
@@ -69,6 +73,7 @@ impl<'a> Last<'a> {
         Last {
             told: Cell::new(&[]),
             matches: Cell::new(&[]),
+            made: Cell::new(0),
             states: Cell::new(0),
             params: Cell::new(None),
             having: none_known(),
@@ -158,16 +163,18 @@ impl<'a> Memory<'a> {
         &known[component % 8]
     }
 
-    /// Keeps more of what happens from now on.
-    pub(crate) fn keep_more(&self) -> Result<(), AllocError> {
-        if self.last.told.get().len() < KEPT {
-            return self.keep_lent(KEPT);
+    // One more is made. Where they have become many, more are kept from now on.
+    fn count(&self) -> Result<(), AllocError> {
+        let (made, kept) = (self.last.made.get(), self.last.told.get().len());
+        self.last.made.set(made.wrapping_add(1));
+        if made > kept && kept < KEPT {
+            return self.keep_lent(kept.wrapping_mul(MORE).min(KEPT));
         }
         Ok(())
     }
 
-    /// The last events with a fingerprint, in any state.
-    pub(crate) fn last_told(&self, print: u64) -> Option<&'a Told<'a>> {
+    /// The last overrides with a fingerprint, in any state.
+    pub(crate) fn last_told(&self, print: u64) -> Option<Told<'a>> {
         let told = self.last.told.get();
         match told.get(first_place(print, told.len())) {
             Some(first) => first.get(),
@@ -176,7 +183,7 @@ impl<'a> Memory<'a> {
     }
 
     /// Another one with a fingerprint, in any state.
-    pub(crate) fn other_told(&self, print: u64) -> Option<&'a Told<'a>> {
+    pub(crate) fn other_told(&self, print: u64) -> Option<Told<'a>> {
         let told = self.last.told.get();
         match told.get(second_place(print, told.len())) {
             Some(second) => second.get(),
@@ -184,8 +191,9 @@ impl<'a> Memory<'a> {
         }
     }
 
-    /// Keeps events with a fingerprint. Two with one fingerprint are kept.
-    pub(crate) fn keep_told(&self, print: u64, last: &'a Told<'a>) {
+    /// Keeps overrides with a fingerprint. Two with one fingerprint are kept.
+    pub(crate) fn keep_told(&self, print: u64, last: Told<'a>) -> Result<(), AllocError> {
+        self.count()?;
         let told = self.last.told.get();
         if let (Some(first), Some(second)) = (
             told.get(first_place(print, told.len())),
@@ -196,6 +204,7 @@ impl<'a> Memory<'a> {
                 None => first.set(Some(last)),
             }
         }
+        Ok(())
     }
 
     /// The last match with a fingerprint, in any state.
@@ -217,7 +226,8 @@ impl<'a> Memory<'a> {
     }
 
     /// Keeps a match with a fingerprint. Two with one fingerprint are kept.
-    pub(crate) fn keep_match(&self, print: u64, last: &'a Match<'a>) {
+    pub(crate) fn keep_match(&self, print: u64, last: &'a Match<'a>) -> Result<(), AllocError> {
+        self.count()?;
         let matches = self.last.matches.get();
         if let (Some(first), Some(second)) = (
             matches.get(first_place(print, matches.len())),
@@ -228,6 +238,7 @@ impl<'a> Memory<'a> {
                 None => first.set(Some(last)),
             }
         }
+        Ok(())
     }
 
     /// Whether two states may be compared, one of which holds so many matches.

@@ -118,7 +118,6 @@ fn each_alone<'a>(
     ensures err { IfErr result
         (λ h. Halts (RunsThen (sequence_tree steps.now) rest.now count) from.entry.items h) }
 {
-    memory.keep_more()?;
     let mut now = from;
     while let Some(k) = now.pop() {
         alone(memory, count, steps, rest, k)?;

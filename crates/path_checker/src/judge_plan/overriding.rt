@@ -109,14 +109,14 @@ fn set_all<'a>(
     Ok(soft_failure)
 }
 
-// Overrides in a state, of which is told by a part that is lent.
+// Overrides in a state, of which these events are told.
 fn override_in<'a>(
     memory: Memory<'a>,
     steps: &'a [Step],
-    told: &'a Told<'a>,
+    told: Told<'a>,
     k: &mut Kept<'a>,
 ) -> Result<(), AllocError>
-    requires { told_by told.now ≡ sequence_sets (sequence_tree steps.now) k.now.state.selection }
+    requires { told_by told ≡ sequence_sets (sequence_tree steps.now) k.now.state.selection }
     ensures { OnOk result (k.new ≡ overridden_by k.old (sequence_tree steps.now)) }
 {
     let components = k.selection.listed(memory.alloc)?;
@@ -128,7 +128,7 @@ fn override_in<'a>(
         &mut k.params,
     )?;
     k.history
-        .add_lent(memory, steps, k.selection.components(), told)?;
+        .add_told(memory, steps, k.selection.components(), told)?;
     Ok(())
 }
 
@@ -136,10 +136,10 @@ fn override_in<'a>(
 fn override_by<'a>(
     memory: Memory<'a>,
     steps: &'a [Step],
-    told: &'a Told<'a>,
+    told: Told<'a>,
     k: Kept<'a>,
 ) -> Result<Kept<'a>, AllocError>
-    requires { told_by told.now ≡ sequence_sets (sequence_tree steps.now) k.state.selection }
+    requires { told_by told ≡ sequence_sets (sequence_tree steps.now) k.state.selection }
     ensures { IfOk result (λ to. to ≡ overridden_by k.entry (sequence_tree steps.now)) }
 {
     let mut k = k;
@@ -148,25 +148,25 @@ fn override_by<'a>(
     settled(memory, k, was_own)
 }
 
-// The events of overrides in a state: those that are lent already, where the same components are selected.
+// The events of overrides in a state: those that are told already, where the same components are selected.
 fn told_of<'a>(
     memory: Memory<'a>,
     steps: &'a [Step],
     components: &Components<'a>,
-    lent: &'a Told<'a>,
+    told: Told<'a>,
     k: &Kept<'a>,
-) -> Result<&'a Told<'a>, AllocError>
+) -> Result<Told<'a>, AllocError>
     requires overrides { AreOverrides (sequence_tree steps.now) }
-    requires lent { told_by lent.now
+    requires told { told_by told
         ≡ sequence_sets (sequence_tree steps.now) (components_of components.now) }
     ensures { IfOk result
-        (λ told. told_by told.now ≡ sequence_sets (sequence_tree steps.now) k.now.state.selection) }
+        (λ own. told_by own ≡ sequence_sets (sequence_tree steps.now) k.now.state.selection) }
 {
     let own = k.selection.components();
     if same_components(components, &own) {
-        return Ok(lent);
+        return Ok(told);
     }
-    Told::several(own, steps).lent(memory)
+    Told::several(memory, own, steps)
 }
 
 /// Overrides that follow one another, in each of the states.
@@ -185,13 +185,13 @@ pub(crate) fn overrides_in_all<'a>(
         Some(k) => k.selection.components(),
         None => Components::First(0),
     };
-    let lent = Told::several(components, steps).lent(memory)?;
+    let first = Told::several(memory, components, steps)?;
     let round = memory.gather(from.len());
     let mut now = from;
     let mut next = Vec::new(memory.alloc);
     while let Some(k) = now.pop() {
         reuse(&mut now, &mut next);
-        let told = told_of(memory, steps, &components, lent, &k)?;
+        let told = told_of(memory, steps, &components, first, &k)?;
         next.push(override_by(memory, steps, told, k)?)?;
     }
     memory.keep(round);
@@ -213,7 +213,7 @@ pub(crate) fn run_overrides<'a>(
         (overridden_by (entered k.entry.state component soft k.entry) (sequence_tree steps.now))) }
 {
     let (selection, soft_failure) = (k.selection.copy(), k.soft_failure);
-    let told = Told::several(Components::One(component), steps).lent(memory)?;
+    let told = Told::several(memory, Components::One(component), steps)?;
     let mut to = override_by(memory, steps, told, enter(component, soft, k))?;
     to.selection = selection;
     to.soft_failure = soft_failure;

@@ -2,10 +2,9 @@
 
 ghost use Rattle.std.specs.Prelude.{◌≡◌, [], ◌++◌, IfOk, OnOk, OnErr};
 ghost use Rattle.path_checker.specs.Happening.{told_by};
-ghost use Rattle.path_checker.specs.Standing.{all_in_order};
 
 use crate::judge_plan::memory::Memory;
-use crate::judge_plan::trace::{Told, Trace};
+use crate::judge_plan::trace::{SharedEvents, Told};
 use path_model::Events;
 use std::alloc::{AllocError, Global};
 use std::marker::Model;
@@ -31,7 +30,7 @@ impl<'a> Model for Since<'a> {
 /// its own.
 #[derive(Drop)]
 pub(crate) struct Past<'a> {
-    shared: Trace<'a>,
+    shared: SharedEvents<'a>,
     since: Option<Since<'a>>,
 }
 
@@ -41,9 +40,9 @@ impl<'a> Model for Past<'a> {
 
     ghost Value = { List Event };
 
-    ghost use Rattle.path_checker.specs.Standing.{all_in_order, with_since};
+    ghost use Rattle.path_checker.specs.Standing.{with_since};
 
-    ghost view = { λ a. with_since (all_in_order a.shared) a.since };
+    ghost view = { λ a. with_since a.shared a.since };
 }
 
 impl<'a> Since<'a> {
@@ -65,16 +64,18 @@ impl<'a> Since<'a> {
     }
 
     // Behind others, in memory that all states share.
-    fn behind(&self, memory: Memory<'a>, shared: Trace<'a>) -> Result<Trace<'a>, AllocError>
-        ensures { IfOk result
-            (λ trace. all_in_order trace ≡ all_in_order shared.entry ++ self.now) }
+    fn behind(
+        &self,
+        memory: Memory<'a>,
+        shared: SharedEvents<'a>,
+    ) -> Result<SharedEvents<'a>, AllocError>
+        ensures { IfOk result (λ all. all ≡ shared.entry ++ self.now) }
     {
-        let mut trace = shared;
+        let mut all = shared;
         for told in self.told.as_slice() {
-            let lent = told.lent(memory)?;
-            trace = trace.with(memory.events, lent)?;
+            all.add(memory.events, *told)?;
         }
-        Ok(trace)
+        Ok(all)
     }
 
     // Adds them to others, in memory of their own.
@@ -94,7 +95,7 @@ impl<'a> Past<'a> {
         ensures { result ≡ [] }
     {
         Past {
-            shared: Trace::new(),
+            shared: SharedEvents::new(),
             since: None,
         }
     }
@@ -106,29 +107,7 @@ impl<'a> Past<'a> {
     {
         match &mut self.since {
             Some(since) => since.add(told),
-            None => {
-                let lent = told.lent(memory)?;
-                self.shared = self.shared.with(memory.events, lent)?;
-                Ok(())
-            }
-        }
-    }
-
-    /// More events, which are lent already.
-    pub(crate) fn add_lent(
-        &mut self,
-        memory: Memory<'a>,
-        told: &'a Told<'a>,
-    ) -> Result<(), AllocError>
-        ensures ok { OnOk result (self.new ≡ self.old ++ told_by told.now) }
-        ensures err { OnErr result (self.new ≡ self.old) }
-    {
-        match &mut self.since {
-            Some(since) => since.add(*told),
-            None => {
-                self.shared = self.shared.with(memory.events, told)?;
-                Ok(())
-            }
+            None => self.shared.add(memory.events, told),
         }
     }
 
@@ -144,8 +123,8 @@ impl<'a> Past<'a> {
     }
 
     // All, in memory that all states share.
-    fn lent(&self, memory: Memory<'a>) -> Result<Trace<'a>, AllocError>
-        ensures { IfOk result (λ trace. all_in_order trace ≡ self.now) }
+    fn lent(&self, memory: Memory<'a>) -> Result<SharedEvents<'a>, AllocError>
+        ensures { IfOk result (λ all. all ≡ self.now) }
     {
         let shared = self.shared.copy();
         match &self.since {

@@ -89,7 +89,7 @@ each_alone-alone-requires t c = (omega (arith, c.decreases), (c.requires.small, 
 
 pub each_alone-returns-in_err-alone-clause-err : goal.each_alone-returns-in_err-alone-clause-err
 each_alone-returns-in_err-alone-clause-err t c =
-    let p = err_from_is_err_and c.from_residual-in_err-alone.result c.from_residual-in_err-alone.ensures.1 in
+    let p = err_from_is_err_and c.from_residual.result c.from_residual.ensures.1 in
     rw (p.1, p.2) (GoesOn-halted (RunsThen (sequence_tree c.args.steps.now) c.args.rest.now c.args.count) c.args.from.items c.loop-k.now.items c.pop.new.self.items c.in-Some.k c.loop-k.invariant c.in-Some.ensures.items c.in_err-alone.field-0.0 c.in_err-alone.ensures.err)
 
 pub each_alone-loop-k-preserved : goal.each_alone-loop-k-preserved

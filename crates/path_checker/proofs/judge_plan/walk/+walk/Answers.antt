@@ -26,6 +26,9 @@ use Rattle.path_checker.proofs.Passing.{Adds-passed}
 use Rattle.path_checker.proofs.Merging.{Adds-states, Adds-behind, Walks-stops_merged}
 use Rattle.path_checker.proofs.judge_plan.walk.+walk.Goals as goal
 
+pub all_at-loop-k-init : goal.all_at-loop-k-init
+all_at-loop-k-init t c = Pops-start (At (command_tree c.args.step.now.command) c.args.count c.args.step.now.place c.args.component) c.args.from.items c.args.failed.now.items c.new-next.result.items c.new-next.ensures.items
+
 pub all_at-loop-k-preserved : goal.all_at-loop-k-preserved
 all_at-loop-k-preserved t c = Pops-step (At (command_tree c.args.step.now.command) c.args.count c.args.step.now.place c.args.component) c.args.from.items c.args.failed.now.items c.loop-k.now.items c.pop.new.self.items c.loop-k.next.items c.loop-k.failed.items c.in-Some.k c.loop-k.invariant c.in-Some.ensures.items c.one.new.next.items c.one.new.failed.items c.in_ok-one.ensures.ok
 

@@ -4,12 +4,12 @@ use Rattle.path_model.specs.declared.event.Event.{Event}
 use Rattle.path_checker.specs.Selecting.{components_of}
 use Rattle.path_checker.specs.Standing.{Stands}
 use Rattle.path_checker.proofs.StandingLaws.{stands_sequence}
-use Rattle.path_checker.proofs.judge_plan.history.History.add_lent.Goals as goal
+use Rattle.path_checker.proofs.judge_plan.history.History.add_told.Goals as goal
 
 pub invariant_of-self : goal.invariant_of-self
-invariant_of-self c = subst (λ (es : List Event). Stands c.self.inside.standing es) (sym c.in_err-add_lent.ensures.err) c.self.invariant
+invariant_of-self c = subst (λ (es : List Event). Stands c.self.inside.standing es) (sym c.in_err-add.ensures.err) c.self.invariant
 
 pub invariant_of-self-2 : goal.invariant_of-self-2
 invariant_of-self-2 c =
-    subst (λ (es : List Event). Stands c.self.inside.standing es) (sym (c.in_ok-add_lent.ensures.ok ∙ ap (λ (part : List Event). c.self.inside.past ++ part) c.requires))
+    subst (λ (es : List Event). Stands c.self.inside.standing es) (sym (c.in_ok-add.ensures.ok ∙ ap (λ (part : List Event). c.self.inside.past ++ part) c.requires))
     (stands_sequence c.self.inside.standing c.self.inside.past (sequence_tree c.args.steps.now) (components_of c.args.components) c.self.invariant)

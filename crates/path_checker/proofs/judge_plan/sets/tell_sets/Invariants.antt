@@ -1,6 +1,6 @@
 use Rattle.std.proofs.Common.{◌≡◌, ◌++◌, drop}
 use Rattle.path_model.specs.Directives.{set_events}
-use Rattle.path_checker.proofs.judge_plan.trace.tell_sets.Given as goal
+use Rattle.path_checker.proofs.judge_plan.sets.tell_sets.Given as goal
 
 abbrev pub invariant-loop-param : goal.invariant-loop-param
 invariant-loop-param l = record {
