@@ -30,6 +30,8 @@ void suit_arena(void *given, size_t length) {
   *at(0) = (struct block){room_length - sizeof(struct block), 0};
 }
 
+size_t suit_arena_in_use(void) { return in_use; }
+
 size_t suit_arena_peak(void) { return peak; }
 
 size_t suit_arena_asked(void) { return asked; }

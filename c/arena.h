@@ -9,6 +9,9 @@
 /* The room, from now on; at least 64 bytes, which stand at a multiple of 16. What was taken of another one is given back no more. */
 void suit_arena(void *room, size_t length);
 
+/* How many bytes are in use, with what each block costs besides. */
+size_t suit_arena_in_use(void);
+
 /* The most bytes that were in use at once, with what each block costs besides. */
 size_t suit_arena_peak(void);
 

@@ -1,5 +1,6 @@
-/* starve: boots from a flash with each block of memory that it asks for refused in turn. Each ends for want of memory, and tells no
- * image: a boot that has what it needs, and so has begun its procedure, asks for none.
+/* starve: boots from a flash, and asks for each slot in use, with each block of memory that is asked for refused in turn. Each ends
+ * for want of memory, tells nothing, and gives back what it took: a boot that has what it needs, and so has begun its procedure, asks
+ * for none.
  *
  *     starve FLASH
  */
@@ -7,15 +8,42 @@
 #include "suit.h"
 
 #include <stdio.h>
+#include <stdlib.h>
+#include <string.h>
 
 static uint8_t flash[4194304];
 static _Alignas(16) uint8_t room[65536];
 
-/* Boots with the block with this number refused, or none where it is 0. */
-static int32_t booted(size_t number, struct suit_image *image) {
+/* What a call answered, and whether it told something. */
+struct told {
+  int32_t answer;
+  int something;
+};
+
+static struct told booted(void) {
+  struct suit_image image;
+  int32_t answer = suit_boot(flash, sizeof flash, &image);
+  return (struct told){answer, image.found != 0};
+}
+
+static struct told looked_for(uint32_t component) {
+  struct suit_slot slot, before;
+  memset(&before, 0xa5, sizeof before);
+  memcpy(&slot, &before, sizeof slot);
+  int32_t answer = suit_slot(flash, sizeof flash, component, &slot);
+  return (struct told){answer, memcmp(&slot, &before, sizeof slot) != 0};
+}
+
+/* A boot is asked for before the first component. */
+static struct told called(int asked, size_t refused) {
   suit_arena(room, sizeof room);
-  suit_arena_refuse(number);
-  return suit_boot(flash, sizeof flash, image);
+  suit_arena_refuse(refused);
+  struct told told = asked < 0 ? booted() : looked_for((uint32_t)asked);
+  if (suit_arena_in_use() != 0) {
+    printf("block %zu refused: %zu bytes are not given back\n", refused, suit_arena_in_use());
+    exit(1);
+  }
+  return told;
 }
 
 int main(int argc, char **argv) {
@@ -27,17 +55,18 @@ int main(int argc, char **argv) {
     return 70;
   }
   fclose(file);
-  struct suit_image image;
-  int32_t answer = booted(0, &image);
-  size_t count = suit_arena_asked();
-  for (size_t number = 1; number <= count; number++) {
-    struct suit_image other;
-    int32_t starved = booted(number, &other);
-    if (starved != SUIT_NO_MEMORY || other.found) {
-      printf("block %zu of %zu refused: %d\n", number, count, (int)starved);
-      return 1;
+  for (int asked = -1; asked < 8; asked++) {
+    struct told whole = called(asked, 0);
+    size_t count = suit_arena_asked();
+    for (size_t number = 1; number <= count; number++) {
+      struct told starved = called(asked, number);
+      if (starved.answer != SUIT_NO_MEMORY || starved.something) {
+        printf("block %zu of %zu refused: %d\n", number, count, (int)starved.answer);
+        return 1;
+      }
     }
+    if (asked < 0)
+      printf("status %d; each of %zu blocks refused ends a boot before its procedure\n", (int)whole.answer, count);
   }
-  printf("status %d; each of %zu blocks refused ends a boot before its procedure\n", (int)answer, count);
   return 0;
 }

@@ -11,7 +11,11 @@
  *
  * What the caller owes, and nothing checks: a buffer is not null, also where its length is 0; the buffers of one call do not
  * overlap; nothing else writes them while the call runs. No call keeps a pointer, or writes more than what it answers. A call that
- * takes memory has given it back when it returns.
+ * takes memory has given it back when it returns. It takes it from c/arena.c, out of a room that the caller gives, or, with the kit's
+ * liblibc_c.a, from malloc.
+ *
+ * What is trusted besides: what gives memory, the port's two functions, the compilers, and that the stack suffices: bench/README.md
+ * says how much of it each call takes.
  */
 #ifndef SUIT_H
 #define SUIT_H
@@ -63,8 +67,8 @@ struct suit_record {
   uint8_t active[8]; /* the slot in use of each component of the layout */
 };
 
-/* SUIT_DONE, or SUIT_REFUSED where the bytes spell no envelope or its manifest is refused: then *place is that of the fault,
- * and *out stays as it was. Whether the envelope is authentic is not asked. */
+/* SUIT_DONE, and *place stays as it was; or SUIT_REFUSED where the bytes spell no envelope or its manifest is refused: then *place
+ * is that of the fault, and *out stays as it was. Whether the envelope is authentic is not asked. */
 int32_t suit_read(const uint8_t *file, size_t length, struct suit_envelope *out, uint64_t *place);
 
 /* SUIT_DONE exactly where the envelope's wrapper states the digest of its manifest and one of its blocks verifies under the
@@ -83,8 +87,8 @@ int32_t suit_status(const uint8_t *flash, size_t length, struct suit_record *out
 int32_t suit_check(const uint8_t *file, size_t length, uint64_t *place);
 
 /* The envelope with its wrapper and manifest alone, to the front of the room: SUIT_DONE, and *count bytes of it; the rest of the room
- * stays. SUIT_REFUSED where the bytes spell no envelope, SUIT_NO_MEMORY, and SUIT_TOO_LONG where the room has fewer than *count
- * bytes: then the room stays as it was. */
+ * stays. SUIT_REFUSED where the bytes spell no envelope, and SUIT_NO_MEMORY: then room and *count stay as they were. SUIT_TOO_LONG
+ * where the room has fewer than *count bytes: then the room stays as it was. */
 int32_t suit_trim(const uint8_t *file, size_t length, uint8_t *room, size_t most, uint64_t *count);
 
 /* The image that a boot starts: so many bytes of the flash from a place on. */
@@ -98,8 +102,9 @@ struct suit_image {
 
 /* SUIT_DONE where the invocation procedure of what is installed ran to its end: where it invoked an image, out->found is 1, the
  * manifest is that of the flash's record and authentic under its key, and on a sound flash the bytes from that place on have that
- * digest. The caller jumps. Otherwise out->found is 0, and the answer is that of `suit run boot`. Nothing is written: a procedure
- * that writes the flash, and a second invoke, are stopped by a fault. */
+ * digest, and the size that the manifest names, if any. The caller jumps. Otherwise out->found is 0, whatever the answer, which is
+ * that of `suit run boot`, or SUIT_NO_MEMORY. Nothing of the flash is written: a procedure that writes it, and a second invoke, are
+ * stopped by a fault. */
 int32_t suit_boot(const uint8_t *flash, size_t length, struct suit_image *out);
 
 /* The content of a component of the flash's layout. */

@@ -5,7 +5,7 @@ ghost use Rattle.boot_c.specs.Images.{Starts, StartsNone};
 ghost use Rattle.flash_layout.specs.Configs.{IsAllowed};
 ghost use Rattle.flash_layout.specs.declared.frame.TheConstants.{VERSION_1};
 ghost use Rattle.invoke_proc.specs.Banks.{config_in};
-ghost use Rattle.std.specs.Prelude.{◌≡◌, ◌≢◌, IfSome, IsNone, length};
+ghost use Rattle.std.specs.Prelude.{◌≡◌, ◌≢◌, ◌⊎◌, IfSome, IsNone, length};
 ghost use Rattle.suit_answers.specs.Answers.{code_of};
 ghost use Rattle.suit_answers.specs.declared.answer.Answer.{Answer};
 ghost use Rattle.suit_answers.specs.declared.answer.Answer.TheVariants as answers;
@@ -127,6 +127,7 @@ fn boot_from(alloc: Global, flash: &[u8]) -> Told
 pub extern "C" fn suit_boot(alloc: Global, flash: &[u8], out: &mut SuitImage) -> i32
     ensures answers { (answer : Answer) × (result ≡ code_of answer) × IsAnswer flash.now answer }
     ensures found { out.new.found ≡ 1 → result ≡ code_of answers.Done }
+    ensures marked { (out.new.found ≡ 0) ⊎ (out.new.found ≡ 1) }
     ensures starts { out.new.found ≡ 1 → Starts flash.now out.new }
     ensures none { result ≡ code_of answers.Done → out.new.found ≢ 1 → StartsNone flash.now }
 {

@@ -44,6 +44,7 @@ fn not_opened(refusal: NotOpened, place: &mut u64) -> Answer
     ensures refused { result ≡ answers.Refused → IsRefusalAt refusal place.new }
     ensures starved { refusal ≡ refusals.NoMemory → result ≡ answers.NoMemory }
     ensures told { result ≡ tells_not_opened refusal }
+    ensures stays { result ≢ answers.Refused → place.new ≡ place.old }
 {
     match refusal {
         NotOpened::NoEnvelope(refusal) | NotOpened::NoManifest(refusal) => {
@@ -63,6 +64,7 @@ fn not_taken(fault: MemberFault, place: &mut u64) -> Answer
     ensures refused { result ≡ answers.Refused → IsMemberRefusalAt fault place.new }
     ensures starved { fault ≡ faults.NoMemory → result ≡ answers.NoMemory }
     ensures told { result ≡ tells_not_taken fault }
+    ensures stays { result ≢ answers.Refused → place.new ≡ place.old }
 {
     match fault {
         MemberFault::Severed(_) => Answer::Severed,
@@ -107,6 +109,7 @@ fn judge_opened(alloc: Global, file: &Opened<'_>, place: &mut u64) -> Answer
     ensures every_fault { (fault : MemberFault)
         → LacksMembers (said_by file.now.envelope) file.now.manifest fault
         → (result ≡ tells_not_taken fault) ⊎ (result ≡ answers.NoMemory) }
+    ensures stays { result ≢ answers.Refused → place.new ≡ place.old }
 {
     procedure_laws();
     let members = match members_of(alloc, &file.envelope, &file.manifest) {
@@ -132,6 +135,7 @@ fn judge_file(alloc: Global, bytes: &[u8], place: &mut u64) -> Answer
     ensures answers { IsFileAnswer bytes.now result }
     ensures every_answer { (answer : Answer) → IsRefusedAs bytes.now answer
         → (result ≡ answer) ⊎ (result ≡ answers.NoMemory) }
+    ensures stays { result ≢ answers.Refused → place.new ≡ place.old }
 {
     admission_laws();
     match open(alloc, bytes, LONGEST_TRIMMED) {
@@ -157,6 +161,7 @@ pub extern "C" fn suit_check(alloc: Global, file: &[u8], place: &mut u64) -> i32
     ensures answers { (answer : Answer) × (result ≡ code_of answer) × IsFileAnswer file.now answer }
     ensures every_answer { (answer : Answer) → IsRefusedAs file.now answer
         → (result ≡ code_of answer) ⊎ (result ≡ code_of answers.NoMemory) }
+    ensures stays { result ≢ code_of answers.Refused → place.new ≡ place.old }
 {
     judge_file(alloc, file, place).code()
 }

@@ -24,6 +24,8 @@ fn trim_into(alloc: Global, file: &[u8], room: &mut [u8], count: &mut u64) -> An
     ensures refused { result ≡ answers.Refused → (r : Refusal) × RefusesBytes file.now r }
     ensures long { result ≡ answers.TooLong → HasNoRoom file.now room.old count.new }
     ensures stays { result ≢ answers.Done → room.new ≡ room.old }
+    ensures no_count { (result ≡ answers.Refused) ⊎ (result ≡ answers.NoMemory)
+        → count.new ≡ count.old }
 {
     let Ok(envelope) = decode_envelope(file) else {
         return Answer::Refused;
@@ -57,6 +59,8 @@ pub extern "C" fn suit_trim(alloc: Global, file: &[u8], room: &mut [u8], count: 
         → (r : Refusal) × RefusesBytes file.now r }
     ensures long { result ≡ code_of answers.TooLong → HasNoRoom file.now room.old count.new }
     ensures stays { result ≢ code_of answers.Done → room.new ≡ room.old }
+    ensures no_count { (result ≡ code_of answers.Refused) ⊎ (result ≡ code_of answers.NoMemory)
+        → count.new ≡ count.old }
 {
     trim_into(alloc, file, room, count).code()
 }

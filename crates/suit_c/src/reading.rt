@@ -60,6 +60,7 @@ pub extern "C" fn suit_read(file: &[u8], out: &mut SuitEnvelope, place: &mut u64
         → IsFile file.now said manifest → result ≡ code_of answers.Done }
     ensures refused { result ≡ code_of answers.Refused → IsRefusedAt file.now place.new }
     ensures stays { result ≡ code_of answers.Refused → out.new ≡ out.old }
+    ensures no_place { result ≡ code_of answers.Done → place.new ≡ place.old }
 {
     match read(file) {
         Ok(numbers) => {

@@ -25,3 +25,8 @@ pub returns-clause-every_answer : goal.returns-clause-every_answer
 returns-clause-every_answer c answer refused =
     let read = to_z-of_z {w = w32} {z = c.code.result} (Prim.search rules) in
     coded _ c.judge_file.result answer (read ∙ c.code.ensures.code) (c.judge_file.ensures.every_answer answer refused)
+
+pub returns-clause-stays : goal.returns-clause-stays
+returns-clause-stays c other =
+    let read = to_z-of_z {w = w32} {z = c.code.result} (Prim.search rules) in
+    c.judge_file.ensures.stays (λ told. other (read ∙ c.code.ensures.code ∙ ap code_of told))
