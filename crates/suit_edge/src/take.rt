@@ -1,6 +1,6 @@
 //! A whole file.
 
-ghost use Rattle.std.specs.Prelude.{◌≡◌, ◌≤◌, ◌+◌, ◌++◌, IsTrue, OnOk};
+ghost use Rattle.std.specs.Prelude.{◌≡◌, ◌≤◌, ◌<◌, ◌+◌, [], ◌++◌, length, IsTrue, OnOk, IfOk, IfErr};
 ghost use Rattle.suit_edge.specs.Take.{TakesAll, KeepsLimit, TakeAsks, TakeCounts, TakesRest};
 
 use crate::{Host, Pulled, Started};
@@ -22,7 +22,11 @@ pub enum Taken {
     NoMemory,
 }
 
-/// The bytes asked for in one pull.
+/// The bytes asked for in one pull while the file may be a small one. Each byte of a room is cleared
+/// beforehand, and most files fit in this one.
+const FRONT: usize = 512;
+
+/// The bytes asked for in one pull of a longer file.
 const PIECE: usize = 4096;
 
 /// The room that is made for a file which is longer than a piece, in bytes. A list of this size
@@ -56,30 +60,73 @@ fn take_rest<H: Host>(alloc: Global, host: &mut H, limit: u64) -> Taken
     ensures counts { TakeCounts result (H.faults host.old) (H.faults host.new) }
 {
     let mut taken = Bytes::new(alloc);
+    let mut front = [0; FRONT];
+    while taken.len() < FRONT {
+        match take_piece(host, limit, &mut taken, &mut front) {
+            Ok(0) => return Taken::Got(taken),
+            Ok(_) => {}
+            Err(outcome) => return outcome,
+        }
+    }
     let mut piece = [0; PIECE];
     loop {
-        let left = limit - taken.len() as u64;
-        let wanted = left.saturating_add(1).min(PIECE as u64) as usize;
-        match host.pull(&mut piece[..wanted]) {
-            Pulled::Failed => return Taken::HostFault,
-            Pulled::Got(0) => return Taken::Got(taken),
-            Pulled::Got(count) => {
-                if left < count as u64 {
-                    return Taken::TooLong(limit);
-                }
-                if add(&mut taken, &piece[..count]).is_err() {
-                    return Taken::NoMemory;
-                }
+        match take_piece(host, limit, &mut taken, &mut piece) {
+            Ok(0) => return Taken::Got(taken),
+            Ok(_) => {}
+            Err(outcome) => return outcome,
+        }
+    }
+}
+
+// Adds the next piece, and tells its length: 0 at the end of the file.
+fn take_piece<H: Host>(
+    host: &mut H,
+    limit: u64,
+    taken: &mut Bytes,
+    piece: &mut [u8],
+) -> Result<usize, Taken>
+    requires within { length taken.old ≤ limit }
+    requires room { 0 < length piece.old }
+    ensures room { length piece.new ≡ length piece.old }
+    ensures files { IsTrue H.told → H.file host.new ≡ H.file host.old }
+    ensures asked { IsTrue H.told → H.asked host.new ≡ H.asked host.old }
+    ensures longer { IfOk result (λ count. length taken.new ≡ length taken.old + count) }
+    ensures within { OnOk result (length taken.new ≤ limit) }
+    ensures parts { OnOk result (IsTrue H.told
+        → taken.old ++ H.rest host.old ≡ taken.new ++ H.rest host.new) }
+    ensures end { IfOk result (λ count. count ≡ 0 → IsTrue H.told → H.rest host.new ≡ []) }
+    ensures pulled { IfOk result (λ count. IsTrue H.told
+        → H.pulled host.new ≡ H.pulled host.old + count) }
+    ensures counts { OnOk result (H.faults host.new ≡ H.faults host.old) }
+    ensures ends { IfErr result (λ outcome. IsTrue H.told
+        → TakesRest outcome (taken.old ++ H.rest host.old) limit) }
+    ensures limits { IfErr result (λ outcome. KeepsLimit outcome limit) }
+    ensures last { IfErr result (λ outcome. IsTrue H.told
+        → length taken.old + H.pulled host.new ≤ H.pulled host.old + (limit + 1)) }
+    ensures faults { IfErr result (λ outcome.
+        TakeCounts outcome (H.faults host.old) (H.faults host.new)) }
+{
+    let left = limit - taken.len() as u64;
+    let wanted = left.saturating_add(1).min(piece.len() as u64) as usize;
+    match host.pull(&mut piece[..wanted]) {
+        Pulled::Failed => Err(Taken::HostFault),
+        Pulled::Got(count) => {
+            if left < count as u64 {
+                return Err(Taken::TooLong(limit));
+            }
+            match add(taken, &piece[..count]) {
+                Ok(()) => Ok(count),
+                Err(_) => Err(Taken::NoMemory),
             }
         }
     }
 }
 
-// Adds a piece. Where the first piece is whole, room for many is made at once.
+// Adds a piece. Where it is the first whole one, room for many is made at once.
 fn add(taken: &mut Bytes, piece: &[u8]) -> Result<(), AllocError>
     ensures { OnOk result (taken.new ≡ taken.old ++ piece.now) }
 {
-    if taken.is_empty() && piece.len() == PIECE {
+    if taken.len() < PIECE && piece.len() == PIECE {
         taken.reserve(ROOM)?;
     }
     taken.extend(piece)
