@@ -2,10 +2,14 @@
 use Rattle.std.proofs.Common.{◌≡◌, ℕ, ◌+◌, List, [], ◌∷◌, ◌++◌, length, Bool, true, false, Option, Some, None, refl, ap, sym, subst, ◌∙◌, arith}
 use Rattle.std.proofs.lemmas.List.{length-append}
 use Rattle.sha2.proofs.Facts256.{length-sha256}
+use Rattle.sha2.proofs.Facts512.{length-sha512}
 use Rattle.det_cbor.specs.DataItem.{DataItem, UnsignedInteger, ByteString, MapOf, NullItem, DataPairs, pair_count, spell, spell_pairs}
 use Rattle.det_cbor.specs.Heads.{head_bytes}
-use Rattle.hmac_mac0.specs.Hmac.{hmac_of}
+use Rattle.hmac_mac0.specs.Algorithms.{size_of}
+use Rattle.hmac_mac0.specs.Hmac.{hmac_of, hmac512_of}
 use Rattle.hmac_mac0.specs.Mac0.{kid_pairs, made_header, tag_of}
+use Rattle.hmac_mac0.specs.declared.mac_kind.MacKind.{MacKind}
+use Rattle.hmac_mac0.specs.declared.mac_kind.MacKind.TheVariants as macs
 use Rattle.suit_params.specs.Digests.{digest_item, sha_256}
 use Rattle.suit_commands.specs.SequenceMaking.{sequence_item}
 use Rattle.suit_envelope.specs.Authentic.{payload_of}
@@ -118,16 +122,18 @@ manifest_same p =
 
 -- ---- the wrapper
 
-tag_long : (key protected payload : List ℕ) → length (tag_of key protected payload) ≡ 32
-unfolding tag_of hmac_of
-tag_long key protected payload = length-sha256 _
+tag_long : (kind : MacKind) (key protected payload : List ℕ) → length (tag_of kind key protected payload) ≡ size_of kind
+unfolding tag_of hmac_of hmac512_of
+tag_long macs.Hmac256 key protected payload = length-sha256 _
+tag_long macs.Hmac512 key protected payload = length-sha512 _
 
 block_same : (key : List ℕ) (kid : Option (List ℕ)) (a b : List ℕ) → length (made_block key kid a) ≡ length (made_block key kid b)
 block_same key kid a b =
-    let s = tag_of key made_header (payload_of a) in
-    let t = tag_of key made_header (payload_of b) in
-    behind (head_bytes 6 17) _ _ (behind (head_bytes 4 4) _ _ (behind (spell (ByteString made_header)) _ _ (behind (spell (MapOf (kid_pairs kid))) _ _ (behind (spell NullItem) _ _
-    (same_append (spell (ByteString s)) (spell (ByteString t)) [] [] (same_string s t (tag_long key made_header (payload_of a) ∙ sym (tag_long key made_header (payload_of b)))) refl)))))
+    let header = made_header macs.Hmac256 in
+    let s = tag_of macs.Hmac256 key header (payload_of a) in
+    let t = tag_of macs.Hmac256 key header (payload_of b) in
+    behind (head_bytes 6 17) _ _ (behind (head_bytes 4 4) _ _ (behind (spell (ByteString header)) _ _ (behind (spell (MapOf (kid_pairs kid))) _ _ (behind (spell NullItem) _ _
+    (same_append (spell (ByteString s)) (spell (ByteString t)) [] [] (same_string s t (tag_long macs.Hmac256 key header (payload_of a) ∙ sym (tag_long macs.Hmac256 key header (payload_of b)))) refl)))))
 
 wrapper_same : (key : List ℕ) (kid : Option (List ℕ)) (a b : List ℕ) → length a ≡ length b → length (made_wrapper key kid a) ≡ length (made_wrapper key kid b)
 wrapper_same key kid a b e =

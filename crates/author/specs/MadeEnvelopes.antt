@@ -4,6 +4,7 @@ use Rattle.std.specs.Prelude.{◌≡◌, ◌⊎◌, ◌<◌, ◌≤◌, ℕ, tru
 use Rattle.det_cbor.specs.DataItem.{spell}
 use Rattle.serde_json.specs.Data.{Data}
 use Rattle.hmac_mac0.specs.Mac0.{made_item, Verifies}
+use Rattle.hmac_mac0.specs.declared.mac_kind.MacKind.TheVariants as macs
 use Rattle.suit_params.specs.Refusing.{SaysWhole}
 use Rattle.suit_envelope.specs.Authentic.{payload_of, IsAuthentic}
 use Rattle.suit_envelope.specs.Envelopes.{EnvelopeSays}
@@ -27,7 +28,7 @@ use Rattle.author.specs.Severances.{parted}
 -- ---- the parts
 
 abbrev pub made_block : List ℕ → Option (List ℕ) → List ℕ → List ℕ
-made_block key kid digest = spell (made_item key kid (payload_of digest))
+made_block key kid digest = spell (made_item macs.Hmac256 key kid (payload_of digest))
 
 abbrev pub made_wrapper : List ℕ → Option (List ℕ) → List ℕ → List ℕ
 made_wrapper key kid digest = spell (wrapper_item digest (made_block key kid digest ∷ []))

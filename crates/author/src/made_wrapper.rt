@@ -9,7 +9,7 @@ ghost use Rattle.suit_envelope.specs.WrapperParts.{WrapperSays};
 ghost use Rattle.author.specs.MadeEnvelopes.{made_block};
 
 use det_cbor::{Bytes, push_count, push_string};
-use hmac_mac0::make_block;
+use hmac_mac0::{MacKind, make_block};
 use std::alloc::{AllocError, Global};
 use suit_params::{Digest, push_digest};
 
@@ -37,7 +37,7 @@ fn both(alloc: Global, stated: &[u8], block: &[u8]) -> Result<Bytes, AllocError>
     Ok(out)
 }
 
-/// The wrapper that states a digest, with one block under a key (draft-ietf-suit-manifest-25, section 8.3). The block's
+/// The wrapper that states a digest, with one block by HMAC 256/256 under a key (draft-ietf-suit-manifest-25, section 8.3). The block's
 /// payload is the digest's array.
 pub(crate) fn made_wrapper(
     alloc: Global,
@@ -52,6 +52,6 @@ pub(crate) fn made_wrapper(
         key.now (payload_of digest.now.bytes)) }
 {
     let stated = digest_bytes(alloc, digest)?;
-    let block = make_block(alloc, key, kid, stated.as_slice())?;
+    let block = make_block(alloc, MacKind::Hmac256, key, kid, stated.as_slice())?;
     both(alloc, stated.as_slice(), block.as_slice())
 }

@@ -1,5 +1,6 @@
 //! The tests.
 
+mod blocks;
 mod cbor;
 mod digests;
 mod macs;

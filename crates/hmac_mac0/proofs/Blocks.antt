@@ -10,9 +10,10 @@ use Rattle.det_cbor.specs.OneReading.{IsItem}
 use Rattle.det_cbor.specs.ArgumentLaws.{IsBytes, IsBytes-rest}
 use Rattle.det_cbor.specs.LevelLaws.{valid_alone}
 use Rattle.det_cbor.proofs.OneSpelling.{one_spelling}
+use Rattle.hmac_mac0.specs.declared.mac_kind.MacKind.{MacKind}
 use Rattle.hmac_mac0.specs.Mac0.{mac0_item, IsHeader, IsMac0}
 use Rattle.hmac_mac0.specs.Layout.{StartsWithString, EndsWithTag, HasParts}
-use Rattle.hmac_mac0.proofs.Headers.{content_bytes}
+use Rattle.hmac_mac0.proofs.Headers.{content_bytes, one_kind}
 use Rattle.det_cbor.specs.ItemHeads.{item_head, item_begins}
 use Rattle.hmac_mac0.proofs.Layouts.{one_head, one_string}
 
@@ -111,21 +112,27 @@ parts_spell block protected tag fits x h =
     let map = second_valid array.items (ByteString protected) (MapOf h.unprotected) (spell NullItem ++ (spell (ByteString tag) ++ [])) array.valid array.size header h.map (sym array.parts) in
     record { valid = (lit< tt, lit< tt, (lit< tt, lit< tt, (header, (map, (tt, (last, tt)))))); is = h.parts }
 
-pub parts_mac0 : (block protected tag : List ℕ) → IsBytes block → IsItem block → HasParts block protected tag → IsHeader protected → IsMac0 block protected tag
-parts_mac0 block protected tag fits x h header = record { header = header; unprotected = h.unprotected; spells = parts_spell block protected tag fits x h }
+pub parts_mac0 : (block : List ℕ) (kind : MacKind) (protected tag : List ℕ) → IsBytes block → IsItem block → HasParts block protected tag → IsHeader kind protected → IsMac0 block kind protected tag
+parts_mac0 block kind protected tag fits x h header = record { header = header; unprotected = h.unprotected; spells = parts_spell block protected tag fits x h }
 
-pub mac0_parts : (block protected tag : List ℕ) → IsMac0 block protected tag → HasParts block protected tag
-mac0_parts block protected tag m =
+pub mac0_parts : (block : List ℕ) (kind : MacKind) (protected tag : List ℕ) → IsMac0 block kind protected tag → HasParts block protected tag
+mac0_parts block kind protected tag m =
     let v = m.spells.valid.2.2 in
     record { unprotected = m.unprotected; map = valid_alone 2 (MapOf m.unprotected) v.1.0; short_header = v.0.0; short_tag = v.1.1.1.0.0; parts = m.spells.is }
 
-pub mac0_item_is : (block protected tag : List ℕ) → IsMac0 block protected tag → IsItem block
-mac0_item_is block protected tag m = (mac0_item protected m.unprotected tag, m.spells)
+pub mac0_item_is : (block : List ℕ) (kind : MacKind) (protected tag : List ℕ) → IsMac0 block kind protected tag → IsItem block
+mac0_item_is block kind protected tag m = (mac0_item protected m.unprotected tag, m.spells)
 
 -- ---- the law
 
--- a block has one protected header and one tag
-pub one_mac0 : (block p q s t : List ℕ) → IsMac0 block p s → IsMac0 block q t → (p ≡ q) × (s ≡ t)
-one_mac0 block p q s t a b =
+-- a block has one algorithm, one protected header and one tag
+pub record SameParts (j k : MacKind) (p q s t : List ℕ) : Type 0 where
+  pub kind : j ≡ k
+  pub protected : p ≡ q
+  pub tag : s ≡ t
+
+pub one_mac0 : (block : List ℕ) (j k : MacKind) (p q s t : List ℕ) → IsMac0 block j p s → IsMac0 block k q t → SameParts j k p q s t
+one_mac0 block j k p q s t a b =
     let same = (one_spelling 0 0 (mac0_item p a.unprotected s) (mac0_item q b.unprotected t) [] [] a.spells.valid b.spells.valid (ap (λ x. x ++ []) (sym a.spells.is ∙ b.spells.is))).0 in
-    (cc, cc)
+    let header : p ≡ q = cc in
+    record { kind = one_kind j k q (subst (IsHeader j) header a.header) b.header; protected = header; tag = cc }

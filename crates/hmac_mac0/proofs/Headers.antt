@@ -1,11 +1,14 @@
--- The two spellings of a protected header.
-use Rattle.std.proofs.Common.{◌≡◌, ℕ, List, [], ◌∷◌, ◌++◌, length, Option, Some, None, refl, sym, ap, subst, ◌∙◌, lit<}
+-- The two spellings of a protected header for each algorithm.
+use Rattle.std.proofs.Common.{◌≡◌, ℕ, List, [], ◌∷◌, ◌++◌, length, get_or, Option, Some, None, refl, sym, ap, subst, ◌∙◌, lit<, arith}
 use Rattle.std.proofs.lemmas.List.{take_at}
 use Rattle.std.specs.List.{AllByRecursion}
 use Rattle.det_cbor.specs.Heads.{head_bytes}
-use Rattle.det_cbor.specs.DataItem.{UnsignedInteger, ByteString, spell, IsAbove, IsByte, IsString, Spells}
+use Rattle.det_cbor.specs.DataItem.{UnsignedInteger, ByteString, spell, IsAbove, IsByte, IsString, IsValid, Spells}
 use Rattle.det_cbor.specs.ArgumentLaws.{IsBytes, all_bytes, IsBytes-take, IsBytes-rest}
-use Rattle.hmac_mac0.specs.Mac0.{mac_header, IsHeader}
+use Rattle.hmac_mac0.specs.Algorithms.{number_of}
+use Rattle.hmac_mac0.specs.declared.mac_kind.MacKind.{MacKind}
+use Rattle.hmac_mac0.specs.declared.mac_kind.MacKind.TheVariants as macs
+use Rattle.hmac_mac0.specs.Mac0.{mac_header, made_header, IsHeader}
 use Rattle.hmac_mac0.specs.Layout.{StartsWithString}
 
 pub bytes_front : (front rest : List ℕ) → IsBytes (front ++ rest) → IsBytes front
@@ -16,56 +19,79 @@ pub content_bytes : (bytes content rest : List ℕ) → IsBytes bytes → bytes 
 content_bytes bytes content rest fits e =
     all_bytes content (IsBytes-rest (head_bytes 2 (length content)) content (bytes_front (spell (ByteString content)) rest (subst IsBytes e fits)))
 
-abbrev pub plain : List ℕ
-plain = 0xa1 ∷ 0x01 ∷ 0x05 ∷ []
+abbrev pub front_of_kid : MacKind → List ℕ
+front_of_kid kind = 0xa2 ∷ 0x01 ∷ number_of kind ∷ 0x04 ∷ []
 
-abbrev pub front_of_kid : List ℕ
-front_of_kid = 0xa2 ∷ 0x01 ∷ 0x05 ∷ 0x04 ∷ []
-
-plain_spelling : spell (mac_header None) ≡ plain
+plain_spelling : (kind : MacKind) → spell (mac_header kind None) ≡ made_header kind
 unfolding head_bytes
-plain_spelling = refl
+plain_spelling macs.Hmac256 = refl
+plain_spelling macs.Hmac512 = refl
 
-kid_spelling : (kid string : List ℕ) → head_bytes 5 2 ++ (head_bytes 0 1 ++ (head_bytes 0 5 ++ (head_bytes 0 4 ++ (string ++ [])))) ≡ front_of_kid ++ (string ++ [])
+kid_spelling : (kind : MacKind) (string : List ℕ) →
+    head_bytes 5 2 ++ (head_bytes 0 1 ++ (head_bytes 0 (number_of kind) ++ (head_bytes 0 4 ++ (string ++ [])))) ≡ front_of_kid kind ++ (string ++ [])
 unfolding head_bytes
-kid_spelling kid string = refl
+kid_spelling macs.Hmac256 string = refl
+kid_spelling macs.Hmac512 string = refl
 
 -- 1 stands before 4
 in_order : IsAbove (Some (spell (UnsignedInteger 1))) (spell (UnsignedInteger 4))
 unfolding head_bytes
 in_order = refl
 
-pub plain_header : (protected : List ℕ) → protected ≡ plain → IsHeader protected
-plain_header protected e = record { kid = None; spells = record { valid = (lit< tt, lit< tt, (lit< tt, tt, lit< tt, tt)); is = e ∙ sym plain_spelling } }
+plain_valid : (kind : MacKind) → IsValid (mac_header kind None)
+plain_valid macs.Hmac256 = (lit< tt, lit< tt, (lit< tt, tt, lit< tt, tt))
+plain_valid macs.Hmac512 = (lit< tt, lit< tt, (lit< tt, tt, lit< tt, tt))
 
-pub kid_header : (protected rest kid : List ℕ) → IsBytes protected → protected ≡ front_of_kid ++ rest → StartsWithString rest kid [] → IsHeader protected
-kid_header protected rest kid fits e s =
-    let string : IsString kid = (s.short, content_bytes rest kid [] (IsBytes-rest front_of_kid rest (subst IsBytes e fits)) s.parts) in
+kid_valid : (kind : MacKind) (kid : List ℕ) → IsString kid → IsValid (mac_header kind (Some kid))
+kid_valid macs.Hmac256 kid string = (lit< tt, lit< tt, (lit< tt, tt, lit< tt, (lit< tt, in_order, string, tt)))
+kid_valid macs.Hmac512 kid string = (lit< tt, lit< tt, (lit< tt, tt, lit< tt, (lit< tt, in_order, string, tt)))
+
+pub plain_header : (kind : MacKind) (protected : List ℕ) → protected ≡ made_header kind → IsHeader kind protected
+plain_header kind protected e = record { kid = None; spells = record { valid = plain_valid kind; is = e ∙ sym (plain_spelling kind) } }
+
+pub kid_header : (kind : MacKind) (protected rest kid : List ℕ) → IsBytes protected → protected ≡ front_of_kid kind ++ rest → StartsWithString rest kid [] → IsHeader kind protected
+kid_header kind protected rest kid fits e s =
+    let string : IsString kid = (s.short, content_bytes rest kid [] (IsBytes-rest (front_of_kid kind) rest (subst IsBytes e fits)) s.parts) in
     record {
       kid = Some kid;
       spells = record {
-        valid = (lit< tt, lit< tt, (lit< tt, tt, lit< tt, (lit< tt, in_order, string, tt)));
-        is = e ∙ ap (λ r. front_of_kid ++ r) s.parts ∙ sym (kid_spelling kid (spell (ByteString kid)));
+        valid = kid_valid kind kid string;
+        is = e ∙ ap (λ r. front_of_kid kind ++ r) s.parts ∙ sym (kid_spelling kind (spell (ByteString kid)));
       };
     }
 
-clash : (rest : List ℕ) → front_of_kid ++ rest ≡ plain → ⊥
-clash rest e = cc
+clash : (kind : MacKind) (rest : List ℕ) → front_of_kid kind ++ rest ≡ made_header kind → ⊥
+clash kind rest e = cc
 
-same_rest : (a b : List ℕ) → front_of_kid ++ a ≡ front_of_kid ++ b → a ≡ b
-same_rest a b e = cc
+same_rest : (kind : MacKind) (a b : List ℕ) → front_of_kid kind ++ a ≡ front_of_kid kind ++ b → a ≡ b
+same_rest kind a b e = cc
 
-header_cases : (P : Type 0) (protected : List ℕ) (kid : Option (List ℕ)) → Spells (mac_header kid) protected → (protected ≡ plain → P)
-    → ((content : List ℕ) → IsString content → protected ≡ front_of_kid ++ (spell (ByteString content) ++ []) → P) → P
-header_cases P protected None s f g = f (s.is ∙ plain_spelling)
-header_cases P protected (Some kid) s f g = g kid s.valid.2.3.2 (s.is ∙ kid_spelling kid (spell (ByteString kid)))
+header_cases : (P : Type 0) (kind : MacKind) (protected : List ℕ) (kid : Option (List ℕ)) → Spells (mac_header kind kid) protected → (protected ≡ made_header kind → P)
+    → ((content : List ℕ) → IsString content → protected ≡ front_of_kid kind ++ (spell (ByteString content) ++ []) → P) → P
+header_cases P kind protected None s f g = f (s.is ∙ plain_spelling kind)
+header_cases P kind protected (Some kid) s f g = g kid s.valid.2.3.2 (s.is ∙ kid_spelling kind (spell (ByteString kid)))
 
 -- after the front with a kid, a header is a kid and no more
-pub kid_alone : (protected rest : List ℕ) → protected ≡ front_of_kid ++ rest → IsHeader protected → (kid : List ℕ) × StartsWithString rest kid []
-kid_alone protected rest e h =
-    header_cases ((kid : List ℕ) × StartsWithString rest kid []) protected h.kid h.spells (λ p. absurd (clash rest (sym e ∙ p)))
-    (λ kid string p. (kid, record { short = string.0; parts = same_rest rest (spell (ByteString kid) ++ []) (sym e ∙ p) }))
+pub kid_alone : (kind : MacKind) (protected rest : List ℕ) → protected ≡ front_of_kid kind ++ rest → IsHeader kind protected → (kid : List ℕ) × StartsWithString rest kid []
+kid_alone kind protected rest e h =
+    header_cases ((kid : List ℕ) × StartsWithString rest kid []) kind protected h.kid h.spells (λ p. absurd (clash kind rest (sym e ∙ p)))
+    (λ kid string p. (kid, record { short = string.0; parts = same_rest kind rest (spell (ByteString kid) ++ []) (sym e ∙ p) }))
 
 -- with another front, a header is the plain one
-pub header_plain : (protected : List ℕ) → ((rest : List ℕ) → protected ≡ front_of_kid ++ rest → ⊥) → IsHeader protected → protected ≡ plain
-header_plain protected other h = header_cases (protected ≡ plain) protected h.kid h.spells (λ p. p) (λ kid string p. absurd (other (spell (ByteString kid) ++ []) p))
+pub header_plain : (kind : MacKind) (protected : List ℕ) → ((rest : List ℕ) → protected ≡ front_of_kid kind ++ rest → ⊥) → IsHeader kind protected → protected ≡ made_header kind
+header_plain kind protected other h = header_cases (protected ≡ made_header kind) kind protected h.kid h.spells (λ p. p) (λ kid string p. absurd (other (spell (ByteString kid) ++ []) p))
+
+-- ---- a header names one algorithm
+
+third_byte : (kind : MacKind) (protected : List ℕ) → IsHeader kind protected → get_or protected 2 0 ≡ number_of kind
+third_byte kind protected h =
+    header_cases (get_or protected 2 0 ≡ number_of kind) kind protected h.kid h.spells (ap (λ (l : List ℕ). get_or l 2 0)) (λ kid string p. ap (λ (l : List ℕ). get_or l 2 0) p)
+
+same_kind : (a b : MacKind) → number_of a ≡ number_of b → a ≡ b
+same_kind macs.Hmac256 macs.Hmac256 e = refl
+same_kind macs.Hmac256 macs.Hmac512 e = absurd (omega (arith, e))
+same_kind macs.Hmac512 macs.Hmac256 e = absurd (omega (arith, e))
+same_kind macs.Hmac512 macs.Hmac512 e = refl
+
+pub one_kind : (a b : MacKind) (protected : List ℕ) → IsHeader a protected → IsHeader b protected → a ≡ b
+one_kind a b protected x y = same_kind a b (sym (third_byte a protected x) ∙ third_byte b protected y)

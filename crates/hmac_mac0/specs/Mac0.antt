@@ -1,7 +1,8 @@
--- COSE_Mac0 (RFC 9052, section 6), with HMAC 256/256 as the algorithm.
+-- COSE_Mac0 (RFC 9052, section 6), with HMAC 256/256 or HMAC 512/512 as the algorithm.
 use Rattle.std.specs.Prelude.{◌≡◌, ℕ, List, [], ◌∷◌, Option, Some, None, codes}
 use Rattle.det_cbor.specs.DataItem.{DataItem, UnsignedInteger, ByteString, TextString, ArrayOf, MapOf, TaggedItem, NullItem, NoItems, ItemThen, DataPairs, NoPairs, PairThen, spell, Spells}
-use Rattle.hmac_mac0.specs.Hmac.{hmac_of}
+use Rattle.hmac_mac0.specs.Algorithms.{number_of, mac_of}
+use Rattle.hmac_mac0.specs.declared.mac_kind.MacKind.{MacKind}
 
 -- ["MAC0", protected, external_aad, payload], with no external data (RFC 9052, section 6.3)
 abbrev pub mac_structure : List ℕ → List ℕ → DataItem
@@ -11,9 +12,9 @@ mac_structure protected payload =
     (ItemThen (ByteString protected)
     (ItemThen (ByteString []) (ItemThen (ByteString payload) NoItems))))
 
--- the tag by this key: the MAC of the structure's encoding
-unfoldable pub tag_of : List ℕ → List ℕ → List ℕ → List ℕ
-tag_of key protected payload = hmac_of key (spell (mac_structure protected payload))
+-- the tag by an algorithm and a key: the MAC of the structure's encoding
+unfoldable pub tag_of : MacKind → List ℕ → List ℕ → List ℕ → List ℕ
+tag_of kind key protected payload = mac_of kind key (spell (mac_structure protected payload))
 
 -- ---- the form of a block
 
@@ -22,9 +23,10 @@ abbrev pub kid_pairs : Option (List ℕ) → DataPairs
 kid_pairs None = NoPairs
 kid_pairs (Some kid) = PairThen (UnsignedInteger 4) (ByteString kid) NoPairs
 
--- 1 (alg) to 5 (HMAC 256/256), and maybe a kid (RFC 9052, section 3.1; RFC 9053, section 3.1)
-abbrev pub mac_header : Option (List ℕ) → DataItem
-mac_header kid = MapOf (PairThen (UnsignedInteger 1) (UnsignedInteger 5) (kid_pairs kid))
+-- 1 (alg) to the number of an algorithm, and maybe a kid (RFC 9052, section 3.1)
+abbrev pub mac_header : MacKind → Option (List ℕ) → DataItem
+mac_header kind kid =
+    MapOf (PairThen (UnsignedInteger 1) (UnsignedInteger (number_of kind)) (kid_pairs kid))
 
 -- tag 17 round [protected, unprotected, payload, tag], whose payload is detached (RFC 9052, section
 -- 6.2)
@@ -36,37 +38,41 @@ mac0_item protected unprotected tag =
     (ItemThen (MapOf unprotected)
     (ItemThen NullItem (ItemThen (ByteString tag) NoItems)))))
 
--- these bytes are a protected header
-pub record IsHeader (protected : List ℕ) : Type 0 where
+-- these bytes are a protected header, which names this algorithm
+pub record IsHeader (kind : MacKind) (protected : List ℕ) : Type 0 where
   pub kid : Option (List ℕ)
-  pub spells : Spells (mac_header kid) protected
+  pub spells : Spells (mac_header kind kid) protected
 
--- the whole block is a COSE_Mac0 with this protected header and this tag
-pub record IsMac0 (block protected tag : List ℕ) : Type 0 where
-  pub header : IsHeader protected
+-- the whole block is a COSE_Mac0 with this protected header, which names this algorithm, and this
+-- tag
+pub record IsMac0 (block : List ℕ) (kind : MacKind) (protected tag : List ℕ) : Type 0 where
+  pub header : IsHeader kind protected
   pub unprotected : DataPairs
   pub spells : Spells (mac0_item protected unprotected tag) block
 
--- the block's tag is that of the key and the payload
+-- the block's tag is that of the key and the payload, by the algorithm that the block names
 pub record Verifies (block key payload : List ℕ) : Type 0 where
+  pub kind : MacKind
   pub protected : List ℕ
   pub tag : List ℕ
-  pub is_block : IsMac0 block protected tag
-  pub matches : tag ≡ tag_of key protected payload
+  pub is_block : IsMac0 block kind protected tag
+  pub matches : tag ≡ tag_of kind key protected payload
 
 -- the block has another tag than the expected one, that of the key and the payload
 pub record Mismatches (block key payload expected found : List ℕ) : Type 0 where
+  pub kind : MacKind
   pub protected : List ℕ
-  pub is_block : IsMac0 block protected found
-  pub computed : expected ≡ tag_of key protected payload
+  pub is_block : IsMac0 block kind protected found
+  pub computed : expected ≡ tag_of kind key protected payload
   pub other : found ≡ expected → ⊥
 
 -- ---- the blocks that are made
 
--- the map of 1 (alg) to 5 (HMAC 256/256), spelled
-abbrev pub made_header : List ℕ
-made_header = 0xa1 ∷ 0x01 ∷ 0x05 ∷ []
+-- the map of 1 (alg) to the number of an algorithm, spelled
+abbrev pub made_header : MacKind → List ℕ
+made_header kind = 0xa1 ∷ 0x01 ∷ number_of kind ∷ []
 
 -- with that header, the kid unprotected, and the tag of the key and the payload
-abbrev pub made_item : List ℕ → Option (List ℕ) → List ℕ → DataItem
-made_item key kid payload = mac0_item made_header (kid_pairs kid) (tag_of key made_header payload)
+abbrev pub made_item : MacKind → List ℕ → Option (List ℕ) → List ℕ → DataItem
+made_item kind key kid payload =
+    mac0_item (made_header kind) (kid_pairs kid) (tag_of kind key (made_header kind) payload)

@@ -4,29 +4,39 @@ ghost use Rattle.std.specs.Prelude.{◌↔◌, IsTrue, List, ℕ, IfSome, IfNone
 ghost use Rattle.det_cbor.specs.OneReading.{IsItem};
 ghost use Rattle.hmac_mac0.specs.Mac0.{IsMac0};
 ghost use Rattle.hmac_mac0.specs.Layout.{HasParts};
+ghost use Rattle.hmac_mac0.specs.declared.mac_kind.MacKind.{MacKind};
 
-use crate::header::is_header;
+use crate::MacKind;
+use crate::header::algorithm;
 use crate::layout::{last_tag, string};
 use det_cbor::Cursor;
 
 // The heads of tag 17 and of an array of four.
 const FRONT: [u8; 2] = [0xd1, 0x84];
 
-/// The parts of a Mac0 block: the content of its protected header, and its tag.
+/// The parts of a Mac0 block: its algorithm, the content of its protected header, and its tag.
 #[derive(Clone, Copy)]
 pub(crate) struct Parts<'a> {
+    pub(crate) kind: MacKind,
     pub(crate) protected: &'a [u8],
     pub(crate) tag: &'a [u8],
 }
 
 /// The parts of a Mac0 block, or `None` where the bytes are of another kind.
 pub(crate) fn read_block(block: &[u8]) -> Option<Parts<'_>>
-    ensures some { IfSome result (λ parts. IsMac0 block.now parts.protected.now parts.tag.now) }
-    ensures none { IfNone result ((protected tag : List ℕ) → IsMac0 block.now protected tag → ⊥) }
+    ensures some { IfSome result
+        (λ parts. IsMac0 block.now parts.kind parts.protected.now parts.tag.now) }
+    ensures none { IfNone result ((kind : MacKind) (protected tag : List ℕ)
+        → IsMac0 block.now kind protected tag → ⊥) }
 {
-    let parts = split_block(block)?;
-    if is_item(block) && is_header(parts.protected) {
-        Some(parts)
+    let (protected, tag) = split_block(block)?;
+    let kind = algorithm(protected)?;
+    if is_item(block) {
+        Some(Parts {
+            kind,
+            protected,
+            tag,
+        })
     } else {
         None
     }
@@ -40,14 +50,14 @@ fn is_item(bytes: &[u8]) -> bool
     cursor.skip().is_ok() && cursor.left() == 0
 }
 
-// The parts of bytes that are laid out as a block.
-fn split_block(block: &[u8]) -> Option<Parts<'_>>
-    ensures some { IfSome result (λ parts. HasParts block.now parts.protected.now parts.tag.now) }
+// The content of the protected header and the tag of bytes that are laid out as a block.
+fn split_block(block: &[u8]) -> Option<(&[u8], &[u8])>
+    ensures some { IfSome result (λ parts. HasParts block.now parts.0.now parts.1.now) }
     ensures none { IfNone result ((protected tag : List ℕ) → HasParts block.now protected tag → ⊥) }
 {
     let rest = block.strip_prefix(&FRONT)?;
     let mut cursor = Cursor::new(rest, 0);
     let protected = string(&mut cursor)?;
     let tag = last_tag(&mut cursor)?;
-    Some(Parts { protected, tag })
+    Some((protected, tag))
 }

@@ -1,23 +1,43 @@
 //! The protected header of a Mac0 block (RFC 9052, section 3.1).
 
-ghost use Rattle.std.specs.Prelude.{◌↔◌, IsTrue};
-ghost use Rattle.hmac_mac0.specs.Mac0.{IsHeader};
+ghost use Rattle.std.specs.Prelude.{◌≡◌, ◌↔◌, IsTrue, IfSome, IfNone};
+ghost use Rattle.hmac_mac0.specs.Mac0.{IsHeader, made_header};
+ghost use Rattle.hmac_mac0.specs.declared.mac_kind.MacKind.{MacKind};
 
+use crate::MacKind;
 use crate::compare::are_equal;
 use crate::layout::is_string;
+use crate::mac_kind::number;
 
-/// The map of 1 (alg) to 5 (HMAC 256/256), spelled.
-pub(crate) const HEADER: [u8; 3] = [0xa1, 0x01, 0x05];
-
-// The same with a second key, 4 (kid), up to its value.
-const HEADER_WITH_KID: [u8; 4] = [0xa2, 0x01, 0x05, 0x04];
-
-/// Whether the bytes are a protected header: the algorithm, and maybe a kid.
-pub(crate) fn is_header(protected: &[u8]) -> bool
-    ensures { IsTrue result ↔ IsHeader protected.now }
+/// The map of 1 (alg) to an algorithm, spelled.
+pub(crate) fn header(kind: MacKind) -> [u8; 3]
+    ensures { result ≡ made_header kind }
 {
-    match protected.strip_prefix(&HEADER_WITH_KID) {
+    [0xa1, 0x01, number(kind)]
+}
+
+// Whether the bytes are a protected header of this algorithm: the algorithm, and maybe a kid.
+fn is_header(kind: MacKind, protected: &[u8]) -> bool
+    ensures { IsTrue result ↔ IsHeader kind protected.now }
+{
+    // The map of 1 (alg) and 4 (kid), up to the kid.
+    let with_kid = [0xa2, 0x01, number(kind), 0x04];
+    match protected.strip_prefix(&with_kid) {
         Some(kid) => is_string(kid),
-        None => are_equal(protected, &HEADER),
+        None => are_equal(protected, &header(kind)),
+    }
+}
+
+/// The algorithm of a protected header, or `None` where the bytes are none.
+pub(crate) fn algorithm(protected: &[u8]) -> Option<MacKind>
+    ensures some { IfSome result (λ kind. IsHeader kind protected.now) }
+    ensures none { IfNone result ((kind : MacKind) → IsHeader kind protected.now → ⊥) }
+{
+    if is_header(MacKind::Hmac256, protected) {
+        Some(MacKind::Hmac256)
+    } else if is_header(MacKind::Hmac512, protected) {
+        Some(MacKind::Hmac512)
+    } else {
+        None
     }
 }

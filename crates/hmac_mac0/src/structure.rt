@@ -4,9 +4,12 @@ ghost use Rattle.std.specs.Prelude.{◌≡◌, ◌<◌, ◌++◌, ◌∷◌, Lis
 ghost use Rattle.det_cbor.specs.DataItem.{ByteString, spell};
 ghost use Rattle.det_cbor.specs.Heads.{head_bytes};
 ghost use Rattle.hmac_mac0.specs.Mac0.{tag_of};
-ghost use Rattle.hmac_mac0.specs.MacState.{HasTaken};
+ghost use Rattle.hmac_mac0.specs.MacState.{HasTakenBy};
+ghost use Rattle.hmac_mac0.specs.Tags.{tag_bytes};
+ghost use Rattle.hmac_mac0.specs.declared.mac_kind.MacKind.{MacKind};
 
-use crate::Mac;
+use crate::any_mac::AnyMac;
+use crate::{MacKind, MacTag};
 use det_cbor::{HeadKind, ShortHead};
 
 // An array of four, and its first element.
@@ -15,11 +18,11 @@ const CONTEXT: [u8; 6] = *b"\x84\x64MAC0";
 // The byte string of no external data.
 const NO_EXTERNAL: [u8; 1] = [0x40];
 
-/// The tag of a protected header and a payload.
-pub(crate) fn tag(key: &[u8], protected: &[u8], payload: &[u8]) -> [u8; 32]
-    ensures { result ≡ tag_of key.now protected.now payload.now }
+/// The tag of a protected header and a payload, by an algorithm.
+pub(crate) fn tag(kind: MacKind, key: &[u8], protected: &[u8], payload: &[u8]) -> MacTag
+    ensures { tag_bytes result ≡ tag_of kind key.now protected.now payload.now }
 {
-    let mut mac = Mac::new(key);
+    let mut mac = AnyMac::new(kind, key);
     mac.add(&CONTEXT);
     add_string(&mut mac, protected);
     mac.add(&NO_EXTERNAL);
@@ -28,27 +31,27 @@ pub(crate) fn tag(key: &[u8], protected: &[u8], payload: &[u8]) -> [u8; 32]
 }
 
 // Adds the spelling of a byte string.
-fn add_string(mac: &mut Mac, content: &[u8])
-    ensures { (key message : List ℕ) → HasTaken mac.old key message
-        → HasTaken mac.new key (message ++ spell (ByteString content.now)) }
+fn add_string(mac: &mut AnyMac, content: &[u8])
+    ensures { (kind : MacKind) (key message : List ℕ) → HasTakenBy kind mac.old key message
+        → HasTakenBy kind mac.new key (message ++ spell (ByteString content.now)) }
 {
     add_head(mac, content.len() as u64);
     mac.add(content);
 }
 
 // Adds a first byte and what follows it.
-fn add_parts(mac: &mut Mac, first: u8, rest: &[u8])
-    ensures { (key message : List ℕ) → HasTaken mac.old key message
-        → HasTaken mac.new key (message ++ first ∷ rest.now) }
+fn add_parts(mac: &mut AnyMac, first: u8, rest: &[u8])
+    ensures { (kind : MacKind) (key message : List ℕ) → HasTakenBy kind mac.old key message
+        → HasTakenBy kind mac.new key (message ++ first ∷ rest.now) }
 {
     mac.add(&[first]);
     mac.add(rest);
 }
 
 // Adds the head of a byte string.
-fn add_head(mac: &mut Mac, length: u64)
-    ensures { (key message : List ℕ) → HasTaken mac.old key message
-        → HasTaken mac.new key (message ++ head_bytes 2 length) }
+fn add_head(mac: &mut AnyMac, length: u64)
+    ensures { (kind : MacKind) (key message : List ℕ) → HasTakenBy kind mac.old key message
+        → HasTakenBy kind mac.new key (message ++ head_bytes 2 length) }
 {
     let head = ShortHead::new(HeadKind::Bytes, length);
     let (first, behind) = head.parts();

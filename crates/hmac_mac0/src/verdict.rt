@@ -3,7 +3,9 @@
 ghost use Rattle.std.specs.Prelude.{◌≡◌, ◌↔◌, List, ℕ};
 ghost use Rattle.hmac_mac0.specs.Mac0.{IsMac0, Verifies};
 ghost use Rattle.hmac_mac0.specs.Verdict.{IsJustified};
+ghost use Rattle.hmac_mac0.specs.declared.mac_kind.MacKind.{MacKind};
 
+use crate::MacTag;
 use crate::block::read_block;
 use crate::compare::are_equal;
 use crate::structure::tag;
@@ -15,22 +17,24 @@ pub enum MacVerdict<'a> {
     Verified,
     /// The block is no Mac0 block, and may be of any other kind.
     OtherKind,
-    /// A Mac0 block with another tag, of any length: the tag that was computed, and the block's.
-    Differs { expected: [u8; 32], found: &'a [u8] },
+    /// A Mac0 block with another tag, of any length: the tag that was computed by the block's
+    /// algorithm, and the block's.
+    Differs { expected: MacTag, found: &'a [u8] },
 }
 
 /// Verifies a block. Takes no memory.
 pub fn verify<'a>(block: &'a [u8], key: &[u8], payload: &[u8]) -> MacVerdict<'a>
     ensures verified { (result ≡ MacVerdict.Verified) ↔ Verifies block.now key.now payload.now }
     ensures other_kind { (result ≡ MacVerdict.OtherKind)
-        ↔ ((protected tag : List ℕ) → IsMac0 block.now protected tag → ⊥) }
+        ↔ ((kind : MacKind) (protected tag : List ℕ)
+        → IsMac0 block.now kind protected tag → ⊥) }
     ensures differs { IsJustified result block.now key.now payload.now }
 {
     match read_block(block) {
         None => MacVerdict::OtherKind,
         Some(parts) => {
-            let expected = tag(key, parts.protected, payload);
-            if are_equal(parts.tag, &expected) {
+            let expected = tag(parts.kind, key, parts.protected, payload);
+            if are_equal(parts.tag, expected.bytes()) {
                 MacVerdict::Verified
             } else {
                 MacVerdict::Differs {

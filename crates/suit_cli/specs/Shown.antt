@@ -1,6 +1,7 @@
 -- The lines that show an envelope under a key.
 use Rattle.std.specs.Prelude.{◌≡◌, ◌≢◌, ℕ, ◌+◌, Bool, true, false, List, [], ◌∷◌, ◌++◌, Option, Some, None, codes}
 use Rattle.hmac_mac0.specs.Mac0.{IsMac0}
+use Rattle.hmac_mac0.specs.declared.mac_kind.MacKind.{MacKind}
 use Rattle.suit_params.specs.declared.digest.Digest.{Digest}
 use Rattle.suit_commands.specs.Tree.{SequenceTree}
 use Rattle.suit_envelope.specs.Envelopes.{EnvelopeSays}
@@ -26,7 +27,8 @@ use Rattle.suit_cli.specs.Texts.{tagged_line, block_line, member_line, authentic
 
 -- whether a block is a COSE_Mac0 block (RFC 9052, section 6.2)
 abbrev pub HasKind : List ℕ → Bool → Type 0
-HasKind block true = (protected : List ℕ) × (tag : List ℕ) × IsMac0 block protected tag
+HasKind block true =
+    (kind : MacKind) × (protected : List ℕ) × (tag : List ℕ) × IsMac0 block kind protected tag
 HasKind block false = IsOther block
 
 abbrev pub kind_text : Bool → List ℕ

@@ -14,7 +14,7 @@ none_verifies key payload (block ∷ blocks) fail (ALaterVerifies b rest later) 
 
 pub none_is_mac : (key payload : List ℕ) (blocks : List (List ℕ)) → AllByRecursion IsOther blocks → SomeVerifies key payload blocks → ⊥
 none_is_mac key payload [] other some = elim some [ ]
-none_is_mac key payload (block ∷ blocks) other (ThisVerifies b rest verifies) = other.0 verifies.protected verifies.tag verifies.is_block
+none_is_mac key payload (block ∷ blocks) other (ThisVerifies b rest verifies) = other.0 verifies.kind verifies.protected verifies.tag verifies.is_block
 none_is_mac key payload (block ∷ blocks) other (ALaterVerifies b rest later) = none_is_mac key payload blocks other.1 later
 
 module _ (wrapper manifest key : List ℕ) where

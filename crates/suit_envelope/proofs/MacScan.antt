@@ -5,7 +5,9 @@ use Rattle.det_cbor.specs.HeadReading.{◌>>=◌}
 use Rattle.det_cbor.specs.Position.{Position}
 use Rattle.det_cbor.specs.ResultLaws.{bind_ok, same_ok, not_both}
 use Rattle.hmac_mac0.specs.Mac0.{Verifies, Mismatches}
+use Rattle.hmac_mac0.specs.Tags.{tag_bytes}
 use Rattle.hmac_mac0.specs.Verdict.{IsJustified}
+use Rattle.hmac_mac0.specs.declared.mac_tag.MacTag.{MacTag}
 use Rattle.hmac_mac0.specs.declared.verdict.MacVerdict.{MacVerdict}
 use Rattle.hmac_mac0.specs.declared.verdict.MacVerdict.TheVariants as verdict
 use Rattle.suit_params.specs.declared.refusal.Refusal.{Refusal}
@@ -46,7 +48,7 @@ ends_step key payload block rest None verdict.OtherKind (verdict.Differs expecte
 ends_step key payload block rest None (verdict.Differs x f) verdict.Verified other fails is e = ALaterVerifies block rest e
 ends_step key payload block rest None (verdict.Differs x f) verdict.OtherKind other fails is e = absurd e
 ends_step key payload block rest None (verdict.Differs x f) (verdict.Differs expected found) other fails is e =
-    ((fails, e.0), ThisDiffers block rest (subst (λ (t : List ℕ). Mismatches block key payload t found.now) e.1 (subst (λ (t : List ℕ). Mismatches block key payload x t) e.2 is)))
+    ((fails, e.0), ThisDiffers block rest (subst (λ (t : MacTag). Mismatches block key payload (tag_bytes t) found.now) e.1 (subst (λ (t : List ℕ). Mismatches block key payload (tag_bytes x) t) e.2 is)))
 
 -- one block more, which verified
 pub ends_verified : (key payload block : List ℕ) (rest : List (List ℕ)) (first : Option Difference) → Verifies block key payload → Ends key payload first (block ∷ rest) verdict.Verified

@@ -4,6 +4,7 @@ use Rattle.std.specs.List.{AllByRecursion}
 use Rattle.det_cbor.specs.DataItem.{spell}
 use Rattle.det_cbor.specs.HeadReading.{◌>>=◌}
 use Rattle.det_cbor.specs.Position.{Position}
+use Rattle.hmac_mac0.specs.Tags.{tag_bytes}
 use Rattle.suit_params.specs.declared.refusal.Refusal.{Refusal}
 use Rattle.suit_params.specs.Digests.{digest_item}
 use Rattle.suit_params.specs.Reading.{head_from, content_from}
@@ -37,12 +38,12 @@ AnswersAuthentic digest blocks manifest key answers.NoMac =
 AnswersAuthentic digest blocks manifest key (answers.MacDiffers expected found) =
     (digest ≡ string_digest manifest)
     × AllByRecursion (FailsToVerify key (payload_of digest)) blocks
-    × FirstDiffers key (payload_of digest) expected found.now blocks
+    × FirstDiffers key (payload_of digest) (tag_bytes expected) found.now blocks
 
 -- a difference that is told is one
 abbrev pub TellsDifference : Authenticity → Type 0
 TellsDifference (answers.DigestDiffers stated found) = stated ≢ found
-TellsDifference (answers.MacDiffers expected found) = found.now ≢ expected
+TellsDifference (answers.MacDiffers expected found) = found.now ≢ tag_bytes expected
 TellsDifference _ = Unit {0}
 
 -- two answers tell the same
@@ -52,7 +53,7 @@ TellSame (answers.DigestDiffers stated found) (answers.DigestDiffers other_state
     (stated ≡ other_stated) × (found ≡ other_found)
 TellSame answers.NoMac answers.NoMac = Unit {0}
 TellSame (answers.MacDiffers expected found) (answers.MacDiffers other_expected other_found) =
-    (expected ≡ other_expected) × (found.now ≡ other_found.now)
+    (tag_bytes expected ≡ tag_bytes other_expected) × (found.now ≡ other_found.now)
 TellSame _ _ = ⊥
 
 -- the content of the wrapper's first byte string, and what follows it

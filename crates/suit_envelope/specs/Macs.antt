@@ -5,6 +5,8 @@ use Rattle.det_cbor.specs.HeadReading.{◌>>=◌}
 use Rattle.det_cbor.specs.Position.{Position}
 use Rattle.hmac_mac0.specs.Mac0.{IsMac0, Verifies}
 use Rattle.hmac_mac0.specs.Mac0 as mac0
+use Rattle.hmac_mac0.specs.Tags.{tag_bytes}
+use Rattle.hmac_mac0.specs.declared.mac_kind.MacKind.{MacKind}
 use Rattle.hmac_mac0.specs.declared.verdict.MacVerdict.{MacVerdict}
 use Rattle.hmac_mac0.specs.declared.verdict.MacVerdict.TheVariants as verdict
 use Rattle.suit_params.specs.declared.refusal.Refusal.{Refusal}
@@ -13,7 +15,7 @@ use Rattle.suit_envelope.specs.declared.macs.Difference.{Difference}
 
 -- no Mac0 block, and so passed over
 abbrev pub IsOther : List ℕ → Type 0
-IsOther block = (protected tag : List ℕ) → IsMac0 block protected tag → ⊥
+IsOther block = (kind : MacKind) (protected tag : List ℕ) → IsMac0 block kind protected tag → ⊥
 
 abbrev pub FailsToVerify : List ℕ → List ℕ → List ℕ → Type 0
 FailsToVerify key payload block = Verifies block key payload → ⊥
@@ -39,7 +41,7 @@ BlocksSay key payload blocks verdict.Verified = SomeVerifies key payload blocks
 BlocksSay key payload blocks verdict.OtherKind = AllByRecursion IsOther blocks
 BlocksSay key payload blocks (verdict.Differs expected found) =
     AllByRecursion (FailsToVerify key payload) blocks
-    × FirstDiffers key payload expected found.now blocks
+    × FirstDiffers key payload (tag_bytes expected) found.now blocks
 
 -- ---- how the blocks are read
 

@@ -11,7 +11,7 @@ use crate::macs::scan;
 use crate::string_hash::string_digest;
 use crate::wrapper_parts::{count, stated_digest};
 use det_cbor::Cursor;
-use hmac_mac0::MacVerdict;
+use hmac_mac0::{MacTag, MacVerdict};
 use suit_params::{Digest, Refusal, bytes_left, read_content, read_head};
 
 /// Whether an envelope is authentic, or why not.
@@ -24,7 +24,7 @@ pub enum Authenticity<'a> {
     /// No block is a Mac0 block.
     NoMac,
     /// No block verifies: of the first Mac0 block the tag that was computed, and the block's.
-    MacDiffers { expected: [u8; 32], found: &'a [u8] },
+    MacDiffers { expected: MacTag, found: &'a [u8] },
 }
 
 /// The first byte string of a wrapper, and the blocks after it.

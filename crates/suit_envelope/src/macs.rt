@@ -4,13 +4,13 @@ ghost use Rattle.std.specs.Prelude.{◌≡◌, List, ℕ, Ok, IfOk, IfErr};
 ghost use Rattle.suit_envelope.specs.Macs.{BlocksSay, contents_from, kept, last_answer};
 
 use det_cbor::Cursor;
-use hmac_mac0::{MacVerdict, verify};
+use hmac_mac0::{MacTag, MacVerdict, verify};
 use suit_params::{Refusal, bytes_left, read_content};
 
 /// A block's tag, and the one that was computed, which is another.
 #[derive(Clone, Copy, Debug)]
 pub(crate) struct Difference<'a> {
-    pub(crate) expected: [u8; 32],
+    pub(crate) expected: MacTag,
     pub(crate) found: &'a [u8],
 }
 

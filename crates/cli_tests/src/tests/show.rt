@@ -41,6 +41,63 @@ member install none
 member text none
 authentic
 
+change by-sha-512 e.suit
+65 34 584037412384195abe0bd28a768877944f99d0f16dd5c90be4ef463285394b5e8f8334064e734b26172c0f259d20091a9b82cba7582977cd1ec9ebc19728035c9e4e
+62 1 07
+55 2 584a
+5 1 7d
+
+show by-sha-512 own
+0
+tagged yes
+block 0 other
+block 1 mac0
+member shared here
+member validate here
+member load none
+member invoke here
+member payload-fetch none
+member install none
+member text none
+authentic
+
+change cut by-sha-512
+99 32
+65 2 5820
+55 2 582a
+5 1 5d
+
+show cut own
+4
+tagged yes
+block 0 other
+block 1 mac0
+member shared here
+member validate here
+member load none
+member invoke here
+member payload-fetch none
+member install none
+member text none
+not authentic: mac differs
+
+change by-the-other cut
+67 32 a160cb4f414dbffab4be3f00f1d2c96d5c8946833801b6b2273cbf196438171d
+
+show by-the-other own
+4
+tagged yes
+block 0 other
+block 1 mac0
+member shared here
+member validate here
+member load none
+member invoke here
+member payload-fetch none
+member install none
+member text none
+not authentic: mac differs
+
 change no-tag e.suit
 0 2
 

@@ -1,6 +1,6 @@
 //! Codes of messages, against vectors from outside.
 
-use crate::tests::rows::bytes_of;
+use crate::tests::rows::{bytes_of, split_field};
 use hmac_mac0::{Mac, Mac512, hmac, hmac512};
 use std::alloc::{AllocError, Global};
 
@@ -41,11 +41,6 @@ fn in_two_pieces_512(key: &[u8], message: &[u8]) -> [u8; 64] {
 // Whether a code is this one, which may be cut.
 fn is_code(found: &[u8], code: &[u8]) -> bool {
     code.len() >= 16 && found.starts_with(code)
-}
-
-// A row's field up to the first space, and what stands behind it.
-fn split_field(row: &str) -> (&str, &str) {
-    row.split_once(' ').unwrap_or((row, ""))
 }
 
 fn is_vector(alloc: Global, row: &str) -> Result<bool, AllocError> {

@@ -11,6 +11,11 @@ pub(crate) fn bytes_of(alloc: Global, text: &str) -> Result<Vec<u8>, AllocError>
     }
 }
 
+/// A row's field up to the first space, and what stands behind it.
+pub(crate) fn split_field(row: &str) -> (&str, &str) {
+    row.split_once(' ').unwrap_or((row, ""))
+}
+
 /// The name of a reason in a row.
 pub(crate) fn name_of(reason: Reason) -> &'static str {
     match reason {

@@ -1,28 +1,20 @@
-use Rattle.hmac_mac0.proofs.Layouts.{none_is}
-use Rattle.hmac_mac0.proofs.Blocks.{parts_mac0, mac0_parts, mac0_item_is, one_header}
 use Rattle.std.proofs.Common.{subst, arith}
 use Rattle.hmac_mac0.specs.Mac0.{IsHeader}
+use Rattle.hmac_mac0.proofs.Blocks.{parts_mac0, mac0_parts, one_header}
+use Rattle.hmac_mac0.proofs.Layouts.{none_is}
 use Rattle.hmac_mac0.proofs.block.read_block.Goals as goal
-use Rattle.hmac_mac0.proofs.block.read_block.Goals.{else-is_item-via-then-is_item+else-is_header, else-is_item-via-else-is_item}
 
-pub returns-in_err-parts-clause-none : goal.returns-in_err-parts-clause-none
-returns-in_err-parts-clause-none c = none_is c.from_residual.result c.from_residual.ensures (λ protected tag h. c.in_err-parts.ensures.none protected tag (mac0_parts c.args.block.now protected tag h))
+pub returns-in_err-protected-clause-none : goal.returns-in_err-protected-clause-none
+returns-in_err-protected-clause-none c =
+    none_is c.from_residual.result c.from_residual.ensures (λ kind protected tag h. c.in_err-protected.ensures.none protected tag (mac0_parts c.args.block.now kind protected tag h))
 
-pub returns-then-is_header-clause-some : goal.returns-then-is_header-clause-some
-returns-then-is_header-clause-some c =
-    parts_mac0 c.args.block.now c.in_ok-parts.parts.protected.now c.in_ok-parts.parts.tag.now (λ i. omega (arith, c.type_inv.block i)) (c.is_item.ensures.0 c.if-is_item.true) c.in_ok-parts.ensures.some
-    (c.is_header.ensures.0 c.if-is_header.true)
+pub returns-in_err-kind-clause-none : goal.returns-in_err-kind-clause-none
+returns-in_err-kind-clause-none c =
+    none_is c.from_residual-in_err-kind.result c.from_residual-in_err-kind.ensures (λ kind protected tag h.
+    let same = one_header c.args.block.now protected c.in_ok-protected.protected.now tag c.in_ok-protected.tag.now (mac0_parts c.args.block.now kind protected tag h) c.in_ok-protected.ensures.some in
+    c.in_err-kind.ensures.none kind (subst (IsHeader kind) same h.header))
 
-pub returns-else-is_item-clause-none : goal.returns-else-is_item-clause-none
-returns-else-is_item-clause-none c protected tag h =
-    elim c.else-is_item.branch [
-      | else-is_item-via-then-is_item+else-is_header w ↦
-          let same = one_header c.args.block.now protected c.in_ok-parts.parts.protected.now tag c.in_ok-parts.parts.tag.now (mac0_parts c.args.block.now protected tag h) c.in_ok-parts.ensures.some in
-          let yes = w.is_header.ensures.1 (subst IsHeader same h.header) in
-          let no = w.if-is_header.false in
-          absurd cc
-      | else-is_item-via-else-is_item w ↦
-          let yes = c.is_item.ensures.1 (mac0_item_is c.args.block.now protected tag h) in
-          let no = w.if-is_item.false in
-          absurd cc
-    ]
+pub returns-then-is_item-clause-some : goal.returns-then-is_item-clause-some
+returns-then-is_item-clause-some c =
+    parts_mac0 c.args.block.now c.in_ok-kind.kind c.in_ok-protected.protected.now c.in_ok-protected.tag.now (λ i. omega (arith, c.type_inv.block i)) (c.is_item.ensures.0 c.if-is_item.true) c.in_ok-protected.ensures.some
+    c.in_ok-kind.ensures.some
