@@ -1,5 +1,5 @@
 -- The numbers of an envelope (draft-ietf-suit-manifest-25, sections 8.2 to 8.4).
-use Rattle.std.specs.Prelude.{◌≡◌, ◌⊎◌, ◌-◌, ◌^◌, ℕ, List, length, min}
+use Rattle.std.specs.Prelude.{◌≡◌, ◌⊎◌, ◌≤◌, ◌+◌, ◌-◌, ◌^◌, ℕ, List, length, min}
 use Rattle.suit_c.specs.declared.reading.SuitEnvelope.{SuitEnvelope}
 use Rattle.suit_envelope.specs.Envelopes.{EnvelopeSays}
 use Rattle.suit_envelope.specs.Said.{EnvelopeOf, RefusesBytes}
@@ -23,6 +23,7 @@ pub record IsReadAs (bytes : List ℕ) (numbers : SuitEnvelope) : Type 0 where
   pub sequence : numbers.sequence ≡ manifest.sequence
   pub place : numbers.manifest_place ≡ said.manifest_place
   pub size : numbers.manifest_length ≡ length said.manifest
+  pub within : numbers.manifest_place + numbers.manifest_length ≤ length bytes
   pub short : numbers.trimmed_length
       ≡ min (length (trimmed said.wrapper said.manifest)) (2 ^ 64 - 1)
   pub digest : (stated : List ℕ) (blocks : List (List ℕ)) → WrapperSays said.wrapper stated blocks

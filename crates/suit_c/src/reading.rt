@@ -9,7 +9,7 @@ ghost use Rattle.suit_manifest.specs.declared.manifest.Manifest.{Manifest};
 
 use manifest_view::ManifestView;
 use suit_answers::Answer;
-use suit_envelope::{decode_envelope, stated_digest, trimmed_length};
+use suit_envelope::{decode_envelope, envelope_laws, stated_digest, trimmed_length};
 use suit_params::Refusal;
 
 /// The numbers of an envelope (draft-ietf-suit-manifest-25, sections 8.2 to 8.4).
@@ -37,6 +37,7 @@ fn read(file: &[u8]) -> Result<SuitEnvelope, Refusal>
         → IsFile file.now said manifest → IsOk result }
     ensures refused { IfErr result (IsRefusedFor file.now) }
 {
+    envelope_laws();
     let envelope = decode_envelope(file)?;
     let manifest = ManifestView::read(envelope.manifest, envelope.manifest_place)?;
     let digest = stated_digest(&envelope).bytes;
