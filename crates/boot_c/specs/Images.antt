@@ -25,9 +25,12 @@ pub record IsNoted (note : NotedImage) (image : SuitImage) : Type 0 where
 abbrev pub image_bytes : List ℕ → SuitImage → List ℕ
 image_bytes flash image = slice_range flash image.place (image.place + image.length)
 
--- an image lies in the flash, and is that of a launch
+-- they lie in it
+abbrev pub LiesIn : List ℕ → SuitImage → Type 0
+LiesIn flash image = image.place + image.length ≤ length flash
+
+-- an image is that of a launch
 pub record IsLaunched (flash : List ℕ) (image : SuitImage) (launch : Launch) : Type 0 where
-  pub within : image.place + image.length ≤ length flash
   pub component : launch.component ≡ image.component
   pub bytes : launch.bytes ≡ image_bytes flash image
   pub digest : launch.digest ≡ Some image.digest

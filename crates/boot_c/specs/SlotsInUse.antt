@@ -16,14 +16,16 @@ use Rattle.step_machine.specs.InUse.{slot_in_use}
 abbrev pub slot_of : Entry → ℕ → Slot
 slot_of entry number = slot_at entry (slice_index (slot_starts entry) number)
 
--- the content of a slot: where it begins, how many bytes it has and may have, all of them in the flash
+-- the content of a slot: where it begins, how many bytes it has and may have
 pub record IsSlotOf (entry : Entry) (number : ℕ) (flash : List ℕ) (slot : SuitSlot) : Type 0 where
   pub number_is : slot.number ≡ number
   pub place : slot.place ≡ (slot_of entry number).start + LENGTH_SIZE
   pub length_is : slot.length ≡ length (slot_content (slot_of entry number) flash)
   pub capacity : slot.capacity ≡ entry.capacity
-  pub few : slot.length ≤ slot.capacity
-  pub within : slot.place + slot.capacity ≤ length flash
+
+-- as many bytes as it may have lie in the flash, and it has no more
+abbrev pub LiesIn : List ℕ → SuitSlot → Type 0
+LiesIn flash slot = (slot.length ≤ slot.capacity) × (slot.place + slot.capacity ≤ length flash)
 
 -- the flash has a record, and the component of this index in its layout stands in flash: in the slot that the record has in use
 pub record IsInUse (flash : List ℕ) (component : ℕ) (slot : SuitSlot) : Type 0 where

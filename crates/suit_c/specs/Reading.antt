@@ -23,12 +23,15 @@ pub record IsReadAs (bytes : List ℕ) (numbers : SuitEnvelope) : Type 0 where
   pub sequence : numbers.sequence ≡ manifest.sequence
   pub place : numbers.manifest_place ≡ said.manifest_place
   pub size : numbers.manifest_length ≡ length said.manifest
-  pub within : numbers.manifest_place + numbers.manifest_length ≤ length bytes
   pub short : numbers.trimmed_length
       ≡ min (length (trimmed said.wrapper said.manifest)) (2 ^ 64 - 1)
   pub digest : (stated : List ℕ) (blocks : List (List ℕ)) → WrapperSays said.wrapper stated blocks
       → numbers.digest ≡ stated
   pub components : numbers.components ≡ length manifest.components
+
+-- the manifest lies in the bytes
+abbrev pub LiesIn : List ℕ → SuitEnvelope → Type 0
+LiesIn bytes numbers = numbers.manifest_place + numbers.manifest_length ≤ length bytes
 
 -- the envelope's grammar refuses the bytes, or the manifest's those of the manifest
 abbrev pub IsRefusedFor : List ℕ → Refusal → Type 0
