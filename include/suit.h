@@ -23,11 +23,15 @@
 #include <stddef.h>
 #include <stdint.h>
 
+#if SIZE_MAX != UINT64_MAX
+#error "suit.h: for 64-bit targets alone"
+#endif
+
 #ifdef __cplusplus
 extern "C" {
 #endif
 
-/* What a call answers: the exit status of the program for the same. */
+/* What a call answers: the exit status of the program for the same. suit_command has the program's others too (docs/formats.md). */
 enum suit_answer {
   SUIT_DONE = 0,
   SUIT_UNSAFE = 1,
@@ -63,9 +67,9 @@ struct suit_record {
   uint64_t sequence;
   uint64_t generation; /* one more for each record that was committed */
   uint64_t length;     /* of the envelope in its bank */
-  uint32_t bank;
-  uint8_t digest[32];
-  uint8_t active[8]; /* the slot in use of each component of the layout */
+  uint32_t bank;       /* 0 or 1 */
+  uint8_t digest[32];  /* of the manifest */
+  uint8_t active[8];   /* the slot in use of each component of the layout, 0 or 1 */
 };
 
 /* SUIT_DONE, and *place stays as it was; or SUIT_REFUSED where the bytes spell no envelope or its manifest is refused: then *place
