@@ -31,7 +31,7 @@ int main(int argc, char **argv) {
       printf("%02x", image.digest[i]);
     printf("\n");
   }
-  fprintf(stderr, "%zu bytes of memory\n", suit_arena_peak());
+  printf("%zu bytes of memory\n", suit_arena_peak());
   if (image.found && argc == 3) {
     file = fopen(argv[2], "wb");
     if (!file || fwrite(flash + image.place, 1, image.length, file) != image.length || fclose(file) != 0) {

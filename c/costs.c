@@ -1,18 +1,14 @@
-/* costs: the stack and the memory that each call takes, in bytes: the stack by one that was painted before, and the memory by the
- * arena. Behind the calls stands one that does nothing, whose stack is a part of each figure.
+/* costs: the stack and the memory that each call takes, in bytes: the stack by painting, and the memory by the arena. The last call does
+ * nothing: its stack is a part of each figure.
  *
  *     costs FLASH ENVELOPE KEY
  */
-#define _XOPEN_SOURCE 700
 #include "arena.h"
+#include "paint.h"
 #include "suit.h"
 
 #include <stdio.h>
 #include <stdlib.h>
-#include <string.h>
-#include <ucontext.h>
-
-enum { PAINT = 0xa5 };
 
 struct bytes {
   size_t length;
@@ -20,9 +16,7 @@ struct bytes {
 };
 
 static struct bytes flash, envelope, key;
-static uint8_t painted[1048576];
 static _Alignas(16) uint8_t room[16777216];
-static ucontext_t here, there;
 
 static void boot(void) {
   struct suit_image image;
@@ -72,17 +66,8 @@ static void load(const char *name, struct bytes *bytes) {
 
 static void tell(const char *name, void (*call)(void)) {
   suit_arena(room, sizeof room);
-  memset(painted, PAINT, sizeof painted);
-  getcontext(&there);
-  there.uc_stack.ss_sp = painted;
-  there.uc_stack.ss_size = sizeof painted;
-  there.uc_link = &here;
-  makecontext(&there, call, 0);
-  swapcontext(&here, &there);
-  size_t left = 0;
-  while (left < sizeof painted && painted[left] == PAINT)
-    left++;
-  printf("%-14s %7zu of stack %7zu of memory\n", name, sizeof painted - left, suit_arena_peak());
+  size_t stack = suit_painted(call);
+  printf("%-14s %7zu of stack %7zu of memory\n", name, stack, suit_arena_peak());
 }
 
 int main(int argc, char **argv) {

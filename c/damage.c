@@ -1,4 +1,5 @@
-/* damage: boots from a flash with each of its first bytes changed in turn. No image may be told but the one of the flash as it is.
+/* damage: boots from a flash with each of its first bytes damaged in turn, and each one of its image and of the length before it: by
+ * exclusive or with 01, 80 and FF. No image may be told but the one of the flash as it is, and none whose own bytes are damaged.
  *
  *     damage FLASH COUNT
  */
@@ -24,6 +25,24 @@ static int is_same(const struct suit_image *one, const struct suit_image *other)
          memcmp(one->digest, other->digest, sizeof one->digest) == 0;
 }
 
+/* Damages each byte from a place on, and counts the boots that tell the image. */
+static size_t damaged(size_t place, size_t count, const struct suit_image *whole) {
+  static const uint8_t changes[] = {0x01, 0x80, 0xff};
+  size_t told = 0;
+  for (size_t end = place + count; place < end; place++)
+    for (size_t i = 0; i < sizeof changes; i++) {
+      flash[place] ^= changes[i];
+      struct suit_image image = booted();
+      flash[place] ^= changes[i];
+      if (image.found && !is_same(&image, whole)) {
+        printf("another image with byte %zu changed\n", place);
+        exit(1);
+      }
+      told += image.found;
+    }
+  return told;
+}
+
 int main(int argc, char **argv) {
   if (argc != 3)
     return 2;
@@ -33,18 +52,17 @@ int main(int argc, char **argv) {
     return 70;
   }
   fclose(file);
+  size_t count = strtoul(argv[2], NULL, 10);
   struct suit_image whole = booted();
-  size_t count = strtoul(argv[2], NULL, 10), told = 0;
-  for (size_t place = 0; place < count; place++) {
-    flash[place] ^= (uint8_t)(1 << place % 8);
-    struct suit_image image = booted();
-    flash[place] ^= (uint8_t)(1 << place % 8);
-    if (image.found && !(whole.found && is_same(&image, &whole))) {
-      printf("another image with byte %zu changed\n", place);
-      return 1;
-    }
-    told += image.found;
+  if (!whole.found || whole.place < count + 8) {
+    printf("no image behind the first %zu bytes\n", count);
+    return 1;
   }
-  printf("%zu of %zu tell the image, and the others none\n", told, count);
+  size_t told = damaged(0, count, &whole);
+  if (damaged(whole.place - 8, 8 + whole.length, &whole) != 0) {
+    printf("an image whose own bytes are damaged\n");
+    return 1;
+  }
+  printf("of %zu damaged bytes, three ways each, %zu boots tell the image, and the others none\n", count, told);
   return 0;
 }

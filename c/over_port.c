@@ -3,9 +3,14 @@
  *
  *     over_port [-r N] WORD...
  *
- * The exit status is that of the command. With -r the N-th message is refused, and the status is 99 where there were fewer.
+ * The exit status is that of the command. With -r the N-th message is refused, and the status is 99 where there were fewer. Built with
+ * -DOVER_ARENA, over arena.c and paint.c, it also tells on standard error what the command took.
  */
 #define _XOPEN_SOURCE 700
+#ifdef OVER_ARENA
+#include "arena.h"
+#include "paint.h"
+#endif
 #include "suit.h"
 
 #include <fcntl.h>
@@ -210,15 +215,35 @@ static size_t joined(char *words, size_t room, int count, char **word) {
   return length;
 }
 
+static struct {
+  char words[65536];
+  size_t length;
+  int line;
+  int32_t status;
+} asked;
+
+static void command(void) { asked.status = suit_command((const uint8_t *)asked.words, asked.length, asked.line, FLASH_SIZE); }
+
+#ifdef OVER_ARENA
+static _Alignas(16) uint8_t room[67108864];
+
+static void run(void) {
+  suit_arena(room, sizeof room);
+  size_t stack = suit_painted(command);
+  fprintf(stderr, "%zu of stack %zu of memory\n", stack, suit_arena_peak());
+}
+#else
+static void run(void) { command(); }
+#endif
+
 int main(int argc, char **argv) {
-  static char words[65536];
   int first = 1;
   uint64_t refused = 0;
   if (argc > 2 && strcmp(argv[1], "-r") == 0) {
     refused = strtoull(argv[2], NULL, 10);
     first = 3;
   }
-  size_t length = joined(words, sizeof words, argc - first, argv + first);
+  asked.length = joined(asked.words, sizeof asked.words, argc - first, argv + first);
   int ends[2];
   if (socketpair(AF_UNIX, SOCK_STREAM, 0, ends) != 0)
     fail("socketpair");
@@ -235,10 +260,11 @@ int main(int argc, char **argv) {
     return refused > server.count ? FEWER : 0;
   }
   close(ends[1]);
-  int status = suit_command((const uint8_t *)words, length, ends[0], FLASH_SIZE);
+  asked.line = ends[0];
+  run();
   close(ends[0]);
   int ended;
   if (waitpid(child, &ended, 0) != child || !WIFEXITED(ended))
     fail("over_port: the other end");
-  return WEXITSTATUS(ended) == 0 ? status : WEXITSTATUS(ended);
+  return WEXITSTATUS(ended) == 0 ? asked.status : WEXITSTATUS(ended);
 }

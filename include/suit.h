@@ -23,11 +23,15 @@
 #include <stddef.h>
 #include <stdint.h>
 
+#if SIZE_MAX != UINT64_MAX
+#error "suit.h: for 64-bit targets alone"
+#endif
+
 #ifdef __cplusplus
 extern "C" {
 #endif
 
-/* What a call answers: the exit status of the program for the same. */
+/* What a call answers: the exit status of the program for the same. suit_command has the program's others too (docs/formats.md). */
 enum suit_answer {
   SUIT_DONE = 0,
   SUIT_UNSAFE = 1,
@@ -47,7 +51,8 @@ enum suit_answer {
   SUIT_TOO_LONG = 21
 };
 
-/* The numbers of an envelope. Places and lengths are bytes; a place counts from the envelope's first byte. */
+/* The numbers of an envelope. Places and lengths are bytes; a place counts from the envelope's first byte. The manifest lies within
+ * the bytes that were passed. */
 struct suit_envelope {
   uint64_t sequence;
   uint64_t manifest_place;
@@ -62,9 +67,9 @@ struct suit_record {
   uint64_t sequence;
   uint64_t generation; /* one more for each record that was committed */
   uint64_t length;     /* of the envelope in its bank */
-  uint32_t bank;
-  uint8_t digest[32];
-  uint8_t active[8]; /* the slot in use of each component of the layout */
+  uint32_t bank;       /* 0 or 1 */
+  uint8_t digest[32];  /* of the manifest */
+  uint8_t active[8];   /* the slot in use of each component of the layout, 0 or 1 */
 };
 
 /* SUIT_DONE, and *place stays as it was; or SUIT_REFUSED where the bytes spell no envelope or its manifest is refused: then *place
@@ -75,8 +80,8 @@ int32_t suit_read(const uint8_t *file, size_t length, struct suit_envelope *out,
  * key; SUIT_REFUSED where the bytes spell no envelope, and SUIT_NOT_AUTHENTIC otherwise. */
 int32_t suit_authentic(const uint8_t *file, size_t length, const uint8_t *key, size_t key_length);
 
-/* SUIT_DONE; SUIT_NOTHING_INSTALLED where the flash has no record, and SUIT_FLASH_FAULT where it failed: then *out stays as it
- * was. */
+/* SUIT_DONE; or SUIT_NOTHING_INSTALLED where the flash has no record, as one of fewer than 49,152 bytes, and then *out stays as it was.
+ * SUIT_FLASH_FAULT too would leave it so; that it does not come is tested and not proved. */
 int32_t suit_status(const uint8_t *flash, size_t length, struct suit_record *out);
 
 /* SUIT_DONE exactly where on each path of both procedures of the manifest each invoke is covered, unless memory runs out, which
@@ -91,7 +96,7 @@ int32_t suit_check(const uint8_t *file, size_t length, uint64_t *place);
  * where the room has fewer than *count bytes: then the room stays as it was. */
 int32_t suit_trim(const uint8_t *file, size_t length, uint8_t *room, size_t most, uint64_t *count);
 
-/* The image that a boot starts: so many bytes of the flash from a place on. */
+/* The image that a boot starts: so many bytes of the flash from a place on, all within it. */
 struct suit_image {
   uint64_t place;
   uint64_t length;
@@ -100,14 +105,16 @@ struct suit_image {
   uint8_t digest[32]; /* that the manifest names for it */
 };
 
-/* SUIT_DONE where the invocation procedure of what is installed ran to its end: where it invoked an image, out->found is 1, the
- * manifest is that of the flash's record and authentic under its key, and on a sound flash the bytes from that place on have that
- * digest, and the size that the manifest names, if any. The caller jumps. Otherwise out->found is 0, whatever the answer, which is
- * that of `suit run boot`, or SUIT_NO_MEMORY. Nothing of the flash is written: a procedure that writes it, and a second invoke, are
- * stopped by a fault. */
+/* SUIT_DONE where the invocation procedure of what is installed ran to its end. Where it invoked an image, out->found is 1: the
+ * manifest is that of the flash's record and authentic under the flash's key, and on a sound flash, one that `suit` alone wrote, the bytes
+ * from out->place on have that digest, and the size that the manifest names, if any. The caller jumps. Otherwise out->found is 0, whatever
+ * the answer: SUIT_UNCONFIGURED, SUIT_NOTHING_INSTALLED, SUIT_REFUSED and SUIT_NOT_AUTHENTIC of the installed envelope,
+ * SUIT_UNKNOWN_COMPONENT, SUIT_STOPPED where a condition failed or a directive cannot be done, SUIT_NO_MEMORY before the procedure.
+ * Nothing of the flash is written: a procedure that writes it is stopped by SUIT_FLASH_FAULT. A second image, one in working memory, and
+ * one for which the manifest has no digest in force are SUIT_LAUNCH_FAULT. */
 int32_t suit_boot(const uint8_t *flash, size_t length, struct suit_image *out);
 
-/* The content of a component of the flash's layout. */
+/* The content of a component of the flash's layout. As many bytes as it may have, from its place on, lie within the flash. */
 struct suit_slot {
   uint64_t place; /* in bytes from the start of the flash */
   uint64_t length;
@@ -116,8 +123,8 @@ struct suit_slot {
 };
 
 /* SUIT_DONE, and the content of that component, by its index in the layout, which is in use. Otherwise *out stays as it was:
- * SUIT_UNCONFIGURED, SUIT_NOTHING_INSTALLED, SUIT_UNKNOWN_COMPONENT where the layout has no such component in flash,
- * SUIT_FLASH_FAULT and SUIT_NO_MEMORY. */
+ * SUIT_UNCONFIGURED where the flash has no configuration, SUIT_UNKNOWN_COMPONENT where its layout has no such component in flash, then
+ * SUIT_NOTHING_INSTALLED where it has no record; SUIT_NO_MEMORY, and SUIT_FLASH_FAULT as at suit_status. */
 int32_t suit_slot(const uint8_t *flash, size_t length, uint32_t component, struct suit_slot *out);
 
 /* ---- over a port ---- */

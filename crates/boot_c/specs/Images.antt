@@ -1,5 +1,5 @@
 -- The image that a boot starts (draft-ietf-suit-manifest-25, section 6.2; what is noted of it is this project's own).
-use Rattle.std.specs.Prelude.{◌≡◌, ◌+◌, ◌∷◌, ℕ, List, [], Some, None, length, slice_range}
+use Rattle.std.specs.Prelude.{◌≡◌, ◌≤◌, ◌+◌, ◌∷◌, ℕ, List, [], Some, None, length, slice_range}
 use Rattle.boot_c.specs.declared.image.SuitImage.{SuitImage}
 use Rattle.flash_layout.specs.declared.frame.TheConstants.{VERSION_1}
 use Rattle.flash_layout.specs.declared.key.Key.{Key}
@@ -24,6 +24,10 @@ pub record IsNoted (note : NotedImage) (image : SuitImage) : Type 0 where
 -- the bytes of a flash that an image is of
 abbrev pub image_bytes : List ℕ → SuitImage → List ℕ
 image_bytes flash image = slice_range flash image.place (image.place + image.length)
+
+-- they lie in it
+abbrev pub LiesIn : List ℕ → SuitImage → Type 0
+LiesIn flash image = image.place + image.length ≤ length flash
 
 -- an image is that of a launch
 pub record IsLaunched (flash : List ℕ) (image : SuitImage) (launch : Launch) : Type 0 where

@@ -1,5 +1,5 @@
 -- The slot of a component that is in use (this project's own).
-use Rattle.std.specs.Prelude.{◌≡◌, ◌<◌, ◌+◌, ℕ, List, Some, length, slice_index, slice_index_or}
+use Rattle.std.specs.Prelude.{◌≡◌, ◌<◌, ◌≤◌, ◌+◌, ℕ, List, Some, length, slice_index, slice_index_or}
 use Rattle.boot_c.specs.declared.slot.SuitSlot.{SuitSlot}
 use Rattle.flash_layout.specs.Slots.{slot_at, slot_content}
 use Rattle.flash_layout.specs.Layouts.{slot_starts}
@@ -22,6 +22,10 @@ pub record IsSlotOf (entry : Entry) (number : ℕ) (flash : List ℕ) (slot : Su
   pub place : slot.place ≡ (slot_of entry number).start + LENGTH_SIZE
   pub length_is : slot.length ≡ length (slot_content (slot_of entry number) flash)
   pub capacity : slot.capacity ≡ entry.capacity
+
+-- as many bytes as it may have lie in the flash, and it has no more
+abbrev pub LiesIn : List ℕ → SuitSlot → Type 0
+LiesIn flash slot = (slot.length ≤ slot.capacity) × (slot.place + slot.capacity ≤ length flash)
 
 -- the flash has a record, and the component of this index in its layout stands in flash: in the slot that the record has in use
 pub record IsInUse (flash : List ℕ) (component : ℕ) (slot : SuitSlot) : Type 0 where

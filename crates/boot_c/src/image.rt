@@ -1,8 +1,8 @@
 //! The image to be started.
 
-ghost use Rattle.boot_c.specs.Images.{IsLaunched, IsNoted};
+ghost use Rattle.boot_c.specs.Images.{IsLaunched, IsNoted, LiesIn};
 ghost use Rattle.flash_view.specs.Noting.{noted_bytes, noted_launch};
-ghost use Rattle.std.specs.Prelude.{◌≡◌, IfSome, IsTrue};
+ghost use Rattle.std.specs.Prelude.{◌≡◌, ◌+◌, ◌≤◌, IfSome, IsTrue, length};
 
 use flash_view::NotedImage;
 use lane_bytes::same;
@@ -58,9 +58,10 @@ fn image_of(note: &NotedImage) -> Option<SuitImage>
     })
 }
 
-// Whether a note is of the same bytes in both.
+// Whether a note is of the same bytes in both, and these lie in the flash.
 fn is_same(note: &NotedImage, seen: &[u8], flash: &[u8]) -> bool
-    ensures { IsTrue result → noted_bytes seen.now note.now ≡ noted_bytes flash.now note.now }
+    ensures same { IsTrue result → noted_bytes seen.now note.now ≡ noted_bytes flash.now note.now }
+    ensures within { IsTrue result → note.now.place + note.now.length ≤ length flash.now }
 {
     match (note.bytes_in(seen), note.bytes_in(flash)) {
         (Some(one), Some(other)) => same(one, other),
@@ -73,6 +74,7 @@ pub(crate) fn image_in(note: &NotedImage, seen: &[u8], flash: &[u8]) -> Option<S
     ensures found { IfSome result (λ image. image.found ≡ 1) }
     ensures launched { IfSome result (λ image.
         IsLaunched flash.now image (noted_launch seen.now note.now)) }
+    ensures within { IfSome result (LiesIn flash.now) }
 {
     if !is_same(note, seen, flash) {
         return None;

@@ -1,5 +1,5 @@
 -- The numbers of an envelope (draft-ietf-suit-manifest-25, sections 8.2 to 8.4).
-use Rattle.std.specs.Prelude.{◌≡◌, ◌⊎◌, ◌-◌, ◌^◌, ℕ, List, length, min}
+use Rattle.std.specs.Prelude.{◌≡◌, ◌⊎◌, ◌≤◌, ◌+◌, ◌-◌, ◌^◌, ℕ, List, length, min}
 use Rattle.suit_c.specs.declared.reading.SuitEnvelope.{SuitEnvelope}
 use Rattle.suit_envelope.specs.Envelopes.{EnvelopeSays}
 use Rattle.suit_envelope.specs.Said.{EnvelopeOf, RefusesBytes}
@@ -28,6 +28,10 @@ pub record IsReadAs (bytes : List ℕ) (numbers : SuitEnvelope) : Type 0 where
   pub digest : (stated : List ℕ) (blocks : List (List ℕ)) → WrapperSays said.wrapper stated blocks
       → numbers.digest ≡ stated
   pub components : numbers.components ≡ length manifest.components
+
+-- the manifest lies in the bytes
+abbrev pub LiesIn : List ℕ → SuitEnvelope → Type 0
+LiesIn bytes numbers = numbers.manifest_place + numbers.manifest_length ≤ length bytes
 
 -- the envelope's grammar refuses the bytes, or the manifest's those of the manifest
 abbrev pub IsRefusedFor : List ℕ → Refusal → Type 0

@@ -8,7 +8,7 @@ ghost use Rattle.suit_params.specs.declared.refusal.Refusal.{Refusal};
 ghost use Rattle.suit_envelope.specs.Said.{RefusesBytes};
 
 use suit_answers::Answer;
-use suit_envelope::{Authenticity, authentic, decode_envelope, envelope_laws};
+use suit_envelope::{Authenticity, authentic, decode_envelope};
 
 // See `suit_authentic`.
 fn judge(file: &[u8], key: &[u8]) -> Answer

@@ -23,6 +23,7 @@ returns-in_default-end c = record {
     told = inl c.boot_answer-answer.ensures;
   })));
   image = tt;
+  within = tt;
   none = λ done. λ none. absurd (c.in_default-end.not-Ended (only_ended c.boot-end.result (sym c.boot_answer-answer.ensures ∙ done)));
 }
 

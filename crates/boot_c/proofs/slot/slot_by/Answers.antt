@@ -24,7 +24,7 @@ returns-in-Ok-clause-slot c =
       within = subst (λ (l : List Entry). c.args.component < length l) c.as_slice-entries.ensures c.in-Some.ensures.lookup.3.0;
       is = subst (λ (l : List Entry). (d : Entry) → entry ≡ slice_index_or l c.args.component d) c.as_slice-entries.ensures c.in-Some.ensures.lookup.3.1;
       stands = c.in-Flash.is;
-      stands_there = subst (λ (n : ℕ). IsSlotOf entry n c.args.flash.now c.in-Ok.slot) c.number_of-number.ensures.is c.in-Ok.ensures;
+      stands_there = subst (λ (n : ℕ). IsSlotOf entry n c.args.flash.now c.in-Ok.slot) c.number_of-number.ensures.is c.in-Ok.ensures.slot;
     }
 
 pub returns-in-None-clause-answers : goal.returns-in-None-clause-answers

@@ -10,6 +10,11 @@ returns-clause-slot c done =
     let read = to_z-of_z {w = w32} {z = c.code.result} (Prim.search rules) in
     c.slot_told.ensures.slot (c.code.ensures.once answers.Done (sym read ∙ done))
 
+pub returns-clause-within : goal.returns-clause-within
+returns-clause-within c done =
+    let read = to_z-of_z {w = w32} {z = c.code.result} (Prim.search rules) in
+    c.slot_told.ensures.within (c.code.ensures.once answers.Done (sym read ∙ done))
+
 pub returns-clause-every_answer : goal.returns-clause-every_answer
 returns-clause-every_answer c answer held =
     let read = to_z-of_z {w = w32} {z = c.code.result} (Prim.search rules) in
