@@ -1,7 +1,8 @@
 /* damage: boots from a flash with each of its first bytes damaged in turn, and each one of its image and of the length before it: by
- * exclusive or with 01, 80 and FF. No image may be told but the one of the flash as it is, and none whose own bytes are damaged.
+ * exclusive or with 01, 80 and FF. No image may be told but the one of the flash as it is, and none whose own bytes are damaged. Where
+ * the flash still has the record before that, the image of the flash as it was then may be told too.
  *
- *     damage FLASH COUNT
+ *     damage FLASH COUNT [BEFORE]
  */
 #include "arena.h"
 #include "suit.h"
@@ -25,8 +26,11 @@ static int is_same(const struct suit_image *one, const struct suit_image *other)
          memcmp(one->digest, other->digest, sizeof one->digest) == 0;
 }
 
+/* How many boots told the image of the record before. */
+static size_t told_before;
+
 /* Damages each byte from a place on, and counts the boots that tell the image. */
-static size_t damaged(size_t place, size_t count, const struct suit_image *whole) {
+static size_t damaged(size_t place, size_t count, const struct suit_image *whole, const struct suit_image *before) {
   static const uint8_t changes[] = {0x01, 0x80, 0xff};
   size_t told = 0;
   for (size_t end = place + count; place < end; place++)
@@ -34,35 +38,53 @@ static size_t damaged(size_t place, size_t count, const struct suit_image *whole
       flash[place] ^= changes[i];
       struct suit_image image = booted();
       flash[place] ^= changes[i];
-      if (image.found && !is_same(&image, whole)) {
+      if (!image.found)
+        continue;
+      if (is_same(&image, whole))
+        told++;
+      else if (before->found && is_same(&image, before))
+        told_before++;
+      else {
         printf("another image with byte %zu changed\n", place);
         exit(1);
       }
-      told += image.found;
     }
   return told;
 }
 
-int main(int argc, char **argv) {
-  if (argc != 3)
-    return 2;
-  FILE *file = fopen(argv[1], "rb");
+static void load(const char *name) {
+  FILE *file = fopen(name, "rb");
   if (!file || fread(flash, 1, sizeof flash, file) != sizeof flash) {
-    perror(argv[1]);
-    return 70;
+    perror(name);
+    exit(70);
   }
   fclose(file);
+}
+
+int main(int argc, char **argv) {
+  if (argc != 3 && argc != 4)
+    return 2;
   size_t count = strtoul(argv[2], NULL, 10);
+  struct suit_image before = {0};
+  if (argc == 4) {
+    load(argv[3]);
+    before = booted();
+  }
+  load(argv[1]);
   struct suit_image whole = booted();
   if (!whole.found || whole.place < count + 8) {
     printf("no image behind the first %zu bytes\n", count);
     return 1;
   }
-  size_t told = damaged(0, count, &whole);
-  if (damaged(whole.place - 8, 8 + whole.length, &whole) != 0) {
+  size_t told = damaged(0, count, &whole, &before);
+  size_t told_of_it = told_before;
+  if (damaged(whole.place - 8, 8 + whole.length, &whole, &before) != 0 || told_before != told_of_it) {
     printf("an image whose own bytes are damaged\n");
     return 1;
   }
-  printf("of %zu damaged bytes, three ways each, %zu boots tell the image, and the others none\n", count, told);
+  printf("of %zu damaged bytes, three ways each, %zu boots tell the image, ", count, told);
+  if (argc == 4)
+    printf("%zu that of the record before, ", told_of_it);
+  printf("and the others none\n");
   return 0;
 }
