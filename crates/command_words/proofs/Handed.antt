@@ -1,5 +1,5 @@
 -- The values of a command, by the rows that it found.
-use Rattle.std.proofs.Common.{◌≡◌, ◌∙◌, List, [], Bool, true, false, ◌&&◌, Option, Some, refl, sym, ap}
+use Rattle.std.proofs.Common.{◌≡◌, ◌∙◌, List, [], Bool, true, false, ◌&&◌, Option, Some, drop, refl, sym, ap}
 use Rattle.std.specs.Prelude.{is_some, unwrap_or}
 use Rattle.clap.specs.Walk.{Row, first_of}
 use Rattle.clap.specs.Simple.{App, app_of, matches_of}
@@ -11,15 +11,15 @@ pub both : (a b : Bool) → (a && b) ≡ true → (a ≡ true) × (b ≡ true)
 both true b h = (refl, h)
 both false b h = let never : false ≡ true = h in cc
 
--- the value of an argument
+-- the value of an argument, by words whose first is the name of the command
 abbrev pub value_in : App → Word → Words → Option Word
-value_in app id words = first_of id (matches_of app words)
+value_in app id words = first_of id (matches_of app (drop 1 words))
 
 module _ (app : App) (words : Words) where
   pub taken : (command : Command) → app_of command ≡ app → takes app words ≡ true → takes (app_of command) words ≡ true
   taken command is takes_them = ap (λ (a : App). takes a words) is ∙ takes_them
 
-  module _ (rows : List Row) (are : rows ≡ matches_of app words) where
+  module _ (rows : List Row) (are : rows ≡ matches_of app (drop 1 words)) where
     pub found_in : (id : Word) → first_of id rows ≡ value_in app id words
     found_in id = ap (first_of id) are
 

@@ -1,5 +1,5 @@
 -- The words that the commands take, and their values.
-use Rattle.std.proofs.Common.{◌≡◌, ℕ, [], ◌∷◌, length, eqb, true, false, ◌&&◌, ◌≤◌, ◌∙◌, List, Option, Some, None, refl, codes, Bor, arith}
+use Rattle.std.proofs.Common.{◌≡◌, ℕ, [], ◌∷◌, length, eqb, true, false, ◌&&◌, ◌≤◌, ◌∙◌, List, Option, Some, None, refl, codes, drop, Bor, arith}
 use Rattle.std.specs.List.{list_all}
 use Rattle.clap.specs.Lexer.{short_of}
 use Rattle.clap.specs.Takes.{takes}
@@ -31,7 +31,7 @@ rest_plain word more plain = (both (is_plain word) (list_all is_plain more) plai
 
 -- a row takes each plain word behind its name as this argument
 abbrev TakesOne : Row → Word → Type 0
-TakesOne r id = (n w : Word) → is_plain w ≡ true → (takes (app_for r) (n ∷ w ∷ []) ≡ true) × (value_in (app_for r) id (n ∷ w ∷ []) ≡ Some w)
+TakesOne r id = (n w : Word) → is_plain w ≡ true → (takes (app_for r) (w ∷ []) ≡ true) × (value_in (app_for r) id (n ∷ w ∷ []) ≡ Some w)
 
 takes_check : TakesOne row.Check (codes "FILE")
 unfolding clap_on_literals
@@ -45,7 +45,7 @@ takes_drill n (w ∷ ws) hw = let ew = no_minus w ws hw in rw (ew, no_short w ws
 
 -- two words, of which a row takes the second as this argument
 pub record Ones (r : Row) (id : Word) (words : Words) : Type 0 where
-  pub takes_them : takes (app_for r) words ≡ true
+  pub takes_them : takes (app_for r) (drop 1 words) ≡ true
   pub name : Word
   pub value : Word
   pub are : words ≡ name ∷ value ∷ []
@@ -70,7 +70,7 @@ drills_texts words many plain = ones row.Drill (codes "NUMBER") takes_drill (tex
 -- a row takes two words behind its name as these arguments
 abbrev AreTaken : Row → Word → Word → Word → Word → Word → Type 0
 AreTaken r first second n v w =
-    (takes (app_for r) (n ∷ v ∷ w ∷ []) ≡ true)
+    (takes (app_for r) (v ∷ w ∷ []) ≡ true)
     × (value_in (app_for r) first (n ∷ v ∷ w ∷ []) ≡ Some v)
     × (value_in (app_for r) second (n ∷ v ∷ w ∷ []) ≡ Some w)
 
@@ -95,7 +95,7 @@ takes_init n =
     (λ v vs ev sv w ws ew sw. rw (ev, sv, ew, sw) (refl, refl, refl))
 
 pub record Inits (words : Words) : Type 0 where
-  pub takes_them : takes (app_for row.Init) words ≡ true
+  pub takes_them : takes (app_for row.Init) (drop 1 words) ≡ true
   pub device : Word
   pub key : Word
   pub has_device : value_in (app_for row.Init) (codes "DEVICE") words ≡ Some device
@@ -118,7 +118,7 @@ inits_texts words many plain = inits (texts words) (as_many words ∙ many) plai
 -- ---- `show`
 
 takes_describe : (n w : Word) → is_plain w ≡ true
-    → (takes (app_for row.Show) (n ∷ w ∷ []) ≡ true)
+    → (takes (app_for row.Show) (w ∷ []) ≡ true)
     × (value_in (app_for row.Show) (codes "FILE") (n ∷ w ∷ []) ≡ Some w)
     × (value_in (app_for row.Show) (codes "KEY") (n ∷ w ∷ []) ≡ None)
 unfolding clap_on_literals
@@ -137,7 +137,7 @@ shown file None = Describe file
 shown file (Some key) = Show file key
 
 pub record Shows (words : Words) : Type 0 where
-  pub takes_them : takes (app_for row.Show) words ≡ true
+  pub takes_them : takes (app_for row.Show) (drop 1 words) ≡ true
   pub file : Word
   pub key : Option Word
   pub has_file : value_in (app_for row.Show) (codes "FILE") words ≡ Some file
@@ -159,7 +159,7 @@ shows (n ∷ v ∷ w ∷ x ∷ more) some few plain = absurd (omega arith)
 -- ---- `make`
 
 takes_make : (n u v w : Word) → is_plain u ≡ true → is_plain v ≡ true → is_plain w ≡ true
-    → (takes (app_for row.Make) (n ∷ u ∷ v ∷ w ∷ []) ≡ true)
+    → (takes (app_for row.Make) (u ∷ v ∷ w ∷ []) ≡ true)
     × (value_in (app_for row.Make) (codes "DESCRIPTION") (n ∷ u ∷ v ∷ w ∷ []) ≡ Some u)
     × (value_in (app_for row.Make) (codes "KEY") (n ∷ u ∷ v ∷ w ∷ []) ≡ Some v)
     × (value_in (app_for row.Make) (codes "OUT") (n ∷ u ∷ v ∷ w ∷ []) ≡ Some w)
@@ -182,7 +182,7 @@ takes_make n (u ∷ us) (v ∷ vs) (w ∷ ws) hu hv hw =
     rw (eu, no_short u us eu, ev, no_short v vs ev, ew, no_short w ws ew) (refl, refl, refl, refl)
 
 pub record Makes (words : Words) : Type 0 where
-  pub takes_them : takes (app_for row.Make) words ≡ true
+  pub takes_them : takes (app_for row.Make) (drop 1 words) ≡ true
   pub description : Word
   pub key : Word
   pub out : Word

@@ -1,6 +1,7 @@
 -- The words of texts that are lent, part by part.
 use Rattle.std.proofs.Common.{◌≡◌, ◌∙◌, ◌≤◌, ◌-◌, zero, suc, ℕ, List, [], ◌∷◌, length, take, drop, slice_index_or, refl, sym, ap, Bor, arith}
 use Rattle.std.proofs.Math.Seq.{take-length}
+use Rattle.std.proofs.lemmas.List.{length-drop}
 use Rattle.command_words.specs.Tasks.{Word, texts}
 
 pub as_many : (words : List (Bor Word)) → length (texts words) ≡ length words
@@ -17,3 +18,11 @@ pub dropped : (n : ℕ) (words : List (Bor Word)) → texts (drop n words) ≡ d
 dropped zero words = refl
 dropped (suc n) [] = refl
 dropped (suc n) (word ∷ words) = dropped n words
+
+-- a range up to the end
+pub to_the_end : (n : ℕ) (words : List (Bor Word)) → take (length words - n) (drop n words) ≡ drop n words
+to_the_end n words = ap (λ (m : ℕ). take m (drop n words)) (sym (length-drop n words)) ∙ take-length (drop n words)
+
+-- the texts behind the first one, as a range of those that are lent
+pub behind_first : (words : List (Bor Word)) → texts (take (length words - 1) (drop 1 words)) ≡ drop 1 (texts words)
+behind_first words = ap texts (to_the_end 1 words) ∙ dropped 1 words

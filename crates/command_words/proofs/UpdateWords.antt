@@ -1,8 +1,6 @@
 -- The words of an update, and its values: a file, and any number of words after it.
 use Rattle.std.proofs.Common.{◌≡◌, ◌∙◌, ◌≤◌, refl, ap, ap₂, sym, codes, true, false, Bool, ◌&&◌, Option, Some, None, ℕ, List, [], ◌∷◌, ◌++◌, length, append_assoc, nat_le, arith, Bor}
 use Rattle.std.proofs.lemmas.List.{append-nil}
-use Rattle.std.proofs.Math.Seq.{take-length}
-use Rattle.std.proofs.lemmas.List.{length-drop}
 use Rattle.std.specs.Prelude.{fold, is_some, filter_map, unwrap_or, drop, take, ◌-◌, option_map, if◌then◌else◌}
 use Rattle.std.specs.List.{list_all}
 use Rattle.clap.specs.Lexer.{usize_max}
@@ -13,7 +11,7 @@ use Rattle.clap.proofs.OnLiterals.{clap_on_literals}
 use Rattle.command_words.specs.Tasks.{Word, Words, Answer, Update, texts}
 use Rattle.command_words.specs.Table.{update_of}
 use Rattle.command_words.specs.UriWords.{uris_of, most_uris, are_answers, cut}
-use Rattle.command_words.proofs.TextLists.{as_many, dropped}
+use Rattle.command_words.proofs.TextLists.{as_many, dropped, to_the_end}
 use Rattle.command_words.specs.Words.{is_plain}
 use Rattle.command_words.specs.Arguments.{app_for, rule_for}
 use Rattle.command_words.specs.declared.arguments.Row.TheVariants as row
@@ -98,9 +96,9 @@ more_pass v acc (u ∷ us) h =
 -- ---- a file alone
 
 takes_alone : (n v : Text) → is_plain v ≡ true
-    → (takes (app_for row.Update) (n ∷ v ∷ []) ≡ true)
+    → (takes (app_for row.Update) (v ∷ []) ≡ true)
     × (value_in (app_for row.Update) file (n ∷ v ∷ []) ≡ Some v)
-    × (all_of uris (matches_of (app_for row.Update) (n ∷ v ∷ [])) ≡ None)
+    × (all_of uris (matches_of (app_for row.Update) (v ∷ [])) ≡ None)
 unfolding clap_on_literals
 takes_alone n [] h = (refl, refl, refl)
 takes_alone n (x ∷ xs) h = let e = no_minus x xs h in rw (e, no_short x xs e) (refl, refl, refl)
@@ -142,13 +140,13 @@ unfolding clap_on_literals
 uris_at_end v u us = refl
 
 module _ (n v u : Text) (us : List Text) (hv : is_plain v ≡ true) (hu : is_plain u ≡ true) (hs : list_all is_plain us ≡ true) where
-  takes_more : nat_le (length (u ∷ us)) usize_max ≡ true → takes (app_for row.Update) (n ∷ v ∷ u ∷ us) ≡ true
+  takes_more : nat_le (length (u ∷ us)) usize_max ≡ true → takes (app_for row.Update) (v ∷ u ∷ us) ≡ true
   takes_more le = ap₂ asked (whole_walk n v u us hv hu hs) (all_pass n v u us hv hu hs) ∙ end_fine v u us le
 
   file_of_more : value_in (app_for row.Update) file (n ∷ v ∷ u ∷ us) ≡ Some v
   file_of_more = ap (λ (w : Walk). first_of file (finished rules w.held)) (whole_walk n v u us hv hu hs) ∙ file_at_end v u us
 
-  uris_of_more : all_of uris (matches_of (app_for row.Update) (n ∷ v ∷ u ∷ us)) ≡ Some (u ∷ us)
+  uris_of_more : all_of uris (matches_of (app_for row.Update) (v ∷ u ∷ us)) ≡ Some (u ∷ us)
   uris_of_more = ap (λ (w : Walk). all_of uris (finished rules w.held)) (whole_walk n v u us hv hu hs) ∙ uris_at_end v u us
 
 -- ---- all that `run update` is given
@@ -159,11 +157,11 @@ some_words [] = None
 some_words (word ∷ words) = Some (word ∷ words)
 
 pub record Updates (words : Words) : Type 0 where
-  pub takes_them : takes (app_for row.Update) words ≡ true
+  pub takes_them : takes (app_for row.Update) (drop 1 words) ≡ true
   pub first : Word
   pub answers : Words
   pub has_file : value_in (app_for row.Update) (codes "FILE") words ≡ Some first
-  pub has_answers : all_of (codes "URI=NAME") (matches_of (app_for row.Update) words) ≡ some_words answers
+  pub has_answers : all_of (codes "URI=NAME") (matches_of (app_for row.Update) (drop 1 words)) ≡ some_words answers
   pub are : answers ≡ drop 2 words
   pub table : update_of words ≡ option_map (Update first) (uris_of answers)
 
@@ -200,7 +198,7 @@ abbrev pub behind : List (Bor Word) → List (Bor Word)
 behind words = take (length words - 2) (drop 2 words)
 
 behind_is : (words : List (Bor Word)) → behind words ≡ drop 2 words
-behind_is words = ap (λ (n : ℕ). take n (drop 2 words)) (sym (length-drop 2 words)) ∙ take-length (drop 2 words)
+behind_is words = to_the_end 2 words
 
 pub updates_texts : (words : List (Bor Word)) → 2 ≤ length words → length (behind words) ≤ 64 → list_all is_plain (texts words) ≡ true → Updates (texts words)
 updates_texts words some few plain =
@@ -229,7 +227,7 @@ said_of words h file got said few all is_file is_got is_said =
 
 -- an update, by the rows that were found of its words
 module _ (words : List (Bor Word)) (some : 2 ≤ length words) (few : length (behind words) ≤ 64) (plain : list_all is_plain (texts words) ≡ true) where
-  pub handed : (rows : List Row) → rows ≡ matches_of (app_for row.Update) (texts words) → are_answers (texts (behind words)) ≡ true → (file : Word) → first_of (codes "FILE") rows ≡ Some file
+  pub handed : (rows : List Row) → rows ≡ matches_of (app_for row.Update) (drop 1 (texts words)) → are_answers (texts (behind words)) ≡ true → (file : Word) → first_of (codes "FILE") rows ≡ Some file
       → (got : Option Words) → got ≡ all_of (codes "URI=NAME") rows → (said : List Answer) → said ≡ filter_map cut (unwrap_or got []) → Some (Update file said) ≡ update_of (texts words)
   handed rows are all file is_file got is_got said is_said =
       let h = updates_texts words some few plain in

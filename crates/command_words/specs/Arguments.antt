@@ -2,7 +2,7 @@
 use Rattle.std.specs.Prelude.{true, Some, codes}
 use Rattle.clap.specs.Lexer.{usize_max}
 use Rattle.clap.specs.Walk.{Rule}
-use Rattle.clap.specs.Simple.{App, new_app, new_rule, with_rule}
+use Rattle.clap.specs.Simple.{App, new_app, new_rule, on_top, with_rule}
 use Rattle.clap.specs.declared.builder.action.ArgAction.TheVariants.{Set}
 use Rattle.command_words.specs.Tasks.{Word}
 use Rattle.command_words.specs.declared.arguments.Values.{Values}
@@ -10,29 +10,33 @@ use Rattle.command_words.specs.declared.arguments.Values.TheVariants as has
 use Rattle.command_words.specs.declared.arguments.Row.{Row}
 use Rattle.command_words.specs.declared.arguments.Row.TheVariants as row
 
--- an argument of so many values: one that must be there, one that may be left out, or any number of them
+-- an argument of so many values: one, or any number of them
 abbrev pub rule_for : Values → Word → Rule
-rule_for has.One id = record (new_rule id) { required = true; action = Some Set }
-rule_for has.OneAtMost id = record (new_rule id) { action = Some Set }
+rule_for has.One id = record (new_rule id) { action = Some Set }
 rule_for has.AnyNumber id =
     record (new_rule id)
     { range = Some (record { start_inclusive = 0; end_inclusive = usize_max }) }
 
+-- a command of this name with no argument and no flag for help: its words do not hold its name
+abbrev pub bare_app : Word → App
+bare_app name =
+    on_top (λ s. record s { no_binary_name = true; disable_help_flag = true }) (new_app name)
+
 -- the command of each row, by its name and its arguments in order
 abbrev pub app_for : Row → App
-app_for row.Check = with_rule (new_app (codes "check")) (rule_for has.One (codes "FILE"))
-app_for row.Drill = with_rule (new_app (codes "drill")) (rule_for has.One (codes "NUMBER"))
+app_for row.Check = with_rule (bare_app (codes "check")) (rule_for has.One (codes "FILE"))
+app_for row.Drill = with_rule (bare_app (codes "drill")) (rule_for has.One (codes "NUMBER"))
 app_for row.Init =
-    with_rule (with_rule (new_app (codes "init")) (rule_for has.One (codes "DEVICE")))
+    with_rule (with_rule (bare_app (codes "init")) (rule_for has.One (codes "DEVICE")))
     (rule_for has.One (codes "KEY"))
 app_for row.Make =
     with_rule
-    (with_rule (with_rule (new_app (codes "make")) (rule_for has.One (codes "DESCRIPTION")))
+    (with_rule (with_rule (bare_app (codes "make")) (rule_for has.One (codes "DESCRIPTION")))
     (rule_for has.One (codes "KEY")))
     (rule_for has.One (codes "OUT"))
 app_for row.Show =
-    with_rule (with_rule (new_app (codes "show")) (rule_for has.One (codes "FILE")))
-    (rule_for has.OneAtMost (codes "KEY"))
+    with_rule (with_rule (bare_app (codes "show")) (rule_for has.One (codes "FILE")))
+    (rule_for has.One (codes "KEY"))
 app_for row.Update =
-    with_rule (with_rule (new_app (codes "update")) (rule_for has.One (codes "FILE")))
+    with_rule (with_rule (bare_app (codes "update")) (rule_for has.One (codes "FILE")))
     (rule_for has.AnyNumber (codes "URI=NAME"))

@@ -1,22 +1,21 @@
 //! The commands, as `clap` takes their words and hands out their arguments by their places.
 
-ghost use Rattle.std.specs.Prelude.{◌≡◌, true, IfOk, Some, is_some, option_map};
+ghost use Rattle.std.specs.Prelude.{◌≡◌, ◌<◌, true, IfOk, Some, is_some, option_map, length, drop};
 ghost use Rattle.clap.specs.Takes.{takes};
 ghost use Rattle.clap.specs.Walk.{all_of, first_of, rows_of};
 ghost use Rattle.clap.specs.Simple.{app_of, matches_of, with_rule};
 ghost use Rattle.clap.specs.Matches.{found_of};
 ghost use Rattle.command_words.specs.Tasks.{texts};
-ghost use Rattle.command_words.specs.Arguments.{app_for, rule_for};
+ghost use Rattle.command_words.specs.Arguments.{app_for, bare_app, rule_for};
 
 use clap::error::ErrorKind;
 use clap::{Arg, ArgAction, ArgMatches, Command};
 use std::alloc::{AllocError, Global};
 
-/// How many values an argument has.
+/// How many values an argument has. None is required, since the table has judged the words.
 #[derive(Clone, Copy)]
 pub(crate) enum Values {
     One,
-    OneAtMost,
     AnyNumber,
 }
 
@@ -31,6 +30,15 @@ pub(crate) enum Row {
     Update,
 }
 
+// A command of this name, whose words are its arguments alone. No word begins with a dash, so there is no flag.
+fn bare<'a>(alloc: Global, name: &'a str) -> Command<'a>
+    ensures { app_of result ≡ bare_app name.entry.now }
+{
+    Command::new(alloc, name)
+        .no_binary_name(true)
+        .disable_help_flag(true)
+}
+
 // With one more argument.
 fn with<'a>(
     alloc: Global,
@@ -42,35 +50,34 @@ fn with<'a>(
         ≡ with_rule (app_of command.entry) (rule_for has id.entry.now)) }
 {
     match has {
-        Values::One => command.arg(Arg::new(alloc, id).required(true).action(ArgAction::Set)),
-        Values::OneAtMost => command.arg(Arg::new(alloc, id).action(ArgAction::Set)),
+        Values::One => command.arg(Arg::new(alloc, id).action(ArgAction::Set)),
         Values::AnyNumber => command.arg(Arg::new(alloc, id).num_args(0..)),
     }
 }
 
-// The command of a row. The first word of a row is the command's name.
+// The command of a row.
 fn command_for<'a>(alloc: Global, row: Row) -> Result<Command<'a>, AllocError>
     ensures { IfOk result (λ c. app_of c ≡ app_for row) }
 {
     match row {
-        Row::Check => with(alloc, Command::new(alloc, "check"), Values::One, "FILE"),
-        Row::Drill => with(alloc, Command::new(alloc, "drill"), Values::One, "NUMBER"),
+        Row::Check => with(alloc, bare(alloc, "check"), Values::One, "FILE"),
+        Row::Drill => with(alloc, bare(alloc, "drill"), Values::One, "NUMBER"),
         Row::Init => {
-            let command = with(alloc, Command::new(alloc, "init"), Values::One, "DEVICE")?;
+            let command = with(alloc, bare(alloc, "init"), Values::One, "DEVICE")?;
             with(alloc, command, Values::One, "KEY")
         }
         Row::Make => {
-            let command = Command::new(alloc, "make");
+            let command = bare(alloc, "make");
             let command = with(alloc, command, Values::One, "DESCRIPTION")?;
             let command = with(alloc, command, Values::One, "KEY")?;
             with(alloc, command, Values::One, "OUT")
         }
         Row::Show => {
-            let command = with(alloc, Command::new(alloc, "show"), Values::One, "FILE")?;
-            with(alloc, command, Values::OneAtMost, "KEY")
+            let command = with(alloc, bare(alloc, "show"), Values::One, "FILE")?;
+            with(alloc, command, Values::One, "KEY")
         }
         Row::Update => {
-            let command = with(alloc, Command::new(alloc, "update"), Values::One, "FILE")?;
+            let command = with(alloc, bare(alloc, "update"), Values::One, "FILE")?;
             with(alloc, command, Values::AnyNumber, "URI=NAME")
         }
     }
@@ -92,17 +99,18 @@ fn matched<'a>(command: Command<'a>, words: &'a [&'a str]) -> Result<ArgMatches<
     }
 }
 
-/// Matches words that the command of a row takes, which fails only where memory runs out.
+/// Matches the words behind a command's name, which the command of a row takes. It fails only where memory runs out.
 pub(crate) fn found<'a>(
     alloc: Global,
     row: Row,
     words: &'a [&'a str],
 ) -> Result<ArgMatches<'a>, AllocError>
-    requires { takes (app_for row) (texts words.now) ≡ true }
+    requires named { 0 < length words.now }
+    requires taken { takes (app_for row) (drop 1 (texts words.now)) ≡ true }
     ensures { IfOk result (λ m. rows_of (found_of m)
-        ≡ matches_of (app_for row) (texts words.entry.now)) }
+        ≡ matches_of (app_for row) (drop 1 (texts words.entry.now))) }
 {
-    matched(command_for(alloc, row)?, words)
+    matched(command_for(alloc, row)?, &words[1..])
 }
 
 /// The value of an argument that stands in the words.

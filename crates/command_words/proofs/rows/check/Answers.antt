@@ -7,8 +7,8 @@ use Rattle.command_words.proofs.Handed.{is_there, is_that}
 use Rattle.command_words.proofs.Taken.{checks_texts}
 use Rattle.command_words.proofs.rows.check.Goals as goal
 
-pub found-requires : goal.found-requires
-found-requires c = (checks_texts c.args.words.now (omega arith) c.requires).takes_them
+pub found-requires-clause-taken : goal.found-requires-clause-taken
+found-requires-clause-taken c = (checks_texts c.args.words.now (omega arith) c.requires).takes_them
 
 pub value_of-file-requires : goal.value_of-file-requires
 value_of-file-requires c = is_there (app_for row.Check) (texts c.args.words.now) _ c.in_ok-matches.ensures (codes "FILE") _ (checks_texts c.args.words.now (omega arith) c.requires).has_value

@@ -8,8 +8,8 @@ use Rattle.command_words.proofs.Handed.{is_there, is_that}
 use Rattle.command_words.proofs.Taken.{drills_texts}
 use Rattle.command_words.proofs.rows.drill.Goals as goal
 
-pub found-requires : goal.found-requires
-found-requires c =
+pub found-requires-clause-taken : goal.found-requires-clause-taken
+found-requires-clause-taken c =
     let h = drills_texts c.args.words.now (omega arith) c.requires in
     h.takes_them
 

@@ -6,8 +6,8 @@ use Rattle.command_words.proofs.Handed.{is_there, is_that}
 use Rattle.command_words.proofs.Taken.{inits_texts}
 use Rattle.command_words.proofs.rows.init.Goals as goal
 
-pub found-requires : goal.found-requires
-found-requires c = (inits_texts c.args.words.now (omega arith) c.requires).takes_them
+pub found-requires-clause-taken : goal.found-requires-clause-taken
+found-requires-clause-taken c = (inits_texts c.args.words.now (omega arith) c.requires).takes_them
 
 pub value_of-device-requires : goal.value_of-device-requires
 value_of-device-requires c = is_there (app_for row.Init) (texts c.args.words.now) _ c.in_ok-matches.ensures (codes "DEVICE") _ (inits_texts c.args.words.now (omega arith) c.requires).has_device

@@ -6,8 +6,8 @@ use Rattle.command_words.proofs.Handed.{is_there, is_that}
 use Rattle.command_words.proofs.Taken.{makes_texts}
 use Rattle.command_words.proofs.rows.make.Goals as goal
 
-pub found-requires : goal.found-requires
-found-requires c = (makes_texts c.args.words.now (omega arith) c.requires).takes_them
+pub found-requires-clause-taken : goal.found-requires-clause-taken
+found-requires-clause-taken c = (makes_texts c.args.words.now (omega arith) c.requires).takes_them
 
 pub value_of-description-requires : goal.value_of-description-requires
 value_of-description-requires c = is_there (app_for row.Make) (texts c.args.words.now) _ c.in_ok-matches.ensures (codes "DESCRIPTION") _ (makes_texts c.args.words.now (omega arith) c.requires).has_description

@@ -13,8 +13,8 @@ use Rattle.command_words.proofs.rows.show.Goals as goal
 shows_texts : (words : List (Bor Word)) → 2 ≤ length words → length words ≤ 3 → list_all is_plain (texts words) ≡ true → Shows (texts words)
 shows_texts words some few plain = let many = as_many words in shows (texts words) (omega arith) (omega arith) plain
 
-pub found-requires : goal.found-requires
-found-requires c =
+pub found-requires-clause-taken : goal.found-requires-clause-taken
+found-requires-clause-taken c =
     let h = shows_texts c.args.words.now (omega arith) (omega arith) c.requires in
     h.takes_them
 

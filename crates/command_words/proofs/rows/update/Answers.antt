@@ -6,8 +6,8 @@ use Rattle.command_words.proofs.Handed.{is_there}
 use Rattle.command_words.proofs.UpdateWords.{updates_texts, handed}
 use Rattle.command_words.proofs.rows.update.Goals as goal
 
-pub found-requires : goal.found-requires
-found-requires c = (updates_texts c.args.words.now (omega arith) c.if-answers-gt-MOST_URIS.false c.requires).takes_them
+pub found-requires-clause-taken : goal.found-requires-clause-taken
+found-requires-clause-taken c = (updates_texts c.args.words.now (omega arith) c.if-answers-gt-MOST_URIS.false c.requires).takes_them
 
 pub value_of-file-requires : goal.value_of-file-requires
 value_of-file-requires c =
