@@ -5,30 +5,32 @@ use crate::shape::Shape;
 use crate::{Draw, round, vectors};
 use std::alloc::{AllocError, Global};
 
+/// Numbers, and what each draws first.
+const FIRSTS: [(u64, u64); 3] = [
+    (7, 1_059_165_278),
+    (0, 167_951_807),
+    (18_446_744_073_709_551_615, 1_574_552_488),
+];
+
 #[test]
 fn draws_are_those_of_another_program(rt: HostRuntime) {
-    let firsts = [
-        (7, 1_059_165_278),
-        (0, 167_951_807),
-        (18_446_744_073_709_551_615, 1_574_552_488),
-    ];
-    for (number, first) in firsts {
-        assert_eq!(rt; Draw::new(number).next(), first, "of {number}");
+    for (number, first) in &FIRSTS {
+        assert!(rt; Draw::new(*number).next() == *first);
     }
     let mut draw = Draw::new(7);
     let three = [draw.next(), draw.next(), draw.next()];
-    assert_eq!(rt; three, [1_059_165_278, 2_052_263_231, 1_946_856_753]);
+    assert!(rt; three == [1_059_165_278, 2_052_263_231, 1_946_856_753]);
 }
 
 #[test]
 fn the_first_round_of_seven(rt: HostRuntime) -> Result<(), AllocError> {
     let drawn = draw_round(rt.alloc(), &mut Draw::new(7))?;
-    assert_eq!(rt; drawn.shape, Shape::Loaded);
-    assert_eq!(rt; drawn.payload.len(), 49_028);
+    assert!(rt; drawn.shape == Shape::Loaded);
+    assert!(rt; drawn.payload.len() == 49_028);
     assert!(rt; !drawn.wrong_payload);
     assert!(rt; !drawn.wants_cut);
-    assert_eq!(rt; drawn.passes, 103);
-    assert_eq!(rt; drawn.choice, 2_977_844_157_744_241_824);
+    assert!(rt; drawn.passes == 103);
+    assert!(rt; drawn.choice == 2_977_844_157_744_241_824);
     Ok(())
 }
 
@@ -52,16 +54,17 @@ fn counts(alloc: Global, number: u64) -> Result<(usize, usize), AllocError> {
     Ok((plain, stopped))
 }
 
+/// Numbers, and these counts of the rounds that are drawn from each.
+const COUNTS: [(u64, (usize, usize)); 3] = [
+    (7, (65, 25)),
+    (0, (73, 14)),
+    (18_446_744_073_709_551_615, (60, 16)),
+];
+
 #[test]
 fn two_hundred_rounds(rt: HostRuntime) -> Result<(), AllocError> {
-    let rows = [
-        (7, 65, 25),
-        (0, 73, 14),
-        (18_446_744_073_709_551_615, 60, 16),
-    ];
-    for (number, plain, stopped) in rows {
-        let found = counts(rt.alloc(), number)?;
-        assert_eq!(rt; found, (plain, stopped), "of {number}");
+    for (number, wanted) in &COUNTS {
+        assert!(rt; counts(rt.alloc(), *number)? == *wanted);
     }
     Ok(())
 }
@@ -82,6 +85,6 @@ fn vectors_are_there(rt: HostRuntime) -> Result<(), AllocError> {
     for vector in vectors(rt.alloc())?.as_slice() {
         lengths.push(vector.len())?;
     }
-    assert_eq!(rt; lengths.as_slice(), [32, 32, 44, 71, 119, 83].as_slice());
+    assert!(rt; lengths.as_slice() == [32, 32, 44, 71, 119, 83].as_slice());
     Ok(())
 }
