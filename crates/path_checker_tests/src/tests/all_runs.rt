@@ -58,6 +58,34 @@ impl<'a> Run<'a> {
         self.with(alloc, events)
     }
 
+    fn copy(&self, alloc: Global) -> Result<Run<'a>, AllocError> {
+        self.with(alloc, self.events.copy(alloc)?)
+    }
+
+    // The run as it enters an inner sequence after these events.
+    fn entering(
+        &self,
+        at: At<'_>,
+        events: Events,
+        soft_failure: bool,
+    ) -> Result<Run<'a>, AllocError> {
+        let mut run = self.with(at.alloc, events)?;
+        run.selection = Vec::from_slice(at.alloc, &[at.component])?;
+        run.soft_failure = soft_failure;
+        Ok(run)
+    }
+
+    // A run of an inner sequence, as the sequence round it goes on.
+    fn leaving(mut self, alloc: Global, outer: &Run<'a>) -> Result<Run<'a>, AllocError> {
+        if self.end == End::Condition && self.soft_failure {
+            self.end = End::Softly;
+            self.set = Vec::from_slice(alloc, &outer.set)?;
+        }
+        self.selection = Vec::from_slice(alloc, &outer.selection)?;
+        self.soft_failure = outer.soft_failure;
+        Ok(self)
+    }
+
     // A parameter of a component, as it was set last.
     fn get(&self, component: u32, key: ParamKey) -> Option<&'a Param> {
         let mut found = None;
@@ -158,46 +186,53 @@ fn test<'a>(at: At<'_>, kind: TestKind, run: Run<'a>, out: &mut Runs<'a>) -> Don
 
 // ---- directives
 
-fn invoke<'a>(at: At<'_>, run: Run<'a>, out: &mut Runs<'a>) -> Done {
-    for passed in [true, false] {
-        let event = Event::Invoked {
-            component: at.component,
-            digest: run.digest(at.component),
-            size: run.size(at.component),
-            passed,
-        };
-        let invoked = run.and(at.alloc, event)?;
-        if passed {
-            out.push(invoked)?;
-        } else {
-            fail(at, invoked, End::Directive, out)?;
-        }
-    }
-    Ok(())
+fn invoked<'a>(at: At<'_>, run: &Run<'a>, passed: bool) -> Result<Run<'a>, AllocError> {
+    let event = Event::Invoked {
+        component: at.component,
+        digest: run.digest(at.component),
+        size: run.size(at.component),
+        passed,
+    };
+    run.and(at.alloc, event)
 }
 
-fn write<'a>(at: At<'_>, kind: ActKind, run: Run<'a>, out: &mut Runs<'a>) -> Done {
-    let source = match run.get(at.component, ParamKey::Source) {
+fn invoke<'a>(at: At<'_>, run: &Run<'a>, out: &mut Runs<'a>) -> Done {
+    out.push(invoked(at, run, true)?)?;
+    fail(at, invoked(at, run, false)?, End::Directive, out)
+}
+
+fn source_of(at: At<'_>, run: &Run<'_>) -> Option<u32> {
+    match run.get(at.component, ParamKey::Source) {
         Some(Param::Source(source)) => Some(*source),
         _ => None,
-    };
-    let has_param = match kind {
+    }
+}
+
+fn has_param(at: At<'_>, kind: ActKind, run: &Run<'_>) -> bool {
+    match kind {
         ActKind::Write => run.get(at.component, ParamKey::Content).is_some(),
         ActKind::Fetch => run.get(at.component, ParamKey::Uri).is_some(),
-        _ => source.is_some(),
-    };
-    if !has_param {
-        return fail(at, run, End::Directive, out);
+        _ => source_of(at, run).is_some(),
     }
+}
+
+fn wrote<'a>(at: At<'_>, kind: ActKind, run: &Run<'a>) -> Result<Run<'a>, AllocError> {
     let component = at.component;
     let mut wrote = run.and(at.alloc, Event::Wrote { component })?;
     if kind == ActKind::Swap
-        && let Some(component) = source
+        && let Some(component) = source_of(at, run)
     {
         wrote.events.push(Event::Wrote { component })?;
     }
-    let events = wrote.events.copy(at.alloc)?;
-    fail(at, wrote.with(at.alloc, events)?, End::Directive, out)?;
+    Ok(wrote)
+}
+
+fn write<'a>(at: At<'_>, kind: ActKind, run: Run<'a>, out: &mut Runs<'a>) -> Done {
+    if !has_param(at, kind, &run) {
+        return fail(at, run, End::Directive, out);
+    }
+    let wrote = wrote(at, kind, &run)?;
+    fail(at, wrote.copy(at.alloc)?, End::Directive, out)?;
     out.push(wrote)?;
     Ok(())
 }
@@ -235,52 +270,77 @@ fn selected(at: At<'_>, selection: &Selection) -> Result<Vec<u32>, AllocError> {
     }
 }
 
+fn alone<'a>(alloc: Global, run: Run<'a>) -> Result<Runs<'a>, AllocError> {
+    let mut runs = Vec::new(alloc);
+    runs.push(run)?;
+    Ok(runs)
+}
+
 #[cycle(runs)]
 fn sequence<'a>(at: At<'_>, held: &'a Sequence, from: Runs<'a>) -> Result<Runs<'a>, AllocError> {
     let mut runs = from;
     for step in held.as_slice() {
-        let mut at = at;
-        at.place = step.place;
-        let mut out = Vec::new(at.alloc);
-        for run in runs {
-            if run.end == End::Going {
-                each(at, step, run, &mut out)?;
-            } else {
-                out.push(run)?;
-            }
-        }
-        runs = out;
+        runs = after_step(at, step, runs)?;
     }
     Ok(runs)
 }
 
+// The runs after one more step.
+#[cycle(runs)]
+fn after_step<'a>(at: At<'_>, step: &'a Step, runs: Runs<'a>) -> Result<Runs<'a>, AllocError> {
+    let mut at = at;
+    at.place = step.place;
+    let mut out = Vec::new(at.alloc);
+    for run in runs {
+        if run.end == End::Going {
+            each(at, &step.command, run, &mut out)?;
+        } else {
+            out.push(run)?;
+        }
+    }
+    Ok(out)
+}
+
+fn select<'a>(at: At<'_>, selection: &Selection, run: Run<'a>, out: &mut Runs<'a>) -> Done {
+    let mut run = run;
+    run.selection = selected(at, selection)?;
+    out.push(run)?;
+    Ok(())
+}
+
 // A command, at each selected component.
 #[cycle(runs)]
-fn each<'a>(at: At<'_>, step: &'a Step, run: Run<'a>, out: &mut Runs<'a>) -> Done {
-    let mut run = run;
-    if let Command::Index(selection) = &step.command {
-        run.selection = selected(at, selection)?;
-        out.push(run)?;
-        return Ok(());
+fn each<'a>(at: At<'_>, command: &'a Command, run: Run<'a>, out: &mut Runs<'a>) -> Done {
+    if let Command::Index(selection) = command {
+        return select(at, selection, run, out);
     }
     let selection = Vec::from_slice(at.alloc, &run.selection)?;
-    let mut runs = Vec::new(at.alloc);
-    runs.push(run)?;
+    let mut runs = alone(at.alloc, run)?;
     for component in &selection {
         let mut at = at;
         at.component = *component;
-        let mut next = Vec::new(at.alloc);
-        for run in runs {
-            if run.end == End::Going {
-                one(at, &step.command, run, &mut next)?;
-            } else {
-                next.push(run)?;
-            }
-        }
-        runs = next;
+        runs = at_one(at, command, runs)?;
     }
     out.append(&mut runs)?;
     Ok(())
+}
+
+// The runs after a command at one component.
+#[cycle(runs)]
+fn at_one<'a>(
+    at: At<'_>,
+    command: &'a Command,
+    runs: Runs<'a>,
+) -> Result<Runs<'a>, AllocError> {
+    let mut out = Vec::new(at.alloc);
+    for run in runs {
+        if run.end == End::Going {
+            one(at, command, run, &mut out)?;
+        } else {
+            out.push(run)?;
+        }
+    }
+    Ok(out)
 }
 
 // A command, at one component.
@@ -288,23 +348,28 @@ fn each<'a>(at: At<'_>, step: &'a Step, run: Run<'a>, out: &mut Runs<'a>) -> Don
 fn one<'a>(at: At<'_>, command: &'a Command, run: Run<'a>, out: &mut Runs<'a>) -> Done {
     match command {
         Command::Test { kind, .. } => test(at, *kind, run, out),
-        Command::Act { kind, .. } if *kind == ActKind::Invoke => invoke(at, run, out),
+        Command::Act { kind, .. } if *kind == ActKind::Invoke => invoke(at, &run, out),
         Command::Act { kind, .. } => write(at, *kind, run, out),
         Command::Index(_) => Ok(()),
         Command::Override(list) => Ok(out.push(overrides(at, list, run)?)?),
-        Command::TryEach(branches) => try_each(at, branches, run, out),
+        Command::TryEach(branches) => try_each(at, branches, &run, out),
         Command::Run(held) => {
             let events = run.events.copy(at.alloc)?;
-            for done in inner(at, held, false, &run, events)? {
-                let mut done = done;
-                if done.end == End::Softly {
-                    done.end = End::Going;
-                }
-                out.push(done)?;
-            }
-            Ok(())
+            go_on(inner(at, held, false, &run, events)?, out)
         }
     }
+}
+
+// The runs behind an inner sequence, whose soft failure is passed over.
+fn go_on<'a>(runs: Runs<'a>, out: &mut Runs<'a>) -> Done {
+    for run in runs {
+        let mut run = run;
+        if run.end == End::Softly {
+            run.end = End::Going;
+        }
+        out.push(run)?;
+    }
+    Ok(())
 }
 
 // The runs of an inner sequence after these events, as the sequence round it goes on.
@@ -321,50 +386,74 @@ fn inner<'a>(
     }
     let mut within = at;
     within.levels = at.levels - 1;
-    let mut entered = outer.with(at.alloc, events)?;
-    entered.selection = Vec::from_slice(at.alloc, &[at.component])?;
-    entered.soft_failure = soft_failure;
-    let mut from = Vec::new(at.alloc);
-    from.push(entered)?;
-    let mut out = Vec::new(at.alloc);
-    for run in sequence(within, held, from)? {
-        let mut run = run;
-        if run.end == End::Condition && run.soft_failure {
-            run.end = End::Softly;
-            run.set = Vec::from_slice(at.alloc, &outer.set)?;
-        }
-        run.selection = Vec::from_slice(at.alloc, &outer.selection)?;
-        run.soft_failure = outer.soft_failure;
-        out.push(run)?;
+    let from = alone(at.alloc, outer.entering(at, events, soft_failure)?)?;
+    all_leaving(at.alloc, sequence(within, held, from)?, outer)
+}
+
+fn all_leaving<'a>(
+    alloc: Global,
+    runs: Runs<'a>,
+    outer: &Run<'a>,
+) -> Result<Runs<'a>, AllocError> {
+    let mut out = Vec::new(alloc);
+    for run in runs {
+        out.push(run.leaving(alloc, outer)?)?;
     }
     Ok(out)
 }
 
 // The branches in order, each after those before it failed softly.
 #[cycle(runs)]
-fn try_each<'a>(at: At<'_>, branches: &'a Branches, outer: Run<'a>, out: &mut Runs<'a>) -> Done {
+fn try_each<'a>(at: At<'_>, branches: &'a Branches, outer: &Run<'a>, out: &mut Runs<'a>) -> Done {
     let mut waiting = Vec::new(at.alloc);
     waiting.push(outer.events.copy(at.alloc)?)?;
-    let mut end = End::Condition;
     for branch in branches.as_slice() {
         let Some(held) = branch else {
-            end = End::Going;
-            break;
+            return end_all(at.alloc, waiting, outer, End::Going, out);
         };
-        let mut rest = Vec::new(at.alloc);
-        for events in waiting {
-            for run in inner(at, held, true, &outer, events)? {
-                if run.end == End::Softly {
-                    rest.push(run.events)?;
-                } else {
-                    out.push(run)?;
-                }
-            }
-        }
-        waiting = rest;
+        waiting = after_branch(at, held, outer, waiting, out)?;
     }
+    end_all(at.alloc, waiting, outer, End::Condition, out)
+}
+
+// The events after which a branch failed softly. Its other runs are done with the try.
+#[cycle(runs)]
+fn after_branch<'a>(
+    at: At<'_>,
+    held: &'a Sequence,
+    outer: &Run<'a>,
+    waiting: Vec<Events>,
+    out: &mut Runs<'a>,
+) -> Result<Vec<Events>, AllocError> {
+    let mut rest = Vec::new(at.alloc);
     for events in waiting {
-        let mut run = outer.with(at.alloc, events)?;
+        set_apart(inner(at, held, true, outer, events)?, &mut rest, out)?;
+    }
+    Ok(rest)
+}
+
+// Sets the events of runs that failed softly apart.
+fn set_apart<'a>(runs: Runs<'a>, softly: &mut Vec<Events>, out: &mut Runs<'a>) -> Done {
+    for run in runs {
+        if run.end == End::Softly {
+            softly.push(run.events)?;
+        } else {
+            out.push(run)?;
+        }
+    }
+    Ok(())
+}
+
+// A run with each of these events, which ends so.
+fn end_all<'a>(
+    alloc: Global,
+    all: Vec<Events>,
+    outer: &Run<'a>,
+    end: End,
+    out: &mut Runs<'a>,
+) -> Done {
+    for events in all {
+        let mut run = outer.with(alloc, events)?;
         run.end = end;
         out.push(run)?;
     }
@@ -372,6 +461,25 @@ fn try_each<'a>(at: At<'_>, branches: &'a Branches, outer: Run<'a>, out: &mut Ru
 }
 
 // ---- procedures
+
+fn begun<'a>(alloc: Global) -> Run<'a> {
+    Run {
+        events: Events::new(alloc),
+        set: Vec::new(alloc),
+        selection: Vec::new(alloc),
+        soft_failure: false,
+        end: End::Going,
+    }
+}
+
+// A part of a procedure begins with component 0 selected.
+fn enter_part(alloc: Global, runs: &mut Runs<'_>) -> Done {
+    for run in runs.iter_mut() {
+        run.selection = Vec::from_slice(alloc, &[0])?;
+        run.soft_failure = false;
+    }
+    Ok(())
+}
 
 /// All runs of a procedure for these identities, where its inner sequences are at most three deep. Deeper ones end as
 /// running out of memory does.
@@ -387,22 +495,12 @@ pub(crate) fn all_runs<'a>(
         place: 0,
         component: 0,
     };
-    let mut runs = Vec::new(alloc);
-    runs.push(Run {
-        events: Events::new(alloc),
-        set: Vec::new(alloc),
-        selection: Vec::new(alloc),
-        soft_failure: false,
-        end: End::Going,
-    })?;
+    let mut runs = alone(alloc, begun(alloc))?;
     let shared = plan.shared;
-    for part in [shared, plan.first, shared, plan.second, shared, plan.third] {
-        for run in &mut runs {
-            run.selection = Vec::from_slice(alloc, &[0])?;
-            run.soft_failure = false;
-        }
+    for part in &[shared, plan.first, shared, plan.second, shared, plan.third] {
         if let Some(held) = part {
-            runs = sequence(at, held, runs)?;
+            enter_part(alloc, &mut runs)?;
+            runs = sequence(at, *held, runs)?;
         }
     }
     Ok(runs)
