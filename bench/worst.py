@@ -183,6 +183,11 @@ def looped(counts, inner):
     return inner + [index(0)]
 
 
+def alike(number):
+    """An override of a digest that begins as others."""
+    return [override((3, digest(b"\x11" * 31 + bytes([number]))))]
+
+
 def in_loops():
     """Commands that are done millions of times, each behind its name."""
     start = [ALL, override((18, b"\x41\xaa"), (22, b"\x01")), index(0)]
@@ -199,6 +204,43 @@ def in_loops():
     invokes = [one for number in range(100) for one in (size(number), INVOKE)]
     yield "invokes under 100 sizes, done 2,000,000 times", sizes + [index(*[0] * 100), run(index(*[0] * 200), run(*invokes)), index(0)]
     yield "4,000,000 matches", [index(*[0, 1] * 1000), override((3, digest(IMAGE)))] + [MATCH] * 2000
+    yield "4,000,000 matches of digests that begin alike", alike(0) + [MATCH] + alike(1) + [index(1)] + alike(2) + [turns(2000)] + [MATCH] * 2000
+
+
+# ---- what is made against the way fingerprints are mixed, and against the comparison of parameters
+
+FACTOR = 0x9E37_79B9_7F4A_7C15
+PARTS = 1 << 64
+
+
+def mixed(print, number):
+    product = (print ^ number) * FACTOR % PARTS
+    return product ^ product >> 32
+
+
+def of_one_fingerprint(count):
+    """Digests whose bytes, mixed in once, come to one number."""
+    wanted, back = 0x1234_5678_9ABC_DEF0, pow(FACTOR, -1, PARTS)
+    for number in range(count):
+        words = [number, 1, 1]
+        print = 1
+        for word in words:
+            print = mixed(print, word)
+        words.append((wanted ^ wanted >> 32) * back % PARTS ^ print)
+        yield b"".join(word.to_bytes(8, "little") for word in words)
+
+
+def met_fingerprints():
+    sets = [override((3, digest(one))) for one in of_one_fingerprint(165)]
+    matches = [command for one in sets for command in (one, MATCH)]
+    invokes = [command for one in sets for command in (one, INVOKE)]
+    return matches + [index(*[0] * 100), run(index(*[0] * 120), run(*invokes)), index(0)]
+
+
+def long_contents(length):
+    """Overrides in 8,192 states in a sequence, where so long a content is in force at eight components."""
+    start = [("index", b"\x0c\xf5", 8), content(7, length), index(0)]
+    return start + [run(*map(fork_by_size, range(13)), *(command for number in range(200) for command in (size(number), WRITE)))]
 
 
 def enclosed(stored, commands, is_wanted, count):
@@ -234,3 +276,6 @@ def dear(stored):
     """Those in loops, as envelopes."""
     for shows, commands in in_loops():
         yield shows, enclosed(stored, commands, False, 2)
+    yield "invokes under 165 digests of one fingerprint, done 2,000,000 times", enclosed(stored, met_fingerprints(), False, 2)
+    for length in (100, 10_000):
+        yield "a content of %d bytes at 8 components in 8,192 states" % length, enclosed(stored, long_contents(length), False, 8)

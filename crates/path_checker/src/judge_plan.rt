@@ -31,6 +31,7 @@ mod reuse;
 mod same_param;
 mod selected;
 mod sets;
+mod sip;
 mod standing;
 mod straight;
 mod trace;

@@ -283,7 +283,7 @@ pub(crate) fn settled<'a>(
     ensures { IfOk result (λ settled. settled ≡ k.entry) }
 {
     let mut k = k;
-    if !was_own && memory.is_crowded() {
+    if !was_own && memory.is_crowded() && memory.may_read(k.params.bytes()) {
         k.params = k.params.shared(&memory.last.params)?;
     }
     Ok(k)

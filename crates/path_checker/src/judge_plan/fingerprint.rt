@@ -22,14 +22,6 @@ pub(crate) fn of_bytes(bytes: &[u8]) -> u64 {
     print
 }
 
-/// The fingerprint of an optional number.
-pub(crate) fn of_number(number: Option<u64>) -> u64 {
-    match number {
-        Some(number) => mixed(2, number),
-        None => 0,
-    }
-}
-
 /// The fingerprint of a parameter, by its length alone if it is long.
 pub(crate) fn of_param(param: Option<&Param>) -> u64 {
     match param {

@@ -141,6 +141,37 @@ impl<'a> InForce<'a> {
         Ok(self)
     }
 
+    // How many bytes are in force for a component under a key.
+    fn bytes_under(&self, component: u32, key: ParamKey) -> usize
+        requires room { component < 8 }
+    {
+        match self.params.get(component, key) {
+            Some(Param::Content(bytes)) => bytes.len(),
+            Some(Param::Uri(text)) => text.len(),
+            Some(Param::Args(bytes)) => bytes.len(),
+            _ => 0,
+        }
+    }
+
+    // How many bytes are in force for a component.
+    fn bytes_at(&self, component: u32) -> usize
+        requires room { component < 8 }
+    {
+        let content = self.bytes_under(component, ParamKey::Content);
+        let uri = self.bytes_under(component, ParamKey::Uri);
+        let args = self.bytes_under(component, ParamKey::Args);
+        content.saturating_add(uri).saturating_add(args)
+    }
+
+    /// How many bytes are in force.
+    pub(crate) fn bytes(&self) -> usize {
+        let mut all: usize = 0;
+        for component in 0..8_u32 {
+            all = all.saturating_add(self.bytes_at(component));
+        }
+        all
+    }
+
     // Whether the same is in force for a component under a key.
     fn is_same_under(&self, other: &InForce<'_>, component: u32, key: ParamKey) -> bool
         requires room { component < 8 }

@@ -182,6 +182,18 @@ impl Links {
         }
     }
 
+    /// The index at which a search for a match ended, if it was found.
+    pub(crate) fn found_at(&self, ended: Ended, wanted: &Match<'_>) -> Option<usize> {
+        if !ended.found {
+            return None;
+        }
+        match ended.place {
+            Place::First => self.first_link(wanted).index(),
+            Place::Below { at, one } => self.next(at, one).index(),
+            Place::Lost => None,
+        }
+    }
+
     // Links the next match of a list where a search for it ended.
     fn link(&mut self, own: &Match<'_>, place: Place) -> Result<(), AllocError> {
         let link = Link::to(self.below.len(), own);

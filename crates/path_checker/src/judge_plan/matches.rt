@@ -1,13 +1,13 @@
 //! The matches of one component. Copies share them until one is added.
 
-ghost use Rattle.std.specs.Prelude.{◌≡◌, ◌↔◌, [], ◌∷◌, IsTrue, IfOk, OnOk};
+ghost use Rattle.std.specs.Prelude.{◌≡◌, ◌↔◌, [], ◌∷◌, IsTrue, IfSome, IfOk, OnOk};
 ghost use Rattle.path_checker.specs.Exploring.{In};
 ghost use Rattle.path_checker.specs.Matches.{Match as TheMatch, match_of, matches_from, match_event, covered_event, SameMembers};
 
-use crate::judge_plan::fingerprint::{mixed, of_bytes, of_number};
-use crate::judge_plan::links::Links;
+use crate::judge_plan::links::{Ended, Links};
 use crate::judge_plan::memory::Memory;
 use crate::judge_plan::same_param::same_digest;
+use crate::judge_plan::sip::Sip;
 use path_model::Event;
 use std::alloc::{AllocError, Global};
 use std::marker::Model;
@@ -22,15 +22,13 @@ pub(crate) struct Match<'a> {
     print: u64,
 }
 
-// Both ways, so that no size is easily found that gives a fingerprint.
+// No matches are easily found that have one fingerprint.
 fn print_of(digest: &Digest, size: Option<u64>) -> u64 {
-    let (one, other) = (of_bytes(&digest.bytes[..]), of_number(size));
-    mixed(one, other) ^ mixed(other, one.rotate_left(32)).wrapping_add(one)
-}
-
-// A fingerprint that is soon made.
-fn short_print(digest: &Digest, size: Option<u64>) -> u64 {
-    mixed(of_bytes(&digest.bytes[..4]), of_number(size))
+    let sip = Sip::new().with_bytes(&digest.bytes[..]);
+    match size {
+        Some(size) => sip.with(size).print(),
+        None => sip.print(),
+    }
 }
 
 impl<'a> Match<'a> {
@@ -45,7 +43,7 @@ impl<'a> Match<'a> {
         }
     }
 
-    /// In memory that all states share. The next state mostly comes to the same.
+    /// In memory that all states share, where it is made once.
     pub(crate) fn lent(
         memory: Memory<'a>,
         digest: &'a Digest,
@@ -53,20 +51,21 @@ impl<'a> Match<'a> {
     ) -> Result<&'a Match<'a>, AllocError>
         ensures { IfOk result (λ own. match_of own.now ≡ (digest.now, size)) }
     {
-        let print = short_print(digest, size);
-        if let Some(last) = memory.last_match(print) {
-            if last.is_under(digest, size) {
-                return Ok(last);
+        let own = Match::new(digest, size);
+        match memory.last.matches.replace(None) {
+            Some(made) => {
+                let mut all = made;
+                let lent = all.lent(memory, own)?;
+                memory.last.matches.set(Some(all));
+                Ok(lent)
+            }
+            None => {
+                let lent = memory.events.try_alloc(own)?;
+                let all = Matches::of(memory.alloc, lent)?;
+                memory.last.matches.set(Some(all));
+                Ok(lent)
             }
         }
-        if let Some(other) = memory.other_match(print) {
-            if other.is_under(digest, size) {
-                return Ok(other);
-            }
-        }
-        let own = memory.events.try_alloc(Match::new(digest, size))?;
-        memory.keep_match(print, own)?;
-        Ok(own)
     }
 
     /// The event that a component matched so.
@@ -92,23 +91,11 @@ impl<'a> Match<'a> {
         }
     }
 
-    /// Whether it is under this digest and size.
-    pub(crate) fn is_under(&self, digest: &Digest, size: Option<u64>) -> bool
-        ensures { IsTrue result → match_of self.now ≡ (digest.now, size) }
-    {
-        self.size == size && same_digest(self.digest, digest)
-    }
-
     /// Whether it is the other.
     pub(crate) fn is(&self, other: &Match<'_>) -> bool
         ensures { IsTrue result ↔ (match_of self.now ≡ match_of other.now) }
     {
         self.size == other.size && same_digest(self.digest, other.digest)
-    }
-
-    /// The fingerprint.
-    pub(crate) fn print(&self) -> u64 {
-        self.print
     }
 
     /// Some bits of the fingerprint.
@@ -186,7 +173,17 @@ impl<'a> Matches<'a> {
         self.links.search(self.all.as_slice(), wanted).found
     }
 
-    // One match more.
+    // One match more, where a search for it ended.
+    fn put(&mut self, alloc: Global, own: &'a Match<'a>, ended: Ended) -> Result<(), AllocError>
+        ensures { OnOk result (SameMembers self.new (match_of own.now ∷ self.old)) }
+    {
+        self.all.push(own)?;
+        self.sum = self.sum.wrapping_add(own.print);
+        self.links.add(alloc, self.all.as_slice(), own, ended)?;
+        Ok(())
+    }
+
+    // One match more, if it is not found.
     fn add(&mut self, alloc: Global, own: &'a Match<'a>) -> Result<(), AllocError>
         ensures { OnOk result (SameMembers self.new (match_of own.now ∷ self.old)) }
     {
@@ -194,10 +191,38 @@ impl<'a> Matches<'a> {
         if ended.found {
             return Ok(());
         }
-        self.all.push(own)?;
-        self.sum = self.sum.wrapping_add(own.print);
-        self.links.add(alloc, self.all.as_slice(), own, ended)?;
-        Ok(())
+        self.put(alloc, own, ended)
+    }
+
+    // The match at which a search ended, if it is the wanted one.
+    fn found(&self, ended: Ended, wanted: &Match<'_>) -> Option<&'a Match<'a>>
+        ensures { IfSome result (λ made. match_of made.now ≡ match_of wanted.now) }
+    {
+        let Some(at) = self.links.found_at(ended, wanted) else {
+            return None;
+        };
+        let all = self.all.as_slice();
+        if at >= all.len() {
+            return None;
+        }
+        let made = all[at];
+        if made.is(wanted) {
+            return Some(made);
+        }
+        None
+    }
+
+    // A match in memory that all states share: one of these, or one more.
+    fn lent(&mut self, memory: Memory<'a>, own: Match<'a>) -> Result<&'a Match<'a>, AllocError>
+        ensures { IfOk result (λ lent. match_of lent.now ≡ match_of own.entry) }
+    {
+        let ended = self.links.search(self.all.as_slice(), &own);
+        if let Some(made) = self.found(ended, &own) {
+            return Ok(made);
+        }
+        let lent = memory.events.try_alloc(own)?;
+        self.put(memory.alloc, lent, ended)?;
+        Ok(lent)
     }
 
     // Whether a match is anywhere among them.

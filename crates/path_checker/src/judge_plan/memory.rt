@@ -1,8 +1,9 @@
 //! The allocators of a judgement, and how much it compares.
 
 use crate::judge_plan::facts::Shared;
+use crate::judge_plan::fingerprint::mixed;
 use crate::judge_plan::in_force::InForce;
-use crate::judge_plan::matches::Match;
+use crate::judge_plan::matches::Matches;
 use crate::judge_plan::trace::Told;
 use bumpalo::Bump;
 use std::alloc::{AllocError, Global};
@@ -18,8 +19,11 @@ const LEAST: u64 = 32;
 // More states than these share their parameters, even where each has to be compared for it.
 const CROWD: usize = 4_096;
 
-// How many overrides are kept, and how many matches, at most: a power of two, above the number of pairs of a digest and a size
-// in a manifest of 16,384 bytes.
+// How many bytes of parameters are compared in all so that states share them.
+const READ: u64 = 2_147_483_648;
+
+// How many overrides are kept at most: a power of two, far above the number of overrides of a manifest of 16,384 bytes, each at
+// eight components.
 const KEPT: usize = 262_144;
 
 // How many are kept at first: a power of two.
@@ -27,6 +31,9 @@ const FIRST: usize = 8;
 
 // By how much they become more where more are made.
 const MORE: usize = 16;
+
+/// How many places there are for one that is kept.
+pub(crate) const WAYS: u32 = 8;
 
 /// The allocators of a judgement, and how many matches it may still compare. Events are freed together, when it ends.
 #[derive(Clone, Copy)]
@@ -41,12 +48,15 @@ pub(crate) struct Memory<'a> {
 /// The values made last, in any state.
 #[derive(Drop)]
 pub(crate) struct Last<'a> {
-    // The last overrides and matches, by their fingerprints, and how many were made.
+    // The last overrides, by their fingerprints, and how many were made.
     told: Cell<&'a [Cell<Option<Told<'a>>>]>,
-    matches: Cell<&'a [Cell<Option<&'a Match<'a>>>]>,
     made: Cell<usize>,
+    /// All matches.
+    pub matches: Cell<Option<Matches<'a>>>,
     // How many states are kept at once.
     states: Cell<usize>,
+    // How many bytes of parameters may still be compared so that states share them.
+    left: Cell<u64>,
     /// The parameters after an override.
     pub params: Cell<Option<InForce<'a>>>,
     // The knowledge of each component where it has something of its own, and where it has not.
@@ -72,9 +82,10 @@ impl<'a> Last<'a> {
     fn new() -> Last<'a> {
         Last {
             told: Cell::new(&[]),
-            matches: Cell::new(&[]),
             made: Cell::new(0),
+            matches: Cell::new(None),
             states: Cell::new(0),
+            left: Cell::new(READ),
             params: Cell::new(None),
             having: none_known(),
             lacking: none_known(),
@@ -82,14 +93,9 @@ impl<'a> Last<'a> {
     }
 }
 
-// Where one of so many is kept, by its fingerprint.
-fn first_place(print: u64, count: usize) -> usize {
-    print as usize & count.wrapping_sub(1)
-}
-
-// Where it is kept if another one is kept there.
-fn second_place(print: u64, count: usize) -> usize {
-    (print >> 40) as usize & count.wrapping_sub(1)
+// One of the places, of so many, where one with a fingerprint is kept. Two fingerprints have the same places only by chance.
+fn place_by(print: u64, way: u32, count: usize) -> usize {
+    mixed(print, u64::from(way)) as usize & count.wrapping_sub(1)
 }
 
 impl<'a> Memory<'a> {
@@ -116,15 +122,12 @@ impl<'a> Memory<'a> {
             .events
             .try_alloc_slice_fill_clone(count, Cell::new(None))?;
         self.last.told.set(told);
-        let matches = self
-            .events
-            .try_alloc_slice_fill_clone(count, Cell::new(None))?;
-        self.last.matches.set(matches);
         Ok(())
     }
 
     /// Frees what was made last.
     pub(crate) fn release(&self) {
+        self.last.matches.set(None);
         self.last.params.set(None);
         for known in &self.last.having {
             known.set(None);
@@ -173,70 +176,29 @@ impl<'a> Memory<'a> {
         Ok(())
     }
 
-    /// The last overrides with a fingerprint, in any state.
-    pub(crate) fn last_told(&self, print: u64) -> Option<Told<'a>> {
+    /// Overrides that were kept, in any state, in one of the places for a fingerprint.
+    pub(crate) fn told_at(&self, print: u64, way: u32) -> Option<Told<'a>> {
         let told = self.last.told.get();
-        match told.get(first_place(print, told.len())) {
-            Some(first) => first.get(),
+        match told.get(place_by(print, way, told.len())) {
+            Some(at) => at.get(),
             None => None,
         }
     }
 
-    /// Another one with a fingerprint, in any state.
-    pub(crate) fn other_told(&self, print: u64) -> Option<Told<'a>> {
-        let told = self.last.told.get();
-        match told.get(second_place(print, told.len())) {
-            Some(second) => second.get(),
-            None => None,
-        }
-    }
-
-    /// Keeps overrides with a fingerprint. Two with one fingerprint are kept.
+    /// Keeps overrides with a fingerprint: in the next free one of their places, or else in the first.
     pub(crate) fn keep_told(&self, print: u64, last: Told<'a>) -> Result<(), AllocError> {
         self.count()?;
         let told = self.last.told.get();
-        if let (Some(first), Some(second)) = (
-            told.get(first_place(print, told.len())),
-            told.get(second_place(print, told.len())),
-        ) {
-            match first.get() {
-                Some(_) => second.set(Some(last)),
-                None => first.set(Some(last)),
+        for way in 0..WAYS {
+            if let Some(at) = told.get(place_by(print, way, told.len())) {
+                if at.get().is_none() {
+                    at.set(Some(last));
+                    return Ok(());
+                }
             }
         }
-        Ok(())
-    }
-
-    /// The last match with a fingerprint, in any state.
-    pub(crate) fn last_match(&self, print: u64) -> Option<&'a Match<'a>> {
-        let matches = self.last.matches.get();
-        match matches.get(first_place(print, matches.len())) {
-            Some(first) => first.get(),
-            None => None,
-        }
-    }
-
-    /// Another one with a fingerprint, in any state.
-    pub(crate) fn other_match(&self, print: u64) -> Option<&'a Match<'a>> {
-        let matches = self.last.matches.get();
-        match matches.get(second_place(print, matches.len())) {
-            Some(second) => second.get(),
-            None => None,
-        }
-    }
-
-    /// Keeps a match with a fingerprint. Two with one fingerprint are kept.
-    pub(crate) fn keep_match(&self, print: u64, last: &'a Match<'a>) -> Result<(), AllocError> {
-        self.count()?;
-        let matches = self.last.matches.get();
-        if let (Some(first), Some(second)) = (
-            matches.get(first_place(print, matches.len())),
-            matches.get(second_place(print, matches.len())),
-        ) {
-            match first.get() {
-                Some(_) => second.set(Some(last)),
-                None => first.set(Some(last)),
-            }
+        if let Some(first) = told.get(place_by(print, 0, told.len())) {
+            first.set(Some(last));
         }
         Ok(())
     }
@@ -247,6 +209,17 @@ impl<'a> Memory<'a> {
         match self.left.get().checked_sub(cost) {
             Some(left) => {
                 self.left.set(left);
+                true
+            }
+            None => false,
+        }
+    }
+
+    /// Whether parameters with so many bytes may be compared so that states share them.
+    pub(crate) fn may_read(&self, bytes: usize) -> bool {
+        match self.last.left.get().checked_sub(bytes as u64) {
+            Some(left) => {
+                self.last.left.set(left);
                 true
             }
             None => false,

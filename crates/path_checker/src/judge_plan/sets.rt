@@ -8,7 +8,7 @@ ghost use Rattle.path_checker.specs.Happening.{sets_at, command_sets, sequence_s
 ghost use Rattle.path_checker.specs.Selecting.{components_of};
 
 use crate::judge_plan::fingerprint::mixed;
-use crate::judge_plan::memory::Memory;
+use crate::judge_plan::memory::{Memory, WAYS};
 use crate::judge_plan::same_param::same_short;
 use crate::judge_plan::selected::{Components, listed, number_of, same_components};
 use crate::judge_plan::trace::Told;
@@ -137,6 +137,30 @@ fn found_several<'a>(told: Option<Told<'a>>, own: &Several<'_>) -> Option<&'a Se
     }
 }
 
+// The override at some components among those that are kept with a fingerprint.
+fn kept_sets<'a>(memory: Memory<'a>, print: u64, own: &SetsAt<'_>) -> Option<&'a SetsAt<'a>>
+    ensures { IfSome result (λ sets. sets_of sets.now ≡ sets_of own.now) }
+{
+    for way in 0..WAYS {
+        if let Some(sets) = found_sets(memory.told_at(print, way), own) {
+            return Some(sets);
+        }
+    }
+    None
+}
+
+// The overrides among those that are kept with a fingerprint.
+fn kept_several<'a>(memory: Memory<'a>, print: u64, own: &Several<'_>) -> Option<&'a Several<'a>>
+    ensures { IfSome result (λ several. several_sets several.now ≡ several_sets own.now) }
+{
+    for way in 0..WAYS {
+        if let Some(several) = found_several(memory.told_at(print, way), own) {
+            return Some(several);
+        }
+    }
+    None
+}
+
 impl<'a> SetsAt<'a> {
     // Whether they are the same events. May be false of equal ones that are long.
     fn is_same(&self, other: &SetsAt<'_>) -> bool
@@ -157,11 +181,8 @@ impl<'a> SetsAt<'a> {
     {
         let print = mixed(mixed(25, place), number_of(&components));
         let own = SetsAt { components, list };
-        if let Some(last) = found_sets(memory.last_told(print), &own) {
-            return Ok(last);
-        }
-        if let Some(other) = found_sets(memory.other_told(print), &own) {
-            return Ok(other);
+        if let Some(kept) = kept_sets(memory, print, &own) {
+            return Ok(kept);
         }
         let lent = memory.events.try_alloc(own)?;
         memory.keep_told(print, Told::SetsAt(lent))?;
@@ -197,11 +218,8 @@ impl<'a> Several<'a> {
     {
         let print = mixed(mixed(26, place), number_of(&components));
         let own = Several { components, steps };
-        if let Some(last) = found_several(memory.last_told(print), &own) {
-            return Ok(last);
-        }
-        if let Some(other) = found_several(memory.other_told(print), &own) {
-            return Ok(other);
+        if let Some(kept) = kept_several(memory, print, &own) {
+            return Ok(kept);
         }
         let lent = memory.events.try_alloc(own)?;
         memory.keep_told(print, Told::Several(lent))?;

@@ -1,7 +1,7 @@
 use Rattle.std.proofs.Common.{◌∷◌, List, subst}
 use Rattle.path_checker.specs.Matches.{Match, match_of, all_lent, SameMembers}
 use Rattle.path_checker.proofs.MatchLaws.{same_lent}
-use Rattle.path_checker.proofs.judge_plan.matches.Matches.add.Goals as goal
+use Rattle.path_checker.proofs.judge_plan.matches.Matches.put.Goals as goal
 
 pub returns : goal.returns
 returns c =
