@@ -207,7 +207,7 @@ def in_loops():
     yield "4,000,000 matches of digests that begin alike", alike(0) + [MATCH] + alike(1) + [index(1)] + alike(2) + [turns(2000)] + [MATCH] * 2000
 
 
-# ---- what is made against the way fingerprints are mixed, and against the comparison of parameters
+# ---- what is made against fingerprints, against what is lent, and against the comparison of parameters
 
 FACTOR = 0x9E37_79B9_7F4A_7C15
 PARTS = 1 << 64
@@ -219,7 +219,7 @@ def mixed(print, number):
 
 
 def of_one_fingerprint(count):
-    """Digests whose bytes, mixed in once, come to one number."""
+    """Digests whose bytes, mixed in once by multiplication, come to one number, as the fingerprint of a match once did."""
     wanted, back = 0x1234_5678_9ABC_DEF0, pow(FACTOR, -1, PARTS)
     for number in range(count):
         words = [number, 1, 1]
@@ -237,10 +237,29 @@ def met_fingerprints():
     return matches + [index(*[0] * 100), run(index(*[0] * 120), run(*invokes)), index(0)]
 
 
+def many_pairs(digests, sizes, times):
+    """Matches under each pair of a digest and a size, each digest in a state of its own, so many times."""
+    branches = [[override((3, digest(bytes([number]) * 32))), MATCH] for number in range(digests)]
+    matches = [command for number in range(sizes) for command in (size(number), MATCH)]
+    return [tries(*branches, None), index(*[0] * times), *matches, index(0)]
+
+
 def long_contents(length):
     """Overrides in 8,192 states in a sequence, where so long a content is in force at eight components."""
     start = [("index", b"\x0c\xf5", 8), content(7, length), index(0)]
     return start + [run(*map(fork_by_size, range(13)), *(command for number in range(200) for command in (size(number), WRITE)))]
+
+
+def alike_but_last(length, count):
+    """So many states that differ in the arguments of the last component alone, where so long a content is in force at all eight."""
+    start = [("index", b"\x0c\xf5", 8), content(7, length), index(7)]
+    branches = [[override((23, byte_string(number.to_bytes(2, "big")))), MATCH] for number in range(count)]
+    return start + [run(tries(*branches, None), run(MATCH)), index(0)]
+
+
+def together(length, count):
+    """So many overrides of a content of such a length, one after another, in a loop."""
+    return looped((100, 100, 400 // (count + 1)), [content(number, length) for number in range(count)])
 
 
 def enclosed(stored, commands, is_wanted, count):
@@ -277,5 +296,9 @@ def dear(stored):
     for shows, commands in in_loops():
         yield shows, enclosed(stored, commands, False, 2)
     yield "invokes under 165 digests of one fingerprint, done 2,000,000 times", enclosed(stored, met_fingerprints(), False, 2)
+    yield "matches under 120,000 pairs of a digest and a size, 14 times each", enclosed(stored, many_pairs(150, 800, 14), False, 2)
+    for length, count in ((4_000, 3), (3_900, 4), (1_900, 8), (300, 9)):
+        yield "%d overrides of %d bytes, one after another, in a loop" % (count, length), enclosed(stored, together(length, count), False, 2)
+    yield "500 states that differ in the last of their parameters", enclosed(stored, alike_but_last(6_000, 500), False, 8)
     for length in (100, 10_000):
         yield "a content of %d bytes at 8 components in 8,192 states" % length, enclosed(stored, long_contents(length), False, 8)
