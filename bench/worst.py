@@ -94,6 +94,12 @@ FORKS = (fork_by_size, fork_by_slot, fork_by_three, forks_of_pairs)
 SOME_IDS = tuple((key, byte_string(b"\x00" * 16)) for key in (1, 2, 24))
 ALL_KEYS = SOME_IDS + ((3, digest(IMAGE)), (5, b"\x00"), (13, b"\xf4"), (18, b"\x41\xaa"), (21, b"\x61u"), (22, b"\x00"), (23, b"\x41\xaa"))
 
+
+def nested(inside, depth):
+    """The selection of a component inside so many sequences."""
+    return index(0) if depth == 0 else inside(nested(inside, depth - 1))
+
+
 TAILS = {
     "sizes": lambda n: [size(n), MATCH],
     "few sizes": lambda n: [size(n % 7), MATCH],
@@ -115,6 +121,9 @@ TAILS = {
     "checked contents": lambda n: [override((18, byte_string(bytes([n % 256])))), ("test", b"\x06\x0f")],
     "runs": lambda n: [run(size(n))],
     "tries": lambda n: [tries([size(n)], None)],
+    "runs of an index": lambda n: [nested(run, 5)],
+    "tries of an index": lambda n: [nested(lambda one: tries([one]), 5)],
+    "runs of a write": lambda n: [override((18, byte_string(bytes([n % 256])))), *[run(("act", b"\x12\x0f"))] * 8],
 }
 
 
