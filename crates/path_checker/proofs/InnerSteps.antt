@@ -48,20 +48,22 @@ hardly-push : (s : State) (fs : List Stopped) (f : Stopped) → hardly s (fs ++ 
 hardly-push s [] f = append-nil (if_hard s f f.soft_failure)
 hardly-push s (x ∷ fs) f = ap (λ (ys : List Stopped). if_hard s x x.soft_failure ++ ys) (hardly-push s fs f) ∙ sym (append_assoc (if_hard s x x.soft_failure) (hardly s fs) (if_hard s f f.soft_failure))
 
-pub softly_more : (s : State) (n0 n n' : List Kept) (ys : List Stopped) (f : Stopped) (made : Kept) → n ≡ n0 ++ softly s ys → f.soft_failure ≡ true → made ≡ resumed s f → n' ≡ n ++ made ∷ [] → n' ≡ n0 ++ softly s (ys ++ f ∷ [])
-softly_more s n0 n n' ys f made so_far soft is pushed =
-    let one : if_soft s f f.soft_failure ≡ made ∷ [] = ap (if_soft s f) soft ∙ ap (λ (x : Kept). x ∷ []) (sym is) in
-    added n0 n n' (softly s ys) (made ∷ []) so_far pushed ∙ ap (λ (x : List Kept). n0 ++ (softly s ys ++ x)) (sym one) ∙ ap (λ (x : List Kept). n0 ++ x) (sym (softly-push s ys f))
+-- one failure more
 
-pub softly_same : (s : State) (n0 n : List Kept) (ys : List Stopped) (f : Stopped) → n ≡ n0 ++ softly s ys → f.soft_failure ≡ false → n ≡ n0 ++ softly s (ys ++ f ∷ [])
-softly_same s n0 n ys f so_far hard =
-    so_far ∙ ap (λ (x : List Kept). n0 ++ x) (sym (append-nil (softly s ys)) ∙ ap (λ (x : List Kept). softly s ys ++ x) (sym (ap (if_soft s f) hard)) ∙ sym (softly-push s ys f))
+pub softly_next : (s : State) (n0 n n' : List Kept) (ys : List Stopped) (f : Stopped) → n ≡ n0 ++ softly s ys → n' ≡ n ++ if_soft s f f.soft_failure → n' ≡ n0 ++ softly s (ys ++ f ∷ [])
+softly_next s n0 n n' ys f so_far pushed = added n0 n n' (softly s ys) (if_soft s f f.soft_failure) so_far pushed ∙ ap (λ (x : List Kept). n0 ++ x) (sym (softly-push s ys f))
 
-pub hardly_more : (s : State) (n0 n n' ys : List Stopped) (f made : Stopped) → n ≡ n0 ++ hardly s ys → f.soft_failure ≡ false → made ≡ hardened s f → n' ≡ n ++ made ∷ [] → n' ≡ n0 ++ hardly s (ys ++ f ∷ [])
-hardly_more s n0 n n' ys f made so_far hard is pushed =
-    let one : if_hard s f f.soft_failure ≡ made ∷ [] = ap (if_hard s f) hard ∙ ap (λ (x : Stopped). x ∷ []) (sym is) in
-    added n0 n n' (hardly s ys) (made ∷ []) so_far pushed ∙ ap (λ (x : List Stopped). n0 ++ (hardly s ys ++ x)) (sym one) ∙ ap (λ (x : List Stopped). n0 ++ x) (sym (hardly-push s ys f))
+pub hardly_next : (s : State) (n0 n n' ys : List Stopped) (f : Stopped) → n ≡ n0 ++ hardly s ys → n' ≡ n ++ if_hard s f f.soft_failure → n' ≡ n0 ++ hardly s (ys ++ f ∷ [])
+hardly_next s n0 n n' ys f so_far pushed = added n0 n n' (hardly s ys) (if_hard s f f.soft_failure) so_far pushed ∙ ap (λ (x : List Stopped). n0 ++ x) (sym (hardly-push s ys f))
 
-pub hardly_same : (s : State) (n0 n ys : List Stopped) (f : Stopped) → n ≡ n0 ++ hardly s ys → f.soft_failure ≡ true → n ≡ n0 ++ hardly s (ys ++ f ∷ [])
-hardly_same s n0 n ys f so_far soft =
-    so_far ∙ ap (λ (x : List Stopped). n0 ++ x) (sym (append-nil (hardly s ys)) ∙ ap (λ (x : List Stopped). hardly s ys ++ x) (sym (ap (if_hard s f) soft)) ∙ sym (hardly-push s ys f))
+pub soft_more : (s : State) (n n' : List Kept) (f : Stopped) (made : Kept) → f.soft_failure ≡ true → made ≡ resumed s f → n' ≡ n ++ made ∷ [] → n' ≡ n ++ if_soft s f f.soft_failure
+soft_more s n n' f made soft is pushed = pushed ∙ ap (λ (x : Kept). n ++ x ∷ []) is ∙ ap (λ (b : Bool). n ++ if_soft s f b) (sym soft)
+
+pub soft_same : (s : State) (n : List Kept) (f : Stopped) → f.soft_failure ≡ false → n ≡ n ++ if_soft s f f.soft_failure
+soft_same s n f hard = sym (append-nil n) ∙ ap (λ (b : Bool). n ++ if_soft s f b) (sym hard)
+
+pub hard_more : (s : State) (n n' : List Stopped) (f made : Stopped) → f.soft_failure ≡ false → made ≡ hardened s f → n' ≡ n ++ made ∷ [] → n' ≡ n ++ if_hard s f f.soft_failure
+hard_more s n n' f made hard is pushed = pushed ∙ ap (λ (x : Stopped). n ++ x ∷ []) is ∙ ap (λ (b : Bool). n ++ if_hard s f b) (sym hard)
+
+pub hard_same : (s : State) (n : List Stopped) (f : Stopped) → f.soft_failure ≡ true → n ≡ n ++ if_hard s f f.soft_failure
+hard_same s n f soft = sym (append-nil n) ∙ ap (λ (b : Bool). n ++ if_hard s f b) (sym soft)

@@ -45,19 +45,12 @@ fn own_test<'a>(
     };
     let missed = Ended::Tried { component, kind };
     match k.facts.fork(memory, component, own)? {
-        Fork::Has => {
-            pass(memory, k, passed, next)?;
-            Ok(())
-        }
-        Fork::HasNot => {
-            stop(k, place, missed, failed)?;
-            Ok(())
-        }
+        Fork::Has => pass(memory, k, passed, next),
+        Fork::HasNot => stop(k, place, missed, failed),
         Fork::Either(has, has_not) => {
             let other = k.copy_with(memory, has_not)?;
             pass(memory, under(k, has), passed, next)?;
-            stop(other, place, missed, failed)?;
-            Ok(())
+            stop(other, place, missed, failed)
         }
     }
 }
@@ -79,14 +72,8 @@ fn identity_test<'a>(
         next.new.items failed.old.items failed.new.items) }
 {
     match k.params.wanted(kind, component) {
-        Some(own) => {
-            own_test(memory, place, kind, component, &own, k, next, failed)?;
-            Ok(())
-        }
-        None => {
-            stop(k, place, Ended::Tried { component, kind }, failed)?;
-            Ok(())
-        }
+        Some(own) => own_test(memory, place, kind, component, &own, k, next, failed),
+        None => stop(k, place, Ended::Tried { component, kind }, failed),
     }
 }
 
@@ -105,10 +92,7 @@ fn image_match<'a>(
         next.old.items next.new.items failed.old.items failed.new.items) }
 {
     match k.params.digest(component) {
-        None => {
-            stop(k, place, Ended::Missed { component }, failed)?;
-            Ok(())
-        }
+        None => stop(k, place, Ended::Missed { component }, failed),
         Some(digest) => {
             let size = k.params.size(component);
             let matched = Happened::Matched {
@@ -117,8 +101,7 @@ fn image_match<'a>(
                 size,
             };
             pass(memory, k.copy(memory)?, matched, next)?;
-            stop(k, place, Ended::Missed { component }, failed)?;
-            Ok(())
+            stop(k, place, Ended::Missed { component }, failed)
         }
     }
 }
@@ -147,11 +130,9 @@ fn check_content<'a>(
             passed: true,
         };
         pass(memory, k.copy(memory)?, passed, next)?;
-        stop(k, place, missed, failed)?;
-        return Ok(());
+        return stop(k, place, missed, failed);
     }
-    stop(k, place, missed, failed)?;
-    Ok(())
+    stop(k, place, missed, failed)
 }
 
 fn abort<'a>(
@@ -169,8 +150,7 @@ fn abort<'a>(
         component,
         kind: TestKind::Abort,
     };
-    stop(k, place, missed, failed)?;
-    Ok(())
+    stop(k, place, missed, failed)
 }
 
 // ---- where failures are not kept

@@ -144,17 +144,24 @@ impl Knowledge {
         Ok(other)
     }
 
+    // It has this not.
+    fn exclude(&mut self, own: &Own) -> Result<(), AllocError>
+        ensures { OnOk result (self.new ≡ excluded self.old own.now) }
+    {
+        match own {
+            Own::Vendor(id) => self.vendor.exclude(*id),
+            Own::Class(id) => self.class.exclude(*id),
+            Own::Device(id) => self.device.exclude(*id),
+            Own::Slot(number) => self.slot.exclude(*number),
+        }
+    }
+
     // A copy that has it not.
     fn without(&self, alloc: Global, own: &Own) -> Result<Knowledge, AllocError>
         ensures { IfOk result (λ other. other ≡ excluded self.now own.now) }
     {
         let mut other = self.copy(alloc)?;
-        match own {
-            Own::Vendor(id) => other.vendor.exclude(*id)?,
-            Own::Class(id) => other.class.exclude(*id)?,
-            Own::Device(id) => other.device.exclude(*id)?,
-            Own::Slot(number) => other.slot.exclude(*number)?,
-        }
+        other.exclude(own)?;
         Ok(other)
     }
 }

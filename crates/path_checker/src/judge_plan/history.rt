@@ -4,7 +4,7 @@ ghost use Rattle.std.specs.Prelude.{◌≡◌, ◌↔◌, [], ◌∷◌, ◌++�
 ghost use Rattle.path_model.specs.Safe.{HasMatched};
 ghost use Rattle.path_model.specs.Following.{SameMatches};
 ghost use Rattle.path_model.specs.declared.event.Event.{Event as TheEvent};
-ghost use Rattle.path_model.specs.declared.event.Event.TheVariants.{Wrote};
+ghost use Rattle.path_model.specs.declared.event.Event.TheVariants.{Failed, Wrote};
 ghost use Rattle.suit_commands.specs.View.{sequence_tree};
 ghost use Rattle.path_checker.specs.Happening.{event_of, after_end, sets_at, sequence_sets, told_by};
 ghost use Rattle.path_checker.specs.Selecting.{components_of};
@@ -171,6 +171,20 @@ impl<'a> History<'a> {
         Ok(())
     }
 
+    // An event more, and a failure at a place.
+    fn add_failure(
+        &mut self,
+        memory: Memory<'a>,
+        event: Happened<'a>,
+        place: u64,
+    ) -> Result<(), AllocError>
+        ensures { OnOk result
+            (self.new ≡ self.old ++ event_of event.entry ∷ Failed place ∷ []) }
+    {
+        self.add(memory, event)?;
+        self.add(memory, Happened::Failed { place })
+    }
+
     /// The events of a failed condition at a place more.
     pub(crate) fn with_end(
         self,
@@ -190,8 +204,7 @@ impl<'a> History<'a> {
             Ended::Exhausted => return Ok(self),
         };
         let mut history = self;
-        history.add(memory, event)?;
-        history.add(memory, Happened::Failed { place })?;
+        history.add_failure(memory, event, place)?;
         Ok(history)
     }
 

@@ -1,7 +1,7 @@
 //! Entering and leaving inner sequences.
 
 ghost use Rattle.std.specs.Prelude.{◌≡◌, ◌<◌, true, [], ◌∷◌, ◌++◌, OnOk, IfOk};
-ghost use Rattle.path_checker.specs.Inner.{entered, all_entered, all_left, resumed, softly, hardly, exhausted, restarted, all_restarted};
+ghost use Rattle.path_checker.specs.Inner.{entered, all_entered, all_left, resumed, if_soft, if_hard, softly, hardly, exhausted_at, exhausted, restarted, all_restarted};
 
 use crate::judge_plan::happened::Ended;
 use crate::judge_plan::in_force::InForce;
@@ -39,6 +39,15 @@ pub(crate) fn outer_of<'a>(k: &Kept<'a>) -> Result<Outer<'a>, AllocError>
     })
 }
 
+/// One state alone.
+pub(crate) fn only<'a>(alloc: Global, k: Kept<'a>) -> Result<Vec<Kept<'a>>, AllocError>
+    ensures { IfOk result (λ v. v.items ≡ k.entry ∷ []) }
+{
+    let mut one = Vec::new(alloc);
+    one.push(k)?;
+    Ok(one)
+}
+
 /// Enters an inner sequence, with one component selected.
 pub(crate) fn enter<'a>(component: u32, soft_failure: bool, k: Kept<'a>) -> Kept<'a>
     requires room { component < 8 }
@@ -48,6 +57,21 @@ pub(crate) fn enter<'a>(component: u32, soft_failure: bool, k: Kept<'a>) -> Kept
     k.selection = Selected::one(component);
     k.soft_failure = soft_failure;
     k
+}
+
+// The state in which a branch begins.
+fn enter_branch<'a>(component: u32, outer: &Outer<'a>, k: Kept<'a>) -> Result<Kept<'a>, AllocError>
+    requires room { component < 8 }
+    ensures { IfOk result (λ to. to ≡ entered outer.now component true k.entry) }
+{
+    let params = outer.params.copy()?;
+    Ok(Kept {
+        facts: k.facts,
+        history: k.history,
+        params,
+        selection: Selected::one(component),
+        soft_failure: true,
+    })
 }
 
 /// The states in which a branch begins.
@@ -62,20 +86,13 @@ pub(crate) fn enter_all<'a>(
 {
     let mut inside = Vec::new(alloc);
     for k in from {
-        let params = outer.params.copy()?;
-        inside.push(Kept {
-            facts: k.facts,
-            history: k.history,
-            params,
-            selection: Selected::one(component),
-            soft_failure: true,
-        })?;
+        inside.push(enter_branch(component, outer, k)?)?;
     }
     Ok(inside)
 }
 
-/// Leaves an inner sequence that completed: the parameters stay.
-pub(crate) fn leave_all<'a>(
+// Leaves an inner sequence that completed: the parameters stay.
+fn leave_all<'a>(
     outer: &Outer<'a>,
     done: Vec<Kept<'a>>,
     next: &mut Vec<Kept<'a>>,
@@ -110,8 +127,32 @@ fn resume<'a>(
     })
 }
 
-/// The failures of an inner sequence: soft ones go on, and the others are those of the outer one.
-pub(crate) fn split<'a>(
+// A failure of an inner sequence: a soft one goes on, and another one is that of the outer one.
+fn split_one<'a>(
+    memory: Memory<'a>,
+    outer: &Outer<'a>,
+    stop: Stopped<'a>,
+    next: &mut Vec<Kept<'a>>,
+    failed: &mut Vec<Stopped<'a>>,
+) -> Result<(), AllocError>
+    ensures soft { OnOk result
+        (next.new.items ≡ next.old.items ++ if_soft outer.now stop.entry stop.entry.soft_failure) }
+    ensures hard { OnOk result
+        (failed.new.items
+        ≡ failed.old.items ++ if_hard outer.now stop.entry stop.entry.soft_failure) }
+{
+    if stop.soft_failure {
+        next.push(resume(memory, outer, stop)?)?;
+    } else {
+        let mut stop = stop;
+        stop.soft_failure = outer.soft_failure;
+        failed.push(stop)?;
+    }
+    Ok(())
+}
+
+// The failures of an inner sequence: soft ones go on, and the others are those of the outer one.
+fn split<'a>(
     memory: Memory<'a>,
     outer: &Outer<'a>,
     stops: Vec<Stopped<'a>>,
@@ -124,15 +165,63 @@ pub(crate) fn split<'a>(
         (failed.new.items ≡ failed.old.items ++ hardly outer.now stops.entry.items) }
 {
     for stop in stops {
-        if stop.soft_failure {
-            next.push(resume(memory, outer, stop)?)?;
-        } else {
-            let mut stop = stop;
-            stop.soft_failure = outer.soft_failure;
-            failed.push(stop)?;
-        }
+        split_one(memory, outer, stop, next, failed)?;
     }
     Ok(())
+}
+
+/// Leaves an inner sequence. Its soft failures go on.
+pub(crate) fn leave<'a>(
+    memory: Memory<'a>,
+    outer: &Outer<'a>,
+    done: Vec<Kept<'a>>,
+    stops: Vec<Stopped<'a>>,
+    next: &mut Vec<Kept<'a>>,
+    failed: &mut Vec<Stopped<'a>>,
+) -> Result<(), AllocError>
+    ensures on { OnOk result
+        (next.new.items
+        ≡ (next.old.items ++ all_left outer.now done.entry.items)
+        ++ softly outer.now stops.entry.items) }
+    ensures hard { OnOk result
+        (failed.new.items ≡ failed.old.items ++ hardly outer.now stops.entry.items) }
+{
+    leave_all(outer, done, next)?;
+    split(memory, outer, stops, next, failed)
+}
+
+/// Leaves a branch: the states in which the next one begins, after the soft failures of this one.
+pub(crate) fn leave_branch<'a>(
+    memory: Memory<'a>,
+    outer: &Outer<'a>,
+    done: Vec<Kept<'a>>,
+    stops: Vec<Stopped<'a>>,
+    next: &mut Vec<Kept<'a>>,
+    failed: &mut Vec<Stopped<'a>>,
+) -> Result<Vec<Kept<'a>>, AllocError>
+    ensures done { OnOk result
+        (next.new.items ≡ next.old.items ++ all_left outer.now done.entry.items) }
+    ensures soft { IfOk result (λ rest. rest.items ≡ softly outer.now stops.entry.items) }
+    ensures hard { OnOk result
+        (failed.new.items ≡ failed.old.items ++ hardly outer.now stops.entry.items) }
+{
+    leave_all(outer, done, next)?;
+    let mut rest = Vec::new(memory.alloc);
+    split(memory, outer, stops, &mut rest, failed)?;
+    Ok(rest)
+}
+
+// The failure where no branch completed.
+fn exhaust_one<'a>(place: u64, outer: &Outer<'a>, k: Kept<'a>) -> Stopped<'a>
+    ensures { result ≡ exhausted_at outer.now place k.entry }
+{
+    Stopped {
+        facts: k.facts,
+        history: k.history,
+        ended: Ended::Exhausted,
+        place,
+        soft_failure: outer.soft_failure,
+    }
 }
 
 /// No branch completed.
@@ -146,13 +235,7 @@ pub(crate) fn exhaust<'a>(
         (failed.new.items ≡ failed.old.items ++ exhausted outer.now place from.entry.items) }
 {
     for k in from {
-        failed.push(Stopped {
-            facts: k.facts,
-            history: k.history,
-            ended: Ended::Exhausted,
-            place,
-            soft_failure: outer.soft_failure,
-        })?;
+        failed.push(exhaust_one(place, outer, k))?;
     }
     Ok(())
 }

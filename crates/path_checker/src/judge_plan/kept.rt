@@ -194,6 +194,19 @@ pub(crate) fn pass<'a>(
     Ok(())
 }
 
+// The end of a state by a failed condition.
+fn failed_at<'a>(k: Kept<'a>, place: u64, ended: Ended) -> Stopped<'a>
+    ensures { result ≡ stopped_after k.entry ended place }
+{
+    Stopped {
+        facts: k.facts,
+        history: k.history,
+        ended,
+        place,
+        soft_failure: k.soft_failure,
+    }
+}
+
 /// Keeps the end by a failed condition.
 pub(crate) fn stop<'a>(
     k: Kept<'a>,
@@ -204,13 +217,7 @@ pub(crate) fn stop<'a>(
     ensures { OnOk result
         (failed.new.items ≡ failed.old.items ++ stopped_after k.entry ended place ∷ []) }
 {
-    failed.push(Stopped {
-        facts: k.facts,
-        history: k.history,
-        ended,
-        place,
-        soft_failure: k.soft_failure,
-    })?;
+    failed.push(failed_at(k, place, ended))?;
     Ok(())
 }
 

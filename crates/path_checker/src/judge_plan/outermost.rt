@@ -11,7 +11,7 @@ ghost use Rattle.path_checker.specs.Small.{IsSmallSequence, IsSmallCommand, IsSt
 ghost use Rattle.path_checker.specs.Halting.{Halts};
 
 use crate::judge_plan::halt::Halt;
-use crate::judge_plan::inner::{restart, restart_all};
+use crate::judge_plan::inner::{only, restart, restart_all};
 use crate::judge_plan::kept::Kept;
 use crate::judge_plan::memory::Memory;
 use crate::judge_plan::straight::{is_straight, straight, straight_in};
@@ -154,8 +154,7 @@ fn alone<'a>(
     if at == steps.len() {
         return parts_alone(memory, count, rest, k);
     }
-    let mut one = Vec::new(memory.alloc);
-    one.push(k.shared(memory)?)?;
+    let one = only(memory.alloc, k.shared(memory)?)?;
     commands(memory, count, &steps[at..], rest, one)
 }
 

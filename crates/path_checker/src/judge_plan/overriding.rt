@@ -1,6 +1,6 @@
 //! Overrides that follow one another, done in one state after another. All states share what is told of them.
 
-ghost use Rattle.std.specs.Prelude.{◌≡◌, ◌<◌, ◌≤◌, ◌+◌, ℕ, [], ◌∷◌, IsTrue, IfSome, IfOk, OnOk, length, get_or, take, drop};
+ghost use Rattle.std.specs.Prelude.{◌≡◌, ◌<◌, ◌≤◌, ◌+◌, ◌++◌, ℕ, [], ◌∷◌, IsTrue, IfSome, IfOk, OnOk, length, get_or, take, drop};
 ghost use Rattle.suit_commands.specs.Tree.{BranchesTree, BranchThen};
 ghost use Rattle.suit_commands.specs.View.{command_tree, sequence_tree};
 ghost use Rattle.path_model.specs.Runs.{Runs};
@@ -14,7 +14,7 @@ ghost use Rattle.path_checker.specs.Small.{AreSmall};
 use crate::judge_plan::directives::{override_all, settled, soft_at};
 use crate::judge_plan::in_force::InForce;
 use crate::judge_plan::inner::enter;
-use crate::judge_plan::kept::Kept;
+use crate::judge_plan::kept::{Kept, put};
 use crate::judge_plan::memory::Memory;
 use crate::judge_plan::reuse::reuse;
 use crate::judge_plan::selected::{Components, same_components};
@@ -169,6 +169,25 @@ fn told_of<'a>(
     Told::several(memory, own, steps)
 }
 
+// The state after overrides, behind others.
+fn add_overridden<'a>(
+    memory: Memory<'a>,
+    steps: &'a [Step],
+    components: &Components<'a>,
+    told: Told<'a>,
+    k: Kept<'a>,
+    next: &mut Vec<Kept<'a>>,
+) -> Result<(), AllocError>
+    requires overrides { AreOverrides (sequence_tree steps.now) }
+    requires told { told_by told
+        ≡ sequence_sets (sequence_tree steps.now) (components_of components.now) }
+    ensures { OnOk result
+        (next.new.items ≡ next.old.items ++ overridden_by k.entry (sequence_tree steps.now) ∷ []) }
+{
+    let told = told_of(memory, steps, components, told, &k)?;
+    put(override_by(memory, steps, told, k)?, next)
+}
+
 /// Overrides that follow one another, in each of the states.
 pub(crate) fn overrides_in_all<'a>(
     memory: Memory<'a>,
@@ -191,31 +210,33 @@ pub(crate) fn overrides_in_all<'a>(
     let mut next = Vec::new(memory.alloc);
     while let Some(k) = now.pop() {
         reuse(&mut now, &mut next);
-        let told = told_of(memory, steps, &components, first, &k)?;
-        next.push(override_by(memory, steps, told, k)?)?;
+        add_overridden(memory, steps, &components, first, k, &mut next)?;
     }
     memory.keep(round);
     Ok(next)
 }
 
-/// An inner sequence of overrides alone: the state after it.
+/// An inner sequence of overrides alone: the state after it goes behind others.
 pub(crate) fn run_overrides<'a>(
     memory: Memory<'a>,
     steps: &'a [Step],
     component: u32,
     soft: bool,
     k: Kept<'a>,
-) -> Result<Kept<'a>, AllocError>
+    next: &mut Vec<Kept<'a>>,
+) -> Result<(), AllocError>
     requires room { component < 8 }
     requires overrides { AreOverrides (sequence_tree steps.now) }
-    ensures { IfOk result
-        (λ to. to ≡ left k.entry.state
-        (overridden_by (entered k.entry.state component soft k.entry) (sequence_tree steps.now))) }
+    ensures { OnOk result
+        (next.new.items
+        ≡ next.old.items ++ left k.entry.state
+        (overridden_by (entered k.entry.state component soft k.entry) (sequence_tree steps.now))
+        ∷ []) }
 {
     let (selection, soft_failure) = (k.selection.copy(), k.soft_failure);
     let told = Told::several(memory, Components::One(component), steps)?;
     let mut to = override_by(memory, steps, told, enter(component, soft, k))?;
     to.selection = selection;
     to.soft_failure = soft_failure;
-    Ok(to)
+    put(to, next)
 }

@@ -14,7 +14,9 @@ ghost use Rattle.path_checker.specs.Halting.{Halts};
 use crate::judge_plan::conditions::test;
 use crate::judge_plan::directives::{act, overrides, overrides_each};
 use crate::judge_plan::halt::Halt;
-use crate::judge_plan::inner::{Outer, enter, enter_all, exhaust, leave_all, outer_of, split};
+use crate::judge_plan::inner::{
+    Outer, enter, enter_all, exhaust, leave, leave_branch, only, outer_of,
+};
 use crate::judge_plan::kept::{Kept, Stopped, add, put};
 use crate::judge_plan::memory::Memory;
 use crate::judge_plan::merged::{merged_states, settled};
@@ -154,8 +156,7 @@ fn each<'a>(
         return Ok(());
     }
     let selection = k.selection.listed(memory.alloc)?;
-    let mut now = Vec::new(memory.alloc);
-    now.push(k)?;
+    let mut now = only(memory.alloc, k)?;
     for component in selection.as_slice() {
         now = all_at(memory, count, step, *component, now, failed)?;
     }
@@ -251,15 +252,13 @@ fn run<'a>(
 {
     let steps = inner.as_slice();
     if are_overrides(steps) {
-        return Ok(put(run_overrides(memory, steps, component, false, k)?, next)?);
+        return Ok(run_overrides(memory, steps, component, false, k, next)?);
     }
     let outer = outer_of(&k)?;
-    let mut from = Vec::new(memory.alloc);
-    from.push(enter(component, false, k))?;
+    let from = only(memory.alloc, enter(component, false, k))?;
     let mut stops = Vec::new(memory.alloc);
     let done = sequence(memory, count, inner, from, &mut stops)?;
-    leave_all(&outer, done, next)?;
-    Ok(split(memory, &outer, stops, next, failed)?)
+    Ok(leave(memory, &outer, done, stops, next, failed)?)
 }
 
 // Tries the branches in order.
@@ -284,12 +283,11 @@ fn try_each<'a>(
         (k.entry ∷ []) h) }
 {
     if let Some(steps) = first_overrides(branches) {
-        return Ok(put(run_overrides(memory, steps, component, true, k)?, next)?);
+        return Ok(run_overrides(memory, steps, component, true, k, next)?);
     }
     let outer = outer_of(&k)?;
     let outer = &outer;
-    let mut now = Vec::new(memory.alloc);
-    now.push(k)?;
+    let mut now = only(memory.alloc, k)?;
     for branch in branches.as_slice() {
         match branch {
             None => {
@@ -329,8 +327,5 @@ fn one_branch<'a>(
     let inside = enter_all(memory.alloc, component, outer, from)?;
     let mut stops = Vec::new(memory.alloc);
     let done = sequence(memory, count, inner, inside, &mut stops)?;
-    leave_all(outer, done, next)?;
-    let mut rest = Vec::new(memory.alloc);
-    split(memory, outer, stops, &mut rest, failed)?;
-    Ok(rest)
+    Ok(leave_branch(memory, outer, done, stops, next, failed)?)
 }

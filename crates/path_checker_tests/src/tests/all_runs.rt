@@ -327,11 +327,7 @@ fn each<'a>(at: At<'_>, command: &'a Command, run: Run<'a>, out: &mut Runs<'a>) 
 
 // The runs after a command at one component.
 #[cycle(runs)]
-fn at_one<'a>(
-    at: At<'_>,
-    command: &'a Command,
-    runs: Runs<'a>,
-) -> Result<Runs<'a>, AllocError> {
+fn at_one<'a>(at: At<'_>, command: &'a Command, runs: Runs<'a>) -> Result<Runs<'a>, AllocError> {
     let mut out = Vec::new(at.alloc);
     for run in runs {
         if run.end == End::Going {
@@ -390,11 +386,7 @@ fn inner<'a>(
     all_leaving(at.alloc, sequence(within, held, from)?, outer)
 }
 
-fn all_leaving<'a>(
-    alloc: Global,
-    runs: Runs<'a>,
-    outer: &Run<'a>,
-) -> Result<Runs<'a>, AllocError> {
+fn all_leaving<'a>(alloc: Global, runs: Runs<'a>, outer: &Run<'a>) -> Result<Runs<'a>, AllocError> {
     let mut out = Vec::new(alloc);
     for run in runs {
         out.push(run.leaving(alloc, outer)?)?;

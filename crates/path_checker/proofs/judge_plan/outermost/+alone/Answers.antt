@@ -153,17 +153,17 @@ alone-commands-requires t c =
 
 pub alone-returns-clause-ok : goal.alone-returns-clause-ok
 alone-returns-clause-ok t c =
-    let one : c.push.new.self.items ≡ c.loop-step.k ∷ [] = c.in_ok-push.ensures.items ∙ ap (λ (x : List Kept). x ++ c.in_ok-shared.field-0 ∷ []) c.new-one.ensures.items ∙ ap (λ (x : Kept). x ∷ []) c.in_ok-shared.ensures in
+    let one : c.in_ok-one.one.items ≡ c.loop-step.k ∷ [] = c.in_ok-one.ensures ∙ ap (λ (x : Kept). x ∷ []) c.in_ok-shared.ensures in
     on_ok_weaker c.commands.result c.loop-step.invariant.goes.covers
-    (subst (λ (ks : List Kept). OnOk c.commands.result (Covers (RunsThen (sequence_tree (drop c.loop-step.at c.args.steps.now)) c.args.rest.now c.args.count) ks)) one (subst (λ (s : List Step). OnOk c.commands.result (Covers (RunsThen (sequence_tree s) c.args.rest.now c.args.count) c.push.new.self.items)) (same_rest c.args.steps.now c.loop-step.at) c.commands.ensures.ok))
+    (subst (λ (ks : List Kept). OnOk c.commands.result (Covers (RunsThen (sequence_tree (drop c.loop-step.at c.args.steps.now)) c.args.rest.now c.args.count) ks)) one (subst (λ (s : List Step). OnOk c.commands.result (Covers (RunsThen (sequence_tree s) c.args.rest.now c.args.count) c.in_ok-one.one.items)) (same_rest c.args.steps.now c.loop-step.at) c.commands.ensures.ok))
 
 pub alone-returns-clause-err : goal.alone-returns-clause-err
 alone-returns-clause-err t c =
     let rest = RunsThen (sequence_tree (drop c.loop-step.at c.args.steps.now)) c.args.rest.now c.args.count in
-    let one : c.push.new.self.items ≡ c.loop-step.k ∷ [] = c.in_ok-push.ensures.items ∙ ap (λ (x : List Kept). x ++ c.in_ok-shared.field-0 ∷ []) c.new-one.ensures.items ∙ ap (λ (x : Kept). x ∷ []) c.in_ok-shared.ensures in
+    let one : c.in_ok-one.one.items ≡ c.loop-step.k ∷ [] = c.in_ok-one.ensures ∙ ap (λ (x : Kept). x ∷ []) c.in_ok-shared.ensures in
     IfErr-weaker c.commands.result (λ h. Halts rest (c.loop-step.k ∷ []) h) (λ h. Halts (RunsThen (sequence_tree c.args.steps.now) c.args.rest.now c.args.count) (c.args.from ∷ []) h)
     (λ h u. GoesOn-halts (RunsThen (sequence_tree c.args.steps.now) c.args.rest.now c.args.count) rest (c.args.from ∷ []) (c.loop-step.k ∷ []) c.loop-step.invariant.goes h u)
-    (subst (λ (ks : List Kept). IfErr c.commands.result (λ h. Halts rest ks h)) one (subst (λ (s : List Step). IfErr c.commands.result (λ h. Halts (RunsThen (sequence_tree s) c.args.rest.now c.args.count) c.push.new.self.items h)) (same_rest c.args.steps.now c.loop-step.at) c.commands.ensures.err))
+    (subst (λ (ks : List Kept). IfErr c.commands.result (λ h. Halts rest ks h)) one (subst (λ (s : List Step). IfErr c.commands.result (λ h. Halts (RunsThen (sequence_tree s) c.args.rest.now c.args.count) c.in_ok-one.one.items h)) (same_rest c.args.steps.now c.loop-step.at) c.commands.ensures.err))
 
 pub parts-returns-in_default-clause-ok : goal.parts-returns-in_default-clause-ok
 parts-returns-in_default-clause-ok t c =

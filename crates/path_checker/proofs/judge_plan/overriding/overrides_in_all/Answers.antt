@@ -1,4 +1,4 @@
-use Rattle.std.proofs.Common.{rules, ◌≡◌, ◌<◌, []}
+use Rattle.std.proofs.Common.{rules, refl, ◌≡◌, ◌<◌, []}
 use Rattle.std.specs.Vec.{vec_len}
 use Rattle.suit_commands.specs.View.{sequence_tree}
 use Rattle.path_checker.proofs.DirectiveLeaves.{never_true}
@@ -12,7 +12,7 @@ loop-k-init c = λ count. Pops-start (runs_course (sequence_tree c.args.steps.no
 
 pub loop-k-preserved : goal.loop-k-preserved
 loop-k-preserved c = λ count.
-    Pops-overridden (sequence_tree c.args.steps.now) c.requires count c.args.from.items c.loop-k.now.items c.pop.new.self.items c.reuse.new.now.items c.loop-k.next.items c.reuse.new.next.items c.push.new.self.items c.in-Some-pop.k c.in_ok-override_by.field-0 (c.loop-k.invariant count) c.in-Some-pop.ensures.items c.reuse.ensures.now c.reuse.ensures.next c.in_ok-override_by.ensures c.in_ok-push.ensures.items
+    Pops-overridden (sequence_tree c.args.steps.now) c.requires count c.args.from.items c.loop-k.now.items c.pop.new.self.items c.reuse.new.now.items c.loop-k.next.items c.reuse.new.next.items c.add_overridden.new.next.items c.in-Some-pop.k _ (c.loop-k.invariant count) c.in-Some-pop.ensures.items c.reuse.ensures.now c.reuse.ensures.next refl c.in_ok-add_overridden.ensures
 
 pub returns : goal.returns
 returns c = λ count.

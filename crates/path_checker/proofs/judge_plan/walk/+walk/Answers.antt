@@ -1,4 +1,4 @@
-use Rattle.std.proofs.Common.{rules, true, false, ◌≡◌, ◌<◌, ◌≤◌, ◌+◌, [], ◌∷◌, ◌++◌, List, drop, sym, ap, ◌∙◌, subst, arith}
+use Rattle.std.proofs.Common.{rules, refl, true, false, ◌≡◌, ◌<◌, ◌≤◌, ◌+◌, [], ◌∷◌, ◌++◌, List, drop, sym, ap, ◌∙◌, subst, arith}
 use Rattle.std.proofs.lemmas.List.{drop_all}
 use Rattle.std.proofs.lemmas.Result.{err_from_is_err_and, on_ok_weaker, IfErr-weaker}
 use Rattle.std.specs.Prelude.{OnOk, IfErr}
@@ -15,7 +15,7 @@ use Rattle.path_checker.specs.Steps.{At}
 use Rattle.path_checker.specs.Halting.{Halts}
 use Rattle.path_checker.specs.Small.{IsSmallSequence, IsSmallCommand, AreSmallBranches, AreSmall}
 use Rattle.path_checker.proofs.DirectiveLeaves.{never_true}
-use Rattle.path_checker.specs.Inner.{entered, left}
+use Rattle.path_checker.specs.Inner.{all_left, entered, left}
 use Rattle.path_checker.specs.Overriding.{AreOverrides, overridden_by}
 use Rattle.path_checker.proofs.Overriding.{Walks-steps, small_steps, Adds-run_overrides, Adds-try_overrides}
 use Rattle.path_checker.proofs.Smallness.{small_step, small_index, small_branch}
@@ -68,22 +68,22 @@ each-returns-in-Some-clause-err t c =
 pub each-loop-component-init : goal.each-loop-component-init
 each-loop-component-init t c =
     let whole : c.as_slice-component-items.result.now ≡ c.args.k.state.selection = c.as_slice-component-items.ensures.value ∙ c.in_ok-selection.ensures.value ∙ ap (λ k. k.state.selection) c.k.view_is in
-    let one : c.push.new.self.items ≡ c.args.k ∷ [] = c.in_ok-push.ensures.items ∙ ap (λ x. x ++ c.args.k ∷ []) c.new-now.ensures.items in
+    let one : c.in_ok-now.now.items ≡ c.args.k ∷ [] = c.in_ok-now.ensures in
     record {
       whole = whole;
       small = subst AreSmall (sym c.as_slice-component-items.ensures.value) c.in_ok-selection.ensures.small;
-      walks = subst (λ cs. Walks (each_course (command_tree c.args.step.now.command) c.args.count c.args.step.now.place c.args.k.state.selection) (c.args.k ∷ []) c.args.failed.now.items (each_course (command_tree c.args.step.now.command) c.args.count c.args.step.now.place cs) c.push.new.self.items c.args.failed.now.items) (sym whole) (subst (λ n. Walks (each_course (command_tree c.args.step.now.command) c.args.count c.args.step.now.place c.args.k.state.selection) (c.args.k ∷ []) c.args.failed.now.items (each_course (command_tree c.args.step.now.command) c.args.count c.args.step.now.place c.args.k.state.selection) n c.args.failed.now.items) (sym one) (Walks-start (each_course (command_tree c.args.step.now.command) c.args.count c.args.step.now.place c.args.k.state.selection) (c.args.k ∷ []) c.args.failed.now.items));
+      walks = subst (λ cs. Walks (each_course (command_tree c.args.step.now.command) c.args.count c.args.step.now.place c.args.k.state.selection) (c.args.k ∷ []) c.args.failed.now.items (each_course (command_tree c.args.step.now.command) c.args.count c.args.step.now.place cs) c.in_ok-now.now.items c.args.failed.now.items) (sym whole) (subst (λ n. Walks (each_course (command_tree c.args.step.now.command) c.args.count c.args.step.now.place c.args.k.state.selection) (c.args.k ∷ []) c.args.failed.now.items (each_course (command_tree c.args.step.now.command) c.args.count c.args.step.now.place c.args.k.state.selection) n c.args.failed.now.items) (sym one) (Walks-start (each_course (command_tree c.args.step.now.command) c.args.count c.args.step.now.place c.args.k.state.selection) (c.args.k ∷ []) c.args.failed.now.items));
     }
 
-pub each-returns-in_err-now-clause-err : goal.each-returns-in_err-now-clause-err
-each-returns-in_err-now-clause-err t c =
-    let p = err_from_is_err_and c.from_residual-in_err-now.result c.from_residual-in_err-now.ensures.1 in rw (p.1, p.2) (Each-stops (command_tree c.args.step.now.command) c.args.count c.args.step.now.place c.as_slice-component-items.result.now c.loop-component.component-index _ c.loop-component-test.true (each_course (command_tree c.args.step.now.command) c.args.count c.args.step.now.place c.args.k.state.selection) (c.args.k ∷ []) c.loop-component.now.items c.args.failed.now.items c.loop-component.failed.items c.loop-component.invariant.walks c.in_err-now.field-0.0 c.in_err-now.ensures.err)
+pub each-returns-in_err-now-2-clause-err : goal.each-returns-in_err-now-2-clause-err
+each-returns-in_err-now-2-clause-err t c =
+    let p = err_from_is_err_and c.from_residual-in_err-now-2.result c.from_residual-in_err-now-2.ensures.1 in rw (p.1, p.2) (Each-stops (command_tree c.args.step.now.command) c.args.count c.args.step.now.place c.as_slice-component-items.result.now c.loop-component.component-index _ c.loop-component-test.true (each_course (command_tree c.args.step.now.command) c.args.count c.args.step.now.place c.args.k.state.selection) (c.args.k ∷ []) c.loop-component.now.items c.args.failed.now.items c.loop-component.failed.items c.loop-component.invariant.walks c.in_err-now-2.field-0.0 c.in_err-now-2.ensures.err)
 
 pub each-loop-component-preserved : goal.each-loop-component-preserved
 each-loop-component-preserved t c = record {
   whole = c.loop-component.invariant.whole;
   small = (small_index c.as_slice-component-items.result.now c.loop-component.component-index 0 c.loop-component-test.true c.loop-component.invariant.small).1;
-  walks = Each-step (command_tree c.args.step.now.command) c.args.count c.args.step.now.place c.as_slice-component-items.result.now c.loop-component.component-index _ c.loop-component-test.true (each_course (command_tree c.args.step.now.command) c.args.count c.args.step.now.place c.args.k.state.selection) (c.args.k ∷ []) c.loop-component.now.items c.args.failed.now.items c.loop-component.failed.items c.loop-component.invariant.walks c.in_ok-now.now.items c.all_at.new.failed.items c.in_ok-now.ensures.ok;
+  walks = Each-step (command_tree c.args.step.now.command) c.args.count c.args.step.now.place c.as_slice-component-items.result.now c.loop-component.component-index _ c.loop-component-test.true (each_course (command_tree c.args.step.now.command) c.args.count c.args.step.now.place c.args.k.state.selection) (c.args.k ∷ []) c.loop-component.now.items c.args.failed.now.items c.loop-component.failed.items c.loop-component.invariant.walks c.in_ok-now-2.now.items c.all_at.new.failed.items c.in_ok-now-2.ensures.ok;
 }
 
 pub each-returns-clause-ok : goal.each-returns-clause-ok
@@ -124,13 +124,11 @@ one-returns-in-Run-clause-err t c = subst (λ (m : Command). IfErr c.run.result 
 
 pub run-returns-in_err-done-clause-err : goal.run-returns-in_err-done-clause-err
 run-returns-in_err-done-clause-err t c =
-    let one : c.push.new.self.items ≡ c.enter.result ∷ [] = c.in_ok-push.ensures.items ∙ ap (λ x. x ++ c.enter.result ∷ []) c.new-from.ensures.items in
-    let p = err_from_is_err_and c.from_residual-in_err-done.result c.from_residual-in_err-done.ensures.1 in rw (p.1, p.2) (Halts-run (runs_course c.args.inner.now c.args.count) c.in_ok-outer.outer c.args.component c.args.k c.enter.result c.push.new.self.items c.in_ok-outer.ensures c.enter.ensures one c.in_err-done.field-0.0 c.in_err-done.ensures.err)
+    let p = err_from_is_err_and c.from_residual-in_err-done.result c.from_residual-in_err-done.ensures.1 in rw (p.1, p.2) (Halts-run (runs_course c.args.inner.now c.args.count) c.in_ok-outer.outer c.args.component c.args.k c.enter.result c.in_ok-from.from.items c.in_ok-outer.ensures c.enter.ensures c.in_ok-from.ensures c.in_err-done.field-0.0 c.in_err-done.ensures.err)
 
 pub run-returns-clause-ok : goal.run-returns-clause-ok
 run-returns-clause-ok t c =
-    let one : c.push.new.self.items ≡ c.enter.result ∷ [] = c.in_ok-push.ensures.items ∙ ap (λ x. x ++ c.enter.result ∷ []) c.new-from.ensures.items in
-    Adds-run (runs_course c.args.inner.now c.args.count) c.in_ok-outer.outer c.args.component c.args.k c.enter.result c.push.new.self.items c.in_ok-done.done.items c.args.next.now.items c.leave_all.new.next.items c.split.new.next.items c.sequence.new.failed.items c.args.failed.now.items c.split.new.failed.items c.new-stops.result.items c.in_ok-outer.ensures c.enter.ensures one c.new-stops.ensures.items c.in_ok-done.ensures.ok c.in_ok-leave_all.ensures c.in_ok-split.ensures.soft c.in_ok-split.ensures.hard
+    Adds-run (runs_course c.args.inner.now c.args.count) c.in_ok-outer.outer c.args.component c.args.k c.enter.result c.in_ok-from.from.items c.in_ok-done.done.items c.args.next.now.items (c.args.next.now.items ++ all_left c.in_ok-outer.outer c.in_ok-done.done.items) c.leave.new.next.items c.sequence.new.failed.items c.args.failed.now.items c.leave.new.failed.items c.new-stops.result.items c.in_ok-outer.ensures c.enter.ensures c.in_ok-from.ensures c.new-stops.ensures.items c.in_ok-done.ensures.ok refl c.in_ok-leave.ensures.on c.in_ok-leave.ensures.hard
 
 pub sequence-loop-at-init : goal.sequence-loop-at-init
 sequence-loop-at-init t c = record {
@@ -172,15 +170,15 @@ sequence-returns-clause-ok t c =
 
 pub run-returns-then-are_overrides-clause-ok : goal.run-returns-then-are_overrides-clause-ok
 run-returns-then-are_overrides-clause-ok t c =
-    Adds-run_overrides c.args.inner.now (subst AreOverrides c.as_slice-steps.ensures (c.are_overrides.ensures c.if-are_overrides.true)) c.args.count c.args.component c.args.k c.in_ok-run_overrides.field-0 c.args.next.now.items c.put.new.next.items c.args.failed.now.items (subst (λ (s : SequenceTree). c.in_ok-run_overrides.field-0 ≡ left c.args.k.state (overridden_by (entered c.args.k.state c.args.component false c.args.k) s)) c.as_slice-steps.ensures c.in_ok-run_overrides.ensures) c.in_ok-put.ensures
+    Adds-run_overrides c.args.inner.now (subst AreOverrides c.as_slice-steps.ensures (c.are_overrides.ensures c.if-are_overrides.true)) c.args.count c.args.component c.args.k (left c.args.k.state (overridden_by (entered c.args.k.state c.args.component false c.args.k) c.args.inner.now)) c.args.next.now.items c.run_overrides.new.next.items c.args.failed.now.items refl (subst (λ (s : SequenceTree). c.run_overrides.new.next.items ≡ c.args.next.now.items ++ left c.args.k.state (overridden_by (entered c.args.k.state c.args.component false c.args.k) s) ∷ []) c.as_slice-steps.ensures c.in_ok-run_overrides.ensures)
 
 pub try_each-loop-branch-init : goal.try_each-loop-branch-init
 try_each-loop-branch-init t c =
-    let one : c.push.new.self.items ≡ c.args.k ∷ [] = c.in_ok-push.ensures.items ∙ ap (λ x. x ++ c.args.k ∷ []) c.new-now.ensures.items in
+    let one : c.in_ok-now.now.items ≡ c.args.k ∷ [] = c.in_ok-now.ensures in
     record {
       whole = c.as_slice-branch-items.ensures;
       small = subst (λ (b : BranchesTree). AreSmallBranches c.args.count b) (sym c.as_slice-branch-items.ensures) c.requires.small;
-      trying = subst (λ b. Trying (rest_course c.args.branches.now c.args.count c.args.place c.args.component) c.args.k c.in_ok-outer.outer c.args.next.now.items c.args.next.now.items c.args.failed.now.items c.args.failed.now.items (rest_course b c.args.count c.args.place c.args.component) c.push.new.self.items) (sym c.as_slice-branch-items.ensures) (Trying-start (rest_course c.args.branches.now c.args.count c.args.place c.args.component) c.args.k c.in_ok-outer.outer c.args.next.now.items c.args.failed.now.items c.push.new.self.items c.in_ok-outer.ensures one);
+      trying = subst (λ b. Trying (rest_course c.args.branches.now c.args.count c.args.place c.args.component) c.args.k c.in_ok-outer.outer c.args.next.now.items c.args.next.now.items c.args.failed.now.items c.args.failed.now.items (rest_course b c.args.count c.args.place c.args.component) c.in_ok-now.now.items) (sym c.as_slice-branch-items.ensures) (Trying-start (rest_course c.args.branches.now c.args.count c.args.place c.args.component) c.args.k c.in_ok-outer.outer c.args.next.now.items c.args.failed.now.items c.in_ok-now.now.items c.in_ok-outer.ensures one);
     }
 
 pub try_each-returns-in-None-clause-ok : goal.try_each-returns-in-None-clause-ok
@@ -188,7 +186,7 @@ try_each-returns-in-None-clause-ok t c = Trying-null (rest_course c.args.branche
 
 pub try_each-returns-in-Some-clause-ok : goal.try_each-returns-in-Some-clause-ok
 try_each-returns-in-Some-clause-ok t c =
-    Adds-try_overrides (sequence_tree c.in-Some.steps.now) c.in-Some.ensures.first.0 c.args.branches.now c.in-Some.ensures.overrides c.in-Some.ensures.first.1 c.args.count c.args.place c.args.component c.args.k c.in_ok-run_overrides.field-0 c.args.next.now.items c.put.new.next.items c.args.failed.now.items c.in_ok-run_overrides.ensures c.in_ok-put.ensures
+    Adds-try_overrides (sequence_tree c.in-Some.steps.now) c.in-Some.ensures.first.0 c.args.branches.now c.in-Some.ensures.overrides c.in-Some.ensures.first.1 c.args.count c.args.place c.args.component c.args.k (left c.args.k.state (overridden_by (entered c.args.k.state c.args.component true c.args.k) (sequence_tree c.in-Some.steps.now))) c.args.next.now.items c.run_overrides.new.next.items c.args.failed.now.items refl c.in_ok-run_overrides.ensures
 
 pub try_each-returns-in_err-now-in-Some-branch-clause-err : goal.try_each-returns-in_err-now-in-Some-branch-clause-err
 try_each-returns-in_err-now-in-Some-branch-clause-err t c =
@@ -220,7 +218,7 @@ command-returns-clause-ok t c =
     (Pops-end (does_course (command_tree c.args.step.now.command) c.args.count c.args.step.now.place) c.args.from.items c.args.failed.now.items c.loop-k.now.items c.loop-k.next.items c.loop-k.failed.items c.loop-k.invariant none) c.in_ok-merged.ensures
 
 pub one_branch-returns-clause-ok : goal.one_branch-returns-clause-ok
-one_branch-returns-clause-ok t c = Adds-branch (runs_course c.args.inner.now c.args.count) c.args.outer.now c.args.component c.args.from.items c.in_ok-inside.inside.items c.in_ok-done.done.items c.args.next.now.items c.leave_all.new.next.items c.new-rest.result.items c.split.new.next.items c.new-stops.result.items c.sequence.new.failed.items c.args.failed.now.items c.split.new.failed.items c.in_ok-inside.ensures c.new-stops.ensures.items c.in_ok-done.ensures.ok c.in_ok-leave_all.ensures c.new-rest.ensures.items c.in_ok-split.ensures.soft c.in_ok-split.ensures.hard
+one_branch-returns-clause-ok t c = Adds-branch (runs_course c.args.inner.now c.args.count) c.args.outer.now c.args.component c.args.from.items c.in_ok-inside.inside.items c.in_ok-done.done.items c.args.next.now.items c.leave_branch.new.next.items [] c.in_ok-leave_branch.field-0.items c.new-stops.result.items c.sequence.new.failed.items c.args.failed.now.items c.leave_branch.new.failed.items c.in_ok-inside.ensures c.new-stops.ensures.items c.in_ok-done.ensures.ok c.in_ok-leave_branch.ensures.done refl c.in_ok-leave_branch.ensures.soft c.in_ok-leave_branch.ensures.hard
 
 pub one_branch-returns-in_err-done-clause-err : goal.one_branch-returns-in_err-done-clause-err
 one_branch-returns-in_err-done-clause-err t c =

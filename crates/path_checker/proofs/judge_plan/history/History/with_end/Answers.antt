@@ -1,7 +1,6 @@
 use Rattle.std.proofs.Common.{◌≡◌, [], ◌∷◌, ◌++◌, sym, ap, ◌∙◌}
 use Rattle.path_model.specs.declared.event.Event.TheVariants.{Failed}
 use Rattle.path_checker.specs.Happening.{event_of, after_end}
-use Rattle.path_checker.proofs.ChainLaws.{end_told}
 use Rattle.path_checker.proofs.judge_plan.history.History.with_end.Goals as goal
 use Rattle.path_checker.proofs.judge_plan.history.History.with_end.Goals.{in-Tried, in-Missed}
 
@@ -13,4 +12,4 @@ returns c =
       | in-Missed w ↦ ap (λ e. after_end c.args.self e c.args.place) w.in-Missed.is ∙ ap (λ h. c.args.self ++ event_of h ∷ Failed c.args.place ∷ []) (sym w.event-is)
     ]
     in
-    c.in_ok-add-2.ensures ∙ end_told c.args.self c.add.new.self (event_of c.match-ended.event) c.args.place (after_end c.args.self c.args.ended c.args.place) c.in_ok-add.ensures told
+    c.in_ok-add_failure.ensures ∙ sym told
