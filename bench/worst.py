@@ -209,6 +209,8 @@ def in_loops():
     yield "the same at two components, each 410,000 times", looped((100, 100, 40), [ALL, *longs])
     yield "a write, done 4,000,000 times", start + looped((20, 20, 2), [WRITE] * 5000)
     yield "a swap, done 4,000,000 times", start + looped((20, 20, 2), [SWAP] * 5000)
+    threes = [size(1), size(2), size(3), WRITE] * 50
+    yield "three overrides at two components, and a write, done 500,000 times", start + looped((100, 100), [ALL, *threes])
     yield "200 overrides, one apart from the next, each done 10,000 times", looped((100, 100), apart)
     invokes = [one for number in range(100) for one in (size(number), INVOKE)]
     yield "invokes under 100 sizes, done 2,000,000 times", sizes + [index(*[0] * 100), run(index(*[0] * 200), run(*invokes)), index(0)]
@@ -253,15 +255,15 @@ def many_pairs(digests, sizes, times):
     return [tries(*branches, None), index(*[0] * times), *matches, index(0)]
 
 
-def long_contents(length):
-    """Overrides in 8,192 states in a sequence, where so long a content is in force at eight components."""
+def long_contents(length, forks, count):
+    """So many overrides in the states behind so many forks in a sequence, where so long a content is in force at eight components."""
     start = [("index", b"\x0c\xf5", 8), content(7, length), index(0)]
-    return start + [run(*map(fork_by_size, range(13)), *(command for number in range(200) for command in (size(number), WRITE)))]
+    return start + [run(*map(fork_by_size, range(forks)), *(command for number in range(count) for command in (size(number), WRITE)))]
 
 
 def alike_but_last(length, count):
     """So many states that differ in the arguments of the last component alone, where so long a content is in force at all eight."""
-    start = [("index", b"\x0c\xf5", 8), content(7, length), index(7)]
+    start = [("index", b"\x0c\xf5", 8), content(7, length), index(7), override((3, digest(IMAGE)))]
     branches = [[override((23, byte_string(number.to_bytes(2, "big")))), MATCH] for number in range(count)]
     return start + [run(tries(*branches, None), run(MATCH)), index(0)]
 
@@ -310,4 +312,6 @@ def dear(stored):
         yield "%d overrides of %d bytes, one after another, in a loop" % (count, length), enclosed(stored, together(length, count), False, 2)
     yield "500 states that differ in the last of their parameters", enclosed(stored, alike_but_last(6_000, 500), False, 8)
     for length in (100, 10_000):
-        yield "a content of %d bytes at 8 components in 8,192 states" % length, enclosed(stored, long_contents(length), False, 8)
+        for forks, count in ((13, 200), (14, 70), (15, 4)):
+            shows = "a content of %d bytes at 8 components in %d states" % (length, 2**forks)
+            yield shows, enclosed(stored, long_contents(length, forks, count), False, 8)
