@@ -1,12 +1,8 @@
--- The image that was noted is the one of the launch, and what was launched is safe.
-use Rattle.std.specs.Prelude.{ℕ, List, [], ◌∷◌, ◌++◌, ◌+◌, ◌≡◌, map, slice_range}
+-- What was launched is safe, and only a boot that ended is done.
+use Rattle.std.specs.Prelude.{List, [], ◌∷◌, ◌++◌, ◌≡◌, map}
 use Rattle.std.specs.List.{AllByRecursion}
 use Rattle.std.proofs.Common.{◌∙◌, refl, subst, sym}
 use Rattle.boot_c.specs.BootAnswers.{boot_answer}
-use Rattle.boot_c.specs.Images.{IsLaunched, IsNoted, image_bytes}
-use Rattle.boot_c.specs.declared.image.SuitImage.{SuitImage}
-use Rattle.flash_view.specs.Noting.{noted_bytes, noted_launch}
-use Rattle.flash_view.specs.declared.noted_image.NotedImage.{NotedImage}
 use Rattle.invoke_proc.specs.Booting.{GainsSafe}
 use Rattle.invoke_proc.specs.declared.boot_end.BootEnd.{BootEnd}
 use Rattle.invoke_proc.specs.declared.boot_end.BootEnd.TheVariants as ends
@@ -15,11 +11,6 @@ use Rattle.path_model.specs.declared.cause.Cause.TheVariants as causes
 use Rattle.step_machine.specs.Invoking.{launched_as}
 use Rattle.suit_answers.specs.declared.answer.Answer.TheVariants as answers
 use Rattle.suit_edge.specs.declared.launch.Launch.{Launch}
-
-pub is_launched : (flash seen : List ℕ) (note : NotedImage) (image : SuitImage) → noted_bytes seen note ≡ noted_bytes flash note → IsNoted note image → IsLaunched flash image (noted_launch seen note)
-is_launched flash seen note image same noted =
-    let here : noted_bytes flash note ≡ image_bytes flash image = λ i. slice_range flash (sym noted.place i) (sym noted.place i + sym noted.length i) in
-    record { component = sym noted.component; bytes = same ∙ here; digest = noted.digest }
 
 -- one launch that was gained
 pub one_safe : (before now : List Launch) (x : Launch) → before ≡ [] → now ≡ x ∷ [] → GainsSafe before now → HasItsDigest (launched_as x)

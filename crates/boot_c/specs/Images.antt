@@ -26,8 +26,8 @@ abbrev pub image_bytes : List ℕ → SuitImage → List ℕ
 image_bytes flash image = slice_range flash image.place (image.place + image.length)
 
 -- they lie in it
-abbrev pub LiesIn : List ℕ → SuitImage → Type 0
-LiesIn flash image = image.place + image.length ≤ length flash
+abbrev pub ImageLiesIn : List ℕ → SuitImage → Type 0
+ImageLiesIn flash image = image.place + image.length ≤ length flash
 
 -- an image is that of a launch
 pub record IsLaunched (flash : List ℕ) (image : SuitImage) (launch : Launch) : Type 0 where

@@ -24,8 +24,8 @@ pub record IsSlotOf (entry : Entry) (number : ℕ) (flash : List ℕ) (slot : Su
   pub capacity : slot.capacity ≡ entry.capacity
 
 -- as many bytes as it may have lie in the flash, and it has no more
-abbrev pub LiesIn : List ℕ → SuitSlot → Type 0
-LiesIn flash slot = (slot.length ≤ slot.capacity) × (slot.place + slot.capacity ≤ length flash)
+abbrev pub SlotLiesIn : List ℕ → SuitSlot → Type 0
+SlotLiesIn flash slot = (slot.length ≤ slot.capacity) × (slot.place + slot.capacity ≤ length flash)
 
 -- the flash has a record, and the component of this index in its layout stands in flash: in the slot that the record has in use
 pub record IsInUse (flash : List ℕ) (component : ℕ) (slot : SuitSlot) : Type 0 where

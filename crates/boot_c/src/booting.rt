@@ -1,7 +1,7 @@
 //! Booting from a flash that stands in memory.
 
 ghost use Rattle.boot_c.specs.BootAnswers.{IsAnswer, boot_answer, cause_answer};
-ghost use Rattle.boot_c.specs.Images.{LiesIn, Starts, StartsNone};
+ghost use Rattle.boot_c.specs.Images.{ImageLiesIn, Starts, StartsNone};
 ghost use Rattle.flash_layout.specs.Configs.{IsAllowed};
 ghost use Rattle.flash_layout.specs.declared.frame.TheConstants.{VERSION_1};
 ghost use Rattle.invoke_proc.specs.Banks.{config_in};
@@ -60,7 +60,7 @@ fn boot_by(alloc: Global, flash: &[u8], layout: &Layout, key: &Key) -> Told
     ensures answers { IsAnswer flash.now result.answer }
     ensures image { IfSome result.image (λ image. (result.answer ≡ answers.Done)
         × (image.found ≡ 1) × Starts flash.now image) }
-    ensures within { IfSome result.image (LiesIn flash.now) }
+    ensures within { IfSome result.image (ImageLiesIn flash.now) }
     ensures none { result.answer ≡ answers.Done → IsNone result.image → StartsNone flash.now }
 {
     let Ok(buffer) = BootBuffer::new(alloc, layout) else {
@@ -106,7 +106,7 @@ fn boot_from(alloc: Global, flash: &[u8]) -> Told
     ensures answers { IsAnswer flash.now result.answer }
     ensures image { IfSome result.image (λ image. (result.answer ≡ answers.Done)
         × (image.found ≡ 1) × Starts flash.now image) }
-    ensures within { IfSome result.image (LiesIn flash.now) }
+    ensures within { IfSome result.image (ImageLiesIn flash.now) }
     ensures none { result.answer ≡ answers.Done → IsNone result.image → StartsNone flash.now }
 {
     let mut disk = ViewDisk::new(flash);
@@ -131,7 +131,7 @@ pub extern "C" fn suit_boot(alloc: Global, flash: &[u8], out: &mut SuitImage) ->
     ensures found { out.new.found ≡ 1 → result ≡ code_of answers.Done }
     ensures marked { (out.new.found ≡ 0) ⊎ (out.new.found ≡ 1) }
     ensures starts { out.new.found ≡ 1 → Starts flash.now out.new }
-    ensures within { out.new.found ≡ 1 → LiesIn flash.now out.new }
+    ensures within { out.new.found ≡ 1 → ImageLiesIn flash.now out.new }
     ensures none { result ≡ code_of answers.Done → out.new.found ≢ 1 → StartsNone flash.now }
 {
     let Told { answer, image } = boot_from(alloc, flash);

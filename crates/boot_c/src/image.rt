@@ -1,6 +1,6 @@
 //! The image to be started.
 
-ghost use Rattle.boot_c.specs.Images.{IsLaunched, IsNoted, LiesIn};
+ghost use Rattle.boot_c.specs.Images.{ImageLiesIn, IsLaunched, IsNoted};
 ghost use Rattle.flash_view.specs.Noting.{noted_bytes, noted_launch};
 ghost use Rattle.std.specs.Prelude.{◌≡◌, ◌+◌, ◌≤◌, IfSome, IsTrue, length};
 
@@ -74,7 +74,7 @@ pub(crate) fn image_in(note: &NotedImage, seen: &[u8], flash: &[u8]) -> Option<S
     ensures found { IfSome result (λ image. image.found ≡ 1) }
     ensures launched { IfSome result (λ image.
         IsLaunched flash.now image (noted_launch seen.now note.now)) }
-    ensures within { IfSome result (LiesIn flash.now) }
+    ensures within { IfSome result (ImageLiesIn flash.now) }
 {
     if !is_same(note, seen, flash) {
         return None;

@@ -1,7 +1,7 @@
 //! The slot of a component that is in use.
 
 ghost use Rattle.boot_c.specs.SlotAnswers.{IsFaultAnswer, IsHeldAnswer, IsSlotAnswer};
-ghost use Rattle.boot_c.specs.SlotsInUse.{IsInUse, IsSlotOf, LiesIn};
+ghost use Rattle.boot_c.specs.SlotsInUse.{IsInUse, IsSlotOf, SlotLiesIn};
 ghost use Rattle.flash_layout.specs.Configs.{IsAllowed};
 ghost use Rattle.flash_layout.specs.Layouts.{IsEntry};
 ghost use Rattle.flash_layout.specs.declared.frame.TheConstants.{VERSION_1};
@@ -64,7 +64,7 @@ fn slot_in(entry: &Entry, number: u32, flash: &[u8]) -> Result<SuitSlot, FlashFa
     requires few { number < 2 }
     requires has { number ≡ 1 → entry.now.slots ≡ 2 }
     ensures slot { IfOk result (IsSlotOf entry.now number flash.now) }
-    ensures within { IfOk result (LiesIn flash.now) }
+    ensures within { IfOk result (SlotLiesIn flash.now) }
 {
     room(&entry.starts);
     let starts = slots_of(entry);
@@ -87,7 +87,7 @@ fn slot_by(flash: &[u8], layout: &Layout, key: &Key, component: u32) -> Result<S
     requires allowed { IsAllowed VERSION_1 (length flash.now) layout.now key.now }
     requires held { config_in (length flash.now) flash.now layout.now key.now }
     ensures slot { IfOk result (IsInUse flash.now component) }
-    ensures within { IfOk result (LiesIn flash.now) }
+    ensures within { IfOk result (SlotLiesIn flash.now) }
     ensures told { IfErr result (λ answer. answer ≢ answers.Done) }
     ensures answers { IfErr result (IsSlotAnswer flash.now component) }
 {
@@ -116,7 +116,7 @@ fn slot_by(flash: &[u8], layout: &Layout, key: &Key, component: u32) -> Result<S
 // The slot of a component that is in use.
 fn slot_from(alloc: Global, flash: &[u8], component: u32) -> Result<SuitSlot, Answer>
     ensures slot { IfOk result (IsInUse flash.now component) }
-    ensures within { IfOk result (LiesIn flash.now) }
+    ensures within { IfOk result (SlotLiesIn flash.now) }
     ensures told { IfErr result (λ answer. answer ≢ answers.Done) }
     ensures answers { IfErr result (IsSlotAnswer flash.now component) }
 {
@@ -132,7 +132,7 @@ fn slot_from(alloc: Global, flash: &[u8], component: u32) -> Result<SuitSlot, An
 // See `suit_slot`.
 fn slot_told(alloc: Global, flash: &[u8], component: u32, out: &mut SuitSlot) -> Answer
     ensures slot { result ≡ answers.Done → IsInUse flash.now component out.new }
-    ensures within { result ≡ answers.Done → LiesIn flash.now out.new }
+    ensures within { result ≡ answers.Done → SlotLiesIn flash.now out.new }
     ensures stays { result ≢ answers.Done → out.new ≡ out.old }
     ensures answers { IsSlotAnswer flash.now component result }
     ensures every_answer { (answer : Answer) → IsHeldAnswer flash.now component answer
@@ -155,7 +155,7 @@ fn slot_told(alloc: Global, flash: &[u8], component: u32, out: &mut SuitSlot) ->
 #[unsafe(no_mangle)]
 pub extern "C" fn suit_slot(alloc: Global, flash: &[u8], component: u32, out: &mut SuitSlot) -> i32
     ensures slot { result ≡ code_of answers.Done → IsInUse flash.now component out.new }
-    ensures within { result ≡ code_of answers.Done → LiesIn flash.now out.new }
+    ensures within { result ≡ code_of answers.Done → SlotLiesIn flash.now out.new }
     ensures stays { result ≢ code_of answers.Done → out.new ≡ out.old }
     ensures answers { (answer : Answer)
         × (result ≡ code_of answer) × IsSlotAnswer flash.now component answer }

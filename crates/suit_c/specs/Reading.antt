@@ -30,8 +30,8 @@ pub record IsReadAs (bytes : List ℕ) (numbers : SuitEnvelope) : Type 0 where
   pub components : numbers.components ≡ length manifest.components
 
 -- the manifest lies in the bytes
-abbrev pub LiesIn : List ℕ → SuitEnvelope → Type 0
-LiesIn bytes numbers = numbers.manifest_place + numbers.manifest_length ≤ length bytes
+abbrev pub ManifestLiesIn : List ℕ → SuitEnvelope → Type 0
+ManifestLiesIn bytes numbers = numbers.manifest_place + numbers.manifest_length ≤ length bytes
 
 -- the envelope's grammar refuses the bytes, or the manifest's those of the manifest
 abbrev pub IsRefusedFor : List ℕ → Refusal → Type 0

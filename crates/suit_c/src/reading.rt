@@ -2,7 +2,7 @@
 
 ghost use Rattle.std.specs.Prelude.{◌≡◌, ◌⊎◌, IfErr, IfOk, IsOk};
 ghost use Rattle.suit_answers.specs.Answers.{code_of};
-ghost use Rattle.suit_c.specs.Reading.{IsFile, IsReadAs, IsRefusedAt, IsRefusedFor, LiesIn};
+ghost use Rattle.suit_c.specs.Reading.{IsFile, IsReadAs, IsRefusedAt, IsRefusedFor, ManifestLiesIn};
 ghost use Rattle.suit_answers.specs.declared.answer.Answer.TheVariants as answers;
 ghost use Rattle.suit_envelope.specs.Envelopes.{EnvelopeSays};
 ghost use Rattle.suit_manifest.specs.declared.manifest.Manifest.{Manifest};
@@ -33,7 +33,7 @@ pub struct SuitEnvelope {
 // The numbers of the envelope that the bytes spell.
 fn read(file: &[u8]) -> Result<SuitEnvelope, Refusal>
     ensures ok { IfOk result (IsReadAs file.now) }
-    ensures within { IfOk result (LiesIn file.now) }
+    ensures within { IfOk result (ManifestLiesIn file.now) }
     ensures every_file { (said : EnvelopeSays) (manifest : Manifest)
         → IsFile file.now said manifest → IsOk result }
     ensures refused { IfErr result (IsRefusedFor file.now) }
@@ -58,7 +58,7 @@ fn read(file: &[u8]) -> Result<SuitEnvelope, Refusal>
 pub extern "C" fn suit_read(file: &[u8], out: &mut SuitEnvelope, place: &mut u64) -> i32
     ensures answers { (result ≡ code_of answers.Done) ⊎ (result ≡ code_of answers.Refused) }
     ensures read { result ≡ code_of answers.Done → IsReadAs file.now out.new }
-    ensures within { result ≡ code_of answers.Done → LiesIn file.now out.new }
+    ensures within { result ≡ code_of answers.Done → ManifestLiesIn file.now out.new }
     ensures every_file { (said : EnvelopeSays) (manifest : Manifest)
         → IsFile file.now said manifest → result ≡ code_of answers.Done }
     ensures refused { result ≡ code_of answers.Refused → IsRefusedAt file.now place.new }
