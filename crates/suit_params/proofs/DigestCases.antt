@@ -5,6 +5,7 @@ use Rattle.det_cbor.specs.DataItem.{DataItem, UnsignedInteger, NegativeInteger, 
 use Rattle.det_cbor.specs.declared.head.HeadKind.TheVariants as kinds
 use Rattle.det_cbor.specs.HeadReading.{◌>>=◌}
 use Rattle.det_cbor.specs.Position.{Position}
+use Rattle.suit_params.specs.declared.digest_kind.DigestKind.{DigestKind}
 use Rattle.suit_params.specs.declared.refusal.Why.TheVariants.{Shape}
 use Rattle.suit_params.specs.Refusing.{refused, IsByteString}
 use Rattle.suit_params.specs.Digests.{IsPair, IsNumber, pair_item, first_place}
@@ -47,9 +48,9 @@ by_number P unsigned negative other x = other x (record { other = λ h. h; judge
 
 pub record OtherThanBytes (b : DataItem) : Type 0 where
   pub other : IsByteString b → ⊥
-  pub judged : (array place : ℕ) → judge_value array place b ≡ Err (refused place Shape)
+  pub judged : (array place : ℕ) (kind : DigestKind) → judge_value array place kind b ≡ Err (refused place Shape)
   pub read : (place : ℕ) (p : Position) → kind_after kinds.Bytes Shape place (item_value b) p (item_kind b) ≡ Err (refused place Shape)
 
 pub by_bytes : (P : DataItem → Type 0) → ((bytes : List ℕ) → P (ByteString bytes)) → ((b : DataItem) → OtherThanBytes b → P b) → (b : DataItem) → P b
 by_bytes P bytes other (ByteString content) = bytes content
-by_bytes P bytes other x = other x (record { other = λ h. h; judged = λ array place. refl; read = λ place p. refl })
+by_bytes P bytes other x = other x (record { other = λ h. h; judged = λ array place kind. refl; read = λ place p. refl })

@@ -1,4 +1,6 @@
 pub mod Readings
+pub mod KindLaws
+pub mod DigestSpelled
 pub mod DigestCases
 pub mod DigestJudging
 pub mod DigestAnswers

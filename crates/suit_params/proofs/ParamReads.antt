@@ -8,6 +8,7 @@ use Rattle.det_cbor.specs.HeadReading.{◌>>=◌}
 use Rattle.det_cbor.specs.HeadSpelling.{spelled}
 use Rattle.det_cbor.specs.ItemOrder.{spell_parts}
 use Rattle.det_cbor.specs.Position.{Position}
+use Rattle.suit_params.specs.declared.digest.Digest.{Digest}
 use Rattle.suit_params.specs.declared.param.Param.{Param}
 use Rattle.suit_params.specs.declared.param.Param.TheVariants as params
 use Rattle.suit_params.specs.declared.param.ParamKey.{ParamKey}
@@ -123,22 +124,19 @@ index_read count levels p x rest valid is = rw (number_read levels p x rest vali
     by_answer (Ok n) = by_index (judge_index count p.place n) (after p (spell x) rest)
     by_answer (Err e) = refl
 
-abbrev digest_param : List ℕ → Param
-digest_param d = params.Digest (record { bytes = d })
-
 then_then : {A B C : Type 0} (r : Result A Refusal) (f : A → Result B Refusal) (g : B → Result C Refusal) → (r >>= λ a. f a >>= g) ≡ ((r >>= f) >>= g)
 then_then (Ok a) f g = refl
 then_then (Err e) f g = refl
 
 -- a content is read as a digest
 content_read : (levels : ℕ) (place : ℕ) (bytes : List ℕ) (q : Position) → IsValidWithin levels (ByteString bytes)
-    → ((only_from (record { left = bytes; place = content_place place bytes }) >>= λ item. digest_at item >>= with_rest q) >>= λ v. Ok (digest_param v.0, v.1)) ≡ ((judge_content place bytes >>= λ d. Ok (digest_param d)) >>= with_rest q)
+    → ((only_from (record { left = bytes; place = content_place place bytes }) >>= λ item. digest_at item >>= with_rest q) >>= λ v. Ok (params.Digest v.0, v.1)) ≡ ((judge_content place bytes >>= λ d. Ok (params.Digest d)) >>= with_rest q)
 content_read levels place bytes q valid =
     let c : Position = record { left = bytes; place = content_place place bytes } in
     let reads : ReadsAs digest_at judge_digest = λ within at y v. digest_read within y at v in
     let said : (only_from c >>= digest_at) ≡ judge_content place bytes = content_is digest_at judge_digest reads levels place bytes valid in
-    let first : (only_from c >>= λ item. digest_at item >>= with_rest q) ≡ (judge_content place bytes >>= with_rest q) = then_then (only_from c) digest_at (with_rest q) ∙ ap (λ (r : Result (List ℕ) Refusal). r >>= with_rest q) said in
-    ap (λ (r : Result (List ℕ × Position) Refusal). r >>= λ v. Ok (digest_param v.0, v.1)) first ∙ put_in (judge_content place bytes) q digest_param
+    let first : (only_from c >>= λ item. digest_at item >>= with_rest q) ≡ (judge_content place bytes >>= with_rest q) = then_then (only_from c) digest_at (with_rest q) ∙ ap (λ (r : Result Digest Refusal). r >>= with_rest q) said in
+    ap (λ (r : Result (Digest × Position) Refusal). r >>= λ v. Ok (params.Digest v.0, v.1)) first ∙ put_in (judge_content place bytes) q (λ v. params.Digest v)
 
 digest_value_read : (count levels : ℕ) (p : Position) (x : DataItem) (rest : List ℕ) → IsValidWithin levels x → p.left ≡ spell x ++ rest → ReadsValue count keys.Digest levels p x rest
 digest_value_read count levels p (ByteString bytes) rest valid is = rw (held_read levels p (ByteString bytes) rest valid is) (content_read levels p.place bytes (after p (spell (ByteString bytes)) rest) valid)

@@ -1,13 +1,12 @@
 -- How a map of parameters is spelled, piece by piece.
-use Rattle.std.proofs.Common.{◌≡◌, ◌<◌, ◌^◌, ℕ, List, ◌++◌, length, refl, sym, ap, ◌∙◌, append_assoc}
+use Rattle.std.proofs.Common.{◌≡◌, ◌<◌, ◌^◌, ℕ, List, ◌++◌, length, refl, ap, ◌∙◌, append_assoc}
 use Rattle.std.specs.List.{AllByRecursion}
 use Rattle.det_cbor.specs.Heads.{head_bytes}
-use Rattle.det_cbor.specs.DataItem.{ByteString, pair_count, spell, spell_pairs}
-use Rattle.suit_params.specs.Digests.{digest_item}
+use Rattle.det_cbor.specs.DataItem.{pair_count, spell, spell_pairs}
 use Rattle.suit_params.specs.declared.param.Param.{Param}
 use Rattle.suit_params.specs.ParamMaking.{param_pairs, params_item, IsParam}
 use Rattle.suit_params.specs.ParamWriting.{IsWritten}
-use Rattle.suit_params.proofs.ParamWritten.{digest_length, params_counted, written_says, written_valid}
+use Rattle.suit_params.proofs.ParamWritten.{params_counted, written_says, written_valid}
 
 pub is_written : (ps : List Param) → length ps < 2 ^ 64 → AllByRecursion IsParam ps → IsWritten ps
 is_written ps few all count place below ascending =
@@ -16,12 +15,6 @@ is_written ps few all count place below ascending =
       spells = record { valid = written_valid ps few all ascending; is = refl };
       says_so = written_says count place ps all below;
     }
-
--- the head of a byte string that holds a digest, and the digest's array
-pub digest_written : (out d : List ℕ) → length d ≡ 32 → (out ++ head_bytes 2 36) ++ spell (digest_item d) ≡ out ++ spell (ByteString (spell (digest_item d)))
-digest_written out d long =
-    let held : spell (ByteString (spell (digest_item d))) ≡ head_bytes 2 36 ++ spell (digest_item d) = ap (λ (n : ℕ). head_bytes 2 n ++ spell (digest_item d)) (digest_length d long) in
-    append_assoc out (head_bytes 2 36) (spell (digest_item d)) ∙ sym (ap (λ (r : List ℕ). out ++ r) held)
 
 -- the head of a map and its pairs
 pub params_spelled : (out : List ℕ) (n : ℕ) (ps : List Param) → n ≡ length ps → (out ++ head_bytes 5 n) ++ spell_pairs (param_pairs ps) ≡ out ++ spell (params_item ps)
@@ -33,3 +26,6 @@ params_spelled out n ps is =
 
 pub after_two : (out a b l m : List ℕ) → l ≡ out ++ a → m ≡ l ++ b → m ≡ (out ++ a) ++ b
 after_two out a b l m e f = f ∙ ap (λ (k : List ℕ). k ++ b) e
+
+pub after_three : (out a b d l m n : List ℕ) → l ≡ out ++ a → m ≡ l ++ b → n ≡ m ++ d → n ≡ ((out ++ a) ++ b) ++ d
+after_three out a b d l m n e f g = g ∙ ap (λ (k : List ℕ). k ++ d) (after_two out a b l m e f)

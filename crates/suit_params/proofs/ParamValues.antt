@@ -5,6 +5,7 @@ use Rattle.det_cbor.specs.DataItem.{DataItem, UnsignedInteger, ByteString, TextS
 use Rattle.det_cbor.specs.HeadReading.{◌>>=◌}
 use Rattle.det_cbor.specs.ResultLaws.{same_ok, same_err}
 use Rattle.det_cbor.specs.ArgumentLaws.{IsBytes, bytes_of_all}
+use Rattle.suit_params.specs.declared.digest.Digest.{Digest}
 use Rattle.suit_params.specs.declared.param.Param.{Param}
 use Rattle.suit_params.specs.declared.param.Param.TheVariants as params
 use Rattle.suit_params.specs.declared.param.ParamKey.{ParamKey}
@@ -42,11 +43,11 @@ source_judged count place i = by_count (ltb i count) refl
     by_count true is = Said (params.Source i) (SaysSource i (ltb-true i count is))
     by_count false is = Bad (refused place (BadIndex i count)) (NoComponent i (ltb-false i count is))
 
-digest_judged : (count place : ℕ) (content : List ℕ) → IsBytes content → Judged count place keys.Digest (ByteString content) (judge_content place content >>= λ d. Ok (params.Digest (record { bytes = d })))
+digest_judged : (count place : ℕ) (content : List ℕ) → IsBytes content → Judged count place keys.Digest (ByteString content) (judge_content place content >>= λ d. Ok (params.Digest d))
 digest_judged count place content fits = by_answer (judge_content place content) refl
   where
-    by_answer : (a : Result (List ℕ) Refusal) → judge_content place content ≡ a → Judged count place keys.Digest (ByteString content) (a >>= λ d. Ok (params.Digest (record { bytes = d })))
-    by_answer (Ok d) is = Said (params.Digest (record { bytes = d })) (SaysDigest content d (whole_ok judge_digest IsDigest RefusesDigest digest_judges (content_place place content) content d fits is))
+    by_answer : (a : Result Digest Refusal) → judge_content place content ≡ a → Judged count place keys.Digest (ByteString content) (a >>= λ d. Ok (params.Digest d))
+    by_answer (Ok d) is = Said (params.Digest d) (SaysDigest content d (whole_ok judge_digest IsDigest RefusesDigest digest_judges (content_place place content) content d fits is))
     by_answer (Err r) is = Bad r (BadDigest content r (whole_err judge_digest IsDigest RefusesDigest digest_judges (content_place place content) content r fits is))
 
 judged : (count : ℕ) (key : ParamKey) (levels place : ℕ) (x : DataItem) → IsValidWithin levels x → Judged count place key x (judge_value count key place x)

@@ -1,8 +1,6 @@
 -- A written map of parameters is valid, and says what was written.
-use Rattle.std.proofs.Common.{◌≡◌, ℕ, ◌<◌, ◌^◌, List, [], ◌∷◌, length, Some, None, refl, sym, ap, subst, ◌∙◌, arith}
+use Rattle.std.proofs.Common.{◌≡◌, ℕ, ◌<◌, ◌^◌, List, [], ◌∷◌, length, Some, None, refl, arith}
 use Rattle.std.specs.List.{AllByRecursion}
-use Rattle.std.proofs.lemmas.List.{append-nil}
-use Rattle.det_cbor.specs.Heads.{head_bytes}
 use Rattle.det_cbor.specs.DataItem.{pair_count, spell, IsByte, IsString, IsValid, IsValidWithin, ArePairsWithin}
 use Rattle.suit_params.specs.declared.param.Param.{Param}
 use Rattle.suit_params.specs.declared.param.Param.TheVariants as params
@@ -12,25 +10,8 @@ use Rattle.suit_params.specs.ParamKeys.{key_of, key_number, key_item}
 use Rattle.suit_params.specs.Params.{SaysValue, SaysVendor, SaysClass, SaysDevice, SaysDigest, SaysSlot, SaysStrict, SaysSoft, SaysSize, SaysContent, SaysUri, SaysSource, SaysArgs, next_place, SayParams, NoMore, ParamThen, IsParams, ParamMap}
 use Rattle.suit_params.specs.ParamLaws.{AreAbove, AreAscending}
 use Rattle.suit_params.specs.ParamMaking.{value_item, param_pairs, params_item, IsParam, IsBelow}
+use Rattle.suit_params.proofs.DigestSpelled.{digest_string, digest_valid}
 use Rattle.suit_params.proofs.ParamOrder.{above_number, key_small}
-
--- ---- a digest
-
--- its bytes: the heads of an array, of -16 and of a byte string, and the digest
-digest_spelled : (d : List ℕ) → length d ≡ 32 → spell (digest_item d) ≡ 130 ∷ 47 ∷ 88 ∷ 32 ∷ d
-unfolding head_bytes
-digest_spelled d long =
-    let head : head_bytes 2 (length d) ≡ 88 ∷ 32 ∷ [] = ap (head_bytes 2) long in
-    rw (head, append-nil d) refl
-
-pub digest_length : (d : List ℕ) → length d ≡ 32 → length (spell (digest_item d)) ≡ 36
-digest_length d long = ap length (digest_spelled d long) ∙ omega arith
-
-digest_string : (d : List ℕ) → length d ≡ 32 → AllByRecursion IsByte d → IsString (spell (digest_item d))
-digest_string d long all = (omega (arith, digest_length d long), subst (AllByRecursion IsByte) (sym (digest_spelled d long)) (omega arith, (omega arith, (omega arith, (omega arith, all)))))
-
-digest_valid : (d : List ℕ) → length d ≡ 32 → AllByRecursion IsByte d → IsValid (digest_item d)
-digest_valid d long all = (omega arith, omega arith, (omega arith, ((omega arith, all), tt)))
 
 -- ---- meanings
 
@@ -39,8 +20,7 @@ value_says count place (params.Vendor id) fits below = SaysVendor id fits.0
 value_says count place (params.Class id) fits below = SaysClass id fits.0
 value_says count place (params.Device id) fits below = SaysDevice id fits.0
 value_says count place (params.Digest digest) fits below =
-    let d = digest.bytes in
-    SaysDigest (spell (digest_item d)) d (record { item = digest_item d; spells = record { valid = digest_valid d fits.0 fits.1; is = refl }; says_so = record { is = refl; long = fits.0 } })
+    SaysDigest (spell (digest_item digest)) digest (record { item = digest_item digest; spells = record { valid = digest_valid 0 digest (omega arith) fits; is = refl }; says_so = record { is = refl; long = fits.0 } })
 value_says count place (params.Slot n) fits below = SaysSlot n
 value_says count place (params.Strict b) fits below = SaysStrict b
 value_says count place (params.Soft b) fits below = SaysSoft b
@@ -66,7 +46,7 @@ value_valid : (levels : ℕ) (p : Param) → IsParam p → IsValidWithin levels 
 value_valid levels (params.Vendor id) fits = short id 16 fits.0 (omega arith) fits.1
 value_valid levels (params.Class id) fits = short id 16 fits.0 (omega arith) fits.1
 value_valid levels (params.Device id) fits = short id 16 fits.0 (omega arith) fits.1
-value_valid levels (params.Digest digest) fits = digest_string digest.bytes fits.0 fits.1
+value_valid levels (params.Digest digest) fits = digest_string digest fits
 value_valid levels (params.Slot n) fits = fits
 value_valid levels (params.Strict b) fits = tt
 value_valid levels (params.Soft b) fits = tt

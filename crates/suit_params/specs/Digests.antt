@@ -1,29 +1,27 @@
 -- SUIT_Digest (draft-ietf-suit-manifest-25, section 10): an array of the algorithm and the digest.
 use Rattle.std.specs.Prelude.{◌≡◌, ◌≢◌, ℕ, ◌+◌, List, length}
-use Rattle.std.specs.List.{AllByRecursion}
 use Rattle.det_cbor.specs.Heads.{head_bytes}
-use Rattle.det_cbor.specs.DataItem.{DataItem, UnsignedInteger, NegativeInteger, ByteString, ArrayOf, NoItems, ItemThen, spell, IsByte}
+use Rattle.det_cbor.specs.DataItem.{DataItem, UnsignedInteger, NegativeInteger, ByteString, ArrayOf, NoItems, ItemThen, spell}
+use Rattle.suit_params.specs.declared.digest.Digest.{Digest}
+use Rattle.suit_params.specs.declared.digest_kind.DigestKind.{DigestKind}
 use Rattle.suit_params.specs.declared.refusal.Refusal.{Refusal}
 use Rattle.suit_params.specs.declared.refusal.Why.TheVariants.{Shape, Algorithm}
 use Rattle.suit_params.specs.Refusing.{refused, IsByteString}
+use Rattle.suit_params.specs.DigestBytes.{digest_bytes, digest_kind, IsLong}
+use Rattle.suit_params.specs.DigestKinds.{size_of, algorithm_item}
 
 abbrev pub pair_item : DataItem → DataItem → DataItem
 pair_item a b = ArrayOf (ItemThen a (ItemThen b NoItems))
 
--- SHA-256 is the algorithm -16
-abbrev pub sha_256 : DataItem
-sha_256 = NegativeInteger 15
+abbrev pub array_of : DigestKind → List ℕ → DataItem
+array_of kind bytes = pair_item (algorithm_item kind) (ByteString bytes)
 
-abbrev pub digest_item : List ℕ → DataItem
-digest_item digest = pair_item sha_256 (ByteString digest)
+abbrev pub digest_item : Digest → DataItem
+digest_item digest = array_of (digest_kind digest) (digest_bytes digest)
 
--- the bytes of a SHA-256
-abbrev pub IsDigestBytes : List ℕ → Type 0
-IsDigestBytes digest = (length digest ≡ 32) × AllByRecursion IsByte digest
-
-pub record IsDigest (place : ℕ) (x : DataItem) (digest : List ℕ) : Type 0 where
+pub record IsDigest (place : ℕ) (x : DataItem) (digest : Digest) : Type 0 where
   pub is : x ≡ digest_item digest
-  pub long : length digest ≡ 32
+  pub long : IsLong digest
 
 -- ---- refusals
 
@@ -48,9 +46,10 @@ pub data RefusesDigest (place : ℕ) : DataItem → Refusal → Type 0 where
   NoPair : (x : DataItem) → (IsPair x → ⊥) → RefusesDigest place x (refused place Shape)
   NoNumber : (a b : DataItem) → (IsNumber a → ⊥)
       → RefusesDigest place (pair_item a b) (refused (first_place place) Shape)
-  OtherAlgorithm : (a b : DataItem) → IsNumber a → a ≢ sha_256
+  OtherAlgorithm : (a b : DataItem) → IsNumber a → ((kind : DigestKind) → a ≢ algorithm_item kind)
       → RefusesDigest place (pair_item a b) (refused place Algorithm)
-  NoByteString : (b : DataItem) → (IsByteString b → ⊥)
-      → RefusesDigest place (pair_item sha_256 b) (refused (second_place place sha_256) Shape)
-  OtherLength : (digest : List ℕ) → length digest ≢ 32
-      → RefusesDigest place (pair_item sha_256 (ByteString digest)) (refused place Algorithm)
+  NoByteString : (kind : DigestKind) (b : DataItem) → (IsByteString b → ⊥)
+      → RefusesDigest place (pair_item (algorithm_item kind) b)
+      (refused (second_place place (algorithm_item kind)) Shape)
+  OtherLength : (kind : DigestKind) (bytes : List ℕ) → length bytes ≢ size_of kind
+      → RefusesDigest place (array_of kind bytes) (refused place Algorithm)

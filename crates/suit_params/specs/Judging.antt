@@ -1,12 +1,16 @@
 -- How items are judged, by cases: what they say, or the first refusal.
-use Rattle.std.specs.Prelude.{ℕ, ◌==◌, if◌then◌else◌, List, [], ◌∷◌, length, Result, Ok, Err}
+use Rattle.std.specs.Prelude.{ℕ, ◌==◌, if◌then◌else◌, List, [], ◌∷◌, length, Option, Some, None, Result, Ok, Err}
 use Rattle.det_cbor.specs.DataItem.{DataItem, UnsignedInteger, NegativeInteger, ByteString, ArrayOf, NoItems, ItemThen}
+use Rattle.suit_params.specs.declared.digest.Digest.{Digest}
+use Rattle.suit_params.specs.declared.digest_kind.DigestKind.{DigestKind}
 use Rattle.suit_params.specs.declared.refusal.Refusal.{Refusal}
 use Rattle.suit_params.specs.declared.refusal.Why.TheVariants.{Shape, Algorithm}
 use Rattle.suit_params.specs.Refusing.{refused, content_place}
 use Rattle.suit_params.specs.Reading.{whole_judged}
 use Rattle.det_cbor.specs.HeadReading.{◌>>=◌}
 use Rattle.det_cbor.specs.Position.{Position}
+use Rattle.suit_params.specs.DigestBytes.{digest_by}
+use Rattle.suit_params.specs.DigestKinds.{size_of, kind_of}
 use Rattle.suit_params.specs.Digests.{first_place, second_place}
 
 -- a byte string, as its content at its place
@@ -28,18 +32,21 @@ judge_each judge (a ∷ rest) = judge a >>= λ _. judge_each judge rest
 
 -- ---- digests
 
-abbrev pub judge_value : ℕ → ℕ → DataItem → Result (List ℕ) Refusal
-judge_value array place (ByteString digest) =
-    if length digest == 32 then Ok digest else Err (refused array Algorithm)
-judge_value array place _ = Err (refused place Shape)
+abbrev pub judge_value : ℕ → ℕ → DigestKind → DataItem → Result Digest Refusal
+judge_value array place kind (ByteString bytes) =
+    if length bytes == size_of kind then Ok (digest_by kind bytes) else Err (refused array Algorithm)
+judge_value array place kind _ = Err (refused place Shape)
 
-abbrev pub judge_elements : ℕ → DataItem → DataItem → Result (List ℕ) Refusal
+-- the second element behind the first, which names this algorithm
+abbrev pub judge_by : ℕ → DataItem → DataItem → Option DigestKind → Result Digest Refusal
+judge_by array a b None = Err (refused array Algorithm)
+judge_by array a b (Some kind) = judge_value array (second_place array a) kind b
+
+abbrev pub judge_elements : ℕ → DataItem → DataItem → Result Digest Refusal
 judge_elements array (UnsignedInteger n) b = Err (refused array Algorithm)
-judge_elements array (NegativeInteger n) b =
-    if n == 15 then judge_value array (second_place array (NegativeInteger n)) b
-    else Err (refused array Algorithm)
+judge_elements array (NegativeInteger n) b = judge_by array (NegativeInteger n) b (kind_of n)
 judge_elements array _ b = Err (refused (first_place array) Shape)
 
-abbrev pub judge_digest : ℕ → DataItem → Result (List ℕ) Refusal
+abbrev pub judge_digest : ℕ → DataItem → Result Digest Refusal
 judge_digest place (ArrayOf (ItemThen a (ItemThen b NoItems))) = judge_elements place a b
 judge_digest place _ = Err (refused place Shape)

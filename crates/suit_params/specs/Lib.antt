@@ -1,4 +1,9 @@
 pub mod Refusing
+pub mod DigestKinds
+pub mod DigestBytes
+pub mod Hashes
+pub mod DigestLaws
+pub mod HasherState
 pub mod Digests
 pub mod Identifiers
 pub mod Alike

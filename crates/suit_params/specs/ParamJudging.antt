@@ -2,6 +2,7 @@
 use Rattle.std.specs.Prelude.{ℕ, ◌==◌, nat_lt, if◌then◌else◌, List, [], ◌∷◌, Bool, length, Option, Some, None, Result, Ok, Err}
 use Rattle.det_cbor.specs.DataItem.{DataItem, UnsignedInteger, ByteString, TextString, MapOf, Boolean, DataPairs, NoPairs, PairThen}
 use Rattle.det_cbor.specs.HeadReading.{◌>>=◌}
+use Rattle.suit_params.specs.declared.digest.Digest.{Digest}
 use Rattle.suit_params.specs.declared.param.Param.{Param}
 use Rattle.suit_params.specs.declared.param.Param.TheVariants as params
 use Rattle.suit_params.specs.declared.param.ParamKey.{ParamKey}
@@ -40,7 +41,7 @@ abbrev pub judge_index : ℕ → ℕ → ℕ → Result ℕ Refusal
 judge_index count place i = if nat_lt i count then Ok i else Err (refused place (BadIndex i count))
 
 -- a digest that the content of a byte string is to be
-abbrev pub judge_content : ℕ → List ℕ → Result (List ℕ) Refusal
+abbrev pub judge_content : ℕ → List ℕ → Result Digest Refusal
 judge_content place content = whole_judged judge_digest (content_place place content) content
 
 -- ---- values by their keys
@@ -51,7 +52,7 @@ judge_value count keys.Class place x = judge_id place x >>= λ id. Ok (params.Cl
 judge_value count keys.Device place x = judge_id place x >>= λ id. Ok (params.Device id)
 judge_value count keys.Digest place x =
     judge_bytes place x >>= λ content. judge_content place content
-    >>= λ d. Ok (params.Digest (record { bytes = d }))
+    >>= λ d. Ok (params.Digest d)
 judge_value count keys.Slot place x = judge_number place x >>= λ n. Ok (params.Slot n)
 judge_value count keys.Strict place x = judge_flag place x >>= λ b. Ok (params.Strict b)
 judge_value count keys.Soft place x = judge_flag place x >>= λ b. Ok (params.Soft b)

@@ -5,14 +5,15 @@ use Rattle.std.specs.Str.{IsUtf8}
 use Rattle.det_cbor.specs.DataItem.{DataItem, UnsignedInteger, ByteString, TextString, MapOf, Boolean, DataPairs, NoPairs, PairThen, spell, IsByte, IsString}
 use Rattle.suit_params.specs.declared.param.Param.{Param}
 use Rattle.suit_params.specs.declared.param.Param.TheVariants as params
-use Rattle.suit_params.specs.Digests.{digest_item, IsDigestBytes}
+use Rattle.suit_params.specs.DigestBytes.{IsDigestBytes}
+use Rattle.suit_params.specs.Digests.{digest_item}
 use Rattle.suit_params.specs.ParamKeys.{key_of, key_item}
 
 abbrev pub value_item : Param → DataItem
 value_item (params.Vendor id) = ByteString id
 value_item (params.Class id) = ByteString id
 value_item (params.Device id) = ByteString id
-value_item (params.Digest digest) = ByteString (spell (digest_item digest.bytes))
+value_item (params.Digest digest) = ByteString (spell (digest_item digest))
 value_item (params.Slot n) = UnsignedInteger n
 value_item (params.Strict b) = Boolean b
 value_item (params.Soft b) = Boolean b
@@ -38,7 +39,7 @@ abbrev pub IsParam : Param → Type 0
 IsParam (params.Vendor id) = IsId id
 IsParam (params.Class id) = IsId id
 IsParam (params.Device id) = IsId id
-IsParam (params.Digest digest) = IsDigestBytes digest.bytes
+IsParam (params.Digest digest) = IsDigestBytes digest
 IsParam (params.Slot n) = n < 2 ^ 64
 IsParam (params.Strict b) = Unit {0}
 IsParam (params.Soft b) = Unit {0}

@@ -5,6 +5,7 @@ use Rattle.det_cbor.specs.declared.head.HeadKind.TheVariants as kinds
 use Rattle.det_cbor.specs.declared.reason.Reason.TheVariants.{BadText}
 use Rattle.det_cbor.specs.HeadReading.{◌>>=◌}
 use Rattle.det_cbor.specs.Position.{Position}
+use Rattle.suit_params.specs.declared.digest.Digest.{Digest}
 use Rattle.suit_params.specs.declared.param.Param.{Param}
 use Rattle.suit_params.specs.declared.param.Param.TheVariants as params
 use Rattle.suit_params.specs.declared.param.ParamKey.{ParamKey}
@@ -51,7 +52,7 @@ flag_from p = kind_from kinds.Bool BadParam p >>= λ n. Ok (n.0 == 1, n.1)
 abbrev pub index_from : ℕ → Position → Result (ℕ × Position) Refusal
 index_from count p = number_from p >>= λ n. judge_index count p.place n.0 >>= λ i. Ok (i, n.1)
 
-abbrev pub digest_from : Position → Result (List ℕ × Position) Refusal
+abbrev pub digest_from : Position → Result (Digest × Position) Refusal
 digest_from p = held_from p >>= λ c. only_from c.0 >>= λ item. digest_at item >>= λ d. Ok (d, c.1)
 
 abbrev pub bytes_value_from : Position → Result (List ℕ × Position) Refusal
@@ -64,7 +65,7 @@ value_from count keys.Vendor p = id_from p >>= λ v. Ok (params.Vendor v.0, v.1)
 value_from count keys.Class p = id_from p >>= λ v. Ok (params.Class v.0, v.1)
 value_from count keys.Device p = id_from p >>= λ v. Ok (params.Device v.0, v.1)
 value_from count keys.Digest p =
-    digest_from p >>= λ v. Ok (params.Digest (record { bytes = v.0 }), v.1)
+    digest_from p >>= λ v. Ok (params.Digest v.0, v.1)
 value_from count keys.Slot p = number_from p >>= λ v. Ok (params.Slot v.0, v.1)
 value_from count keys.Strict p = flag_from p >>= λ v. Ok (params.Strict v.0, v.1)
 value_from count keys.Soft p = flag_from p >>= λ v. Ok (params.Soft v.0, v.1)

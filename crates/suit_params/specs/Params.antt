@@ -2,6 +2,7 @@
 use Rattle.std.specs.Prelude.{◌≡◌, ◌<◌, ◌≤◌, ℕ, ◌+◌, List, [], ◌∷◌, Bool, length}
 use Rattle.det_cbor.specs.Heads.{head_bytes}
 use Rattle.det_cbor.specs.DataItem.{DataItem, UnsignedInteger, ByteString, TextString, MapOf, Boolean, DataPairs, NoPairs, PairThen, pair_count, spell}
+use Rattle.suit_params.specs.declared.digest.Digest.{Digest}
 use Rattle.suit_params.specs.declared.param.Param.{Param}
 use Rattle.suit_params.specs.declared.param.Param.TheVariants as params
 use Rattle.suit_params.specs.declared.param.ParamKey.{ParamKey}
@@ -21,10 +22,10 @@ pub data SaysValue (count place : ℕ) : ParamKey → DataItem → Param → Typ
       → SaysValue count place keys.Class (ByteString id) (params.Class id)
   SaysDevice : (id : List ℕ) → length id ≡ 16
       → SaysValue count place keys.Device (ByteString id) (params.Device id)
-  SaysDigest : (content digest : List ℕ)
+  SaysDigest : (content : List ℕ) (digest : Digest)
       → SaysWhole IsDigest (content_place place content) content digest
       → SaysValue count place keys.Digest (ByteString content)
-      (params.Digest (record { bytes = digest }))
+      (params.Digest digest)
   SaysSlot : (n : ℕ) → SaysValue count place keys.Slot (UnsignedInteger n) (params.Slot n)
   SaysStrict : (b : Bool) → SaysValue count place keys.Strict (Boolean b) (params.Strict b)
   SaysSoft : (b : Bool) → SaysValue count place keys.Soft (Boolean b) (params.Soft b)

@@ -3,7 +3,8 @@
 ghost use Rattle.std.specs.Prelude.{◌≡◌, ◌++◌, OnOk, OnErr};
 ghost use Rattle.det_cbor.specs.DataItem.{spell};
 ghost use Rattle.det_cbor.specs.Prefix.{IsPrefix};
-ghost use Rattle.suit_params.specs.Digests.{digest_item, IsDigestBytes};
+ghost use Rattle.suit_params.specs.DigestBytes.{IsDigestBytes};
+ghost use Rattle.suit_params.specs.Digests.{digest_item};
 
 use crate::Digest;
 use det_cbor::{Bytes, HeadKind, push_count, push_kind, push_string};
@@ -12,12 +13,12 @@ use std::alloc::AllocError;
 /// Adds a digest's array at the end, in its one spelling (draft-ietf-suit-manifest-25, section 10). Where memory runs
 /// out, a part of the spelling may have been added.
 pub fn push_digest(out: &mut Bytes, digest: &Digest) -> Result<(), AllocError>
-    ensures ok { OnOk result (out.new ≡ out.old ++ spell (digest_item digest.now.bytes)) }
+    ensures ok { OnOk result (out.new ≡ out.old ++ spell (digest_item digest.now)) }
     ensures err { OnErr result (IsPrefix out.old out.new) }
-    ensures fits { OnOk result (IsDigestBytes digest.now.bytes) }
+    ensures fits { OnOk result (IsDigestBytes digest.now) }
 {
     push_count(out, 2)?;
-    push_kind(out, HeadKind::Negative, 15)?;
-    push_string(out, &digest.bytes)?;
+    push_kind(out, HeadKind::Negative, digest.kind().argument())?;
+    push_string(out, digest.bytes())?;
     Ok(())
 }

@@ -3,8 +3,10 @@
 
 mod alike;
 mod digest;
+mod digest_kind;
 mod digest_writing;
 mod fault;
+mod hasher;
 mod identifier;
 mod law;
 mod param;
@@ -21,7 +23,9 @@ mod value_in_force;
 
 pub use alike::{Identified, IdentifiedList, first_alike, first_like};
 pub use digest::{Digest, digest_of, read_digest};
+pub use digest_kind::{DigestKind, kind_of_length};
 pub use digest_writing::push_digest;
+pub use hasher::{Hasher, hash};
 pub use identifier::{Identifier, Identifiers};
 pub use law::in_force_laws;
 pub use param::{Param, ParamKey};

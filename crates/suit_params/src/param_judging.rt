@@ -14,7 +14,10 @@ fn judge_pairs(mut map: Cursor<'_>, pairs: u64, count: u32) -> Result<(), Refusa
     ensures { result ≡ map_ok (λ _. tt) (params_from count pairs map.entry) }
 {
     for _ in 0..pairs {
-        lend_param(&mut map, count)?;
+        match lend_param(&mut map, count) {
+            Ok(_) => {}
+            Err(refusal) => return Err(refusal),
+        }
     }
     Ok(())
 }

@@ -104,7 +104,7 @@ pub(crate) fn read_index(map: &mut Cursor<'_>, count: u32) -> Result<u32, Refusa
 
 /// A byte string that holds a digest.
 pub(crate) fn read_held_digest(map: &mut Cursor<'_>) -> Result<Digest, Refusal>
-    ensures { map_ok (λ d. (d.bytes, map.new)) result ≡ digest_from map.old }
+    ensures { map_ok (λ d. (d, map.new)) result ≡ digest_from map.old }
 {
     let content = read_held(map)?;
     let item = only_item(content)?;

@@ -4,23 +4,36 @@ ghost use Rattle.std.specs.Prelude.{◌≡◌, ◌++◌, OnOk, OnErr};
 ghost use Rattle.std.specs.List.{AllByRecursion};
 ghost use Rattle.det_cbor.specs.DataItem.{ByteString, spell, spell_pairs};
 ghost use Rattle.det_cbor.specs.Prefix.{IsPrefix};
-ghost use Rattle.suit_params.specs.Digests.{digest_item, IsDigestBytes};
+ghost use Rattle.suit_params.specs.DigestKinds.{spelled_size};
+ghost use Rattle.suit_params.specs.DigestBytes.{IsDigestBytes};
+ghost use Rattle.suit_params.specs.Digests.{digest_item};
 ghost use Rattle.suit_params.specs.ParamKeys.{key_of, key_item};
 ghost use Rattle.suit_params.specs.ParamMaking.{value_item, param_pairs, params_item, IsParam};
 ghost use Rattle.suit_params.specs.ParamWriting.{IsWritten};
 
-use crate::{Digest, Param, ParamList, push_digest};
+use crate::{Digest, DigestKind, Param, ParamList, push_digest};
 use det_cbor::{Bytes, HeadKind, push_flag, push_kind, push_number, push_string, push_text};
 use std::alloc::{AllocError, Global};
 
-// A byte string of 36 bytes, which holds the digest's array.
+// How many bytes the array of a digest has.
+fn spelled_size(kind: DigestKind) -> u64
+    ensures { result ≡ spelled_size kind }
+{
+    match kind {
+        DigestKind::Sha256 => 36,
+        DigestKind::Sha384 => 53,
+        DigestKind::Sha512 => 69,
+    }
+}
+
+// A byte string that holds the digest's array.
 fn push_held_digest(out: &mut Bytes, digest: &Digest) -> Result<(), AllocError>
     ensures ok { OnOk result
-        (out.new ≡ out.old ++ spell (ByteString (spell (digest_item digest.now.bytes)))) }
+        (out.new ≡ out.old ++ spell (ByteString (spell (digest_item digest.now)))) }
     ensures err { OnErr result (IsPrefix out.old out.new) }
-    ensures fits { OnOk result (IsDigestBytes digest.now.bytes) }
+    ensures fits { OnOk result (IsDigestBytes digest.now) }
 {
-    push_kind(out, HeadKind::Bytes, 36)?;
+    push_kind(out, HeadKind::Bytes, spelled_size(digest.kind()))?;
     push_digest(out, digest)?;
     Ok(())
 }

@@ -17,7 +17,7 @@ pub enum Why {
     UnknownKey,
     /// A map lacks this key.
     Missing(u64),
-    /// A digest that is not by SHA-256, or not of 32 bytes.
+    /// A digest by another hash function than SHA-256, SHA-384 and SHA-512, or not as long as its own.
     Algorithm,
     /// The manifest's version, which is not 1.
     Version(u64),

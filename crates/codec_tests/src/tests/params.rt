@@ -3,7 +3,9 @@
 use crate::tests::rows::bytes_of;
 use det_cbor::{Bytes, Cursor};
 use std::alloc::{AllocError, Global};
-use suit_params::{Digest, Fault, ParamList, Refusal, Why, read_digest, read_params, write_params};
+use suit_params::{
+    Fault, ParamList, Refusal, Why, push_digest, read_digest, read_params, write_params,
+};
 
 // Each parameter, by the numbers of the draft.
 const EACH: &str =
@@ -69,12 +71,73 @@ fn other_maps_are_refused(rt: HostRuntime) {
     assert!(rt; is_refused(rt.alloc(), b"\xa1\x03\x43\x82\x2e\x40", 103, Why::Algorithm));
 }
 
-const DIGEST: &[u8] =
-    b"\x82\x2f\x58\x20\x07\x07\x07\x07\x07\x07\x07\x07\x07\x07\x07\x07\x07\x07\x07\x07\x07\x07\x07\x07\x07\x07\x07\x07\x07\x07\x07\x07\x07\x07\x07\x07\x00";
+// The heads of a digest's array by each hash function (RFC 9054, section 2), and how many bytes follow them.
+const DIGESTS: [(&[u8], usize); 3] = [
+    (b"\x82\x2f\x58\x20", 32),
+    (b"\x82\x38\x2a\x58\x30", 48),
+    (b"\x82\x38\x2b\x58\x40", 64),
+];
+
+// Digests of another length than that of their hash function, and two numbers of no hash function.
+const OTHERS: [(&[u8], usize); 6] = [
+    (b"\x82\x2f\x58\x30", 48),
+    (b"\x82\x38\x2a\x58\x20", 32),
+    (b"\x82\x38\x2b\x58\x30", 48),
+    (b"\x82\x38\x2a\x58\x40", 64),
+    (b"\x82\x38\x2c\x58\x40", 64),
+    (b"\x82\x18\x2b\x58\x40", 64),
+];
+
+fn array_of(alloc: Global, heads: &[u8], count: usize) -> Result<Bytes, AllocError> {
+    let mut bytes = Bytes::new(alloc);
+    bytes.extend(heads)?;
+    for _ in 0..count {
+        bytes.push(7)?;
+    }
+    Ok(bytes)
+}
+
+// Whether a digest is read up to the byte behind it, and written as it was.
+fn is_read(alloc: Global, heads: &[u8], count: usize) -> Result<bool, AllocError> {
+    let mut bytes = array_of(alloc, heads, count)?;
+    bytes.push(0)?;
+    let mut cursor = Cursor::new(bytes.as_slice(), 100);
+    match read_digest(&mut cursor) {
+        Ok(digest) => {
+            let mut out = Bytes::new(alloc);
+            push_digest(&mut out, &digest)?;
+            out.push(0)?;
+            Ok(cursor.left() == 1 && out.as_slice() == bytes.as_slice())
+        }
+        Err(_) => Ok(false),
+    }
+}
 
 #[test]
-fn a_digest_is_read(rt: HostRuntime) {
-    let mut cursor = Cursor::new(DIGEST, 100);
-    assert!(rt; read_digest(&mut cursor) == Ok(Digest { bytes: [7; 32] }));
-    assert!(rt; cursor.left() == 1);
+fn digests_of_three_lengths_are_read(rt: HostRuntime) -> Result<(), AllocError> {
+    for (heads, count) in DIGESTS {
+        assert!(rt; is_read(rt.alloc(), heads, count)?, "{count}");
+    }
+    Ok(())
+}
+
+// Whether a digest is refused for its algorithm, at its array.
+fn is_of_no_algorithm(alloc: Global, heads: &[u8], count: usize) -> Result<bool, AllocError> {
+    let bytes = array_of(alloc, heads, count)?;
+    let mut cursor = Cursor::new(bytes.as_slice(), 100);
+    Ok(
+        read_digest(&mut cursor)
+            == Err(Refusal {
+                place: 100,
+                why: Why::Algorithm,
+            }),
+    )
+}
+
+#[test]
+fn other_lengths_and_numbers_are_refused(rt: HostRuntime) -> Result<(), AllocError> {
+    for (heads, count) in OTHERS {
+        assert!(rt; is_of_no_algorithm(rt.alloc(), heads, count)?, "{count}");
+    }
+    Ok(())
 }

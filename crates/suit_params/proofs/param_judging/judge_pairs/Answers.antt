@@ -5,4 +5,4 @@ use Rattle.suit_params.proofs.param_judging.judge_pairs.Goals as goal
 
 pub loop-preserved : goal.loop-preserved
 loop-preserved c =
-    judged_step c.args.count c.args.pairs c.loop.counter c.loop.map c.lend_param.new.map (param_of c.in_ok-lend_param.field-0) _ c.loop-test.true (sym c.in_ok-lend_param.ensures) c.loop.invariant
+    judged_step c.args.count c.args.pairs c.loop.counter c.loop.map c.lend_param.new.map (param_of c.in-Ok.field-0) _ c.loop-test.true (sym c.in-Ok.ensures) c.loop.invariant
