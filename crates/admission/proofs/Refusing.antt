@@ -11,7 +11,7 @@ use Rattle.suit_manifest.specs.MembersApart.{IsLackBy, LacksMembers}
 use Rattle.suit_manifest.specs.Procedures.{invocation_tree, update_tree}
 use Rattle.flash_layout.specs.declared.layout.Entry.{Entry}
 use Rattle.flash_layout.specs.declared.place.Places.{Places}
-use Rattle.flash_layout.specs.Placement.{ArePlaces}
+use Rattle.flash_layout.specs.Placement.{ArePlaces, IsFirstUnknown}
 use Rattle.admission.specs.declared.opening.TheConstants.{LONGEST_TRIMMED}
 use Rattle.admission.specs.declared.refusal.NotAdmitted.TheVariants as refusals
 use Rattle.admission.specs.declared.refusal.NotOpened.{NotOpened}
@@ -68,6 +68,10 @@ module _ (layout : List Entry) (key bytes : List ℕ) where
   manifest_not_admitted said are (not_opened.TooLong size) x some = absurd x
   manifest_not_admitted said are (not_opened.NoManifest r) x some = record { said = said; are_authentic = are; refuses = x }
   manifest_not_admitted said are not_opened.NoMemory x some = absurd (some refl)
+
+  pub component_not_admitted : (said : EnvelopeSays) (manifest : Manifest) → IsOffered key bytes said manifest → (component : ℕ)
+      → IsFirstUnknown layout manifest.components component → IsNotAdmitted layout key bytes (refusals.UnknownComponent component)
+  component_not_admitted said manifest offered component unknown = record { said = said; manifest = manifest; offered = offered; unknown = unknown }
 
   module _ (said : EnvelopeSays) (manifest : Manifest) (places : Places) (offered : IsOffered key bytes said manifest) (placed : ArePlaces layout manifest.components places) where
     pub members_not_admitted : (fault : MemberFault) → IsLackBy (LacksMembers said manifest) fault → of_members fault ≢ refusals.NoMemory

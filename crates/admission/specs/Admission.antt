@@ -1,6 +1,7 @@
 -- Envelopes that may be installed, and why one may not (draft-ietf-suit-manifest-25, section 6): authenticity, the layout, the
 -- members that stand apart, and both procedures, in the order in which they are judged.
 use Rattle.std.specs.Prelude.{◌≢◌, ℕ, List}
+use Rattle.suit_params.specs.declared.digest.Digest.{Digest}
 use Rattle.suit_params.specs.declared.refusal.Refusal.{Refusal}
 use Rattle.suit_envelope.specs.Authentic.{AnswersAuthentic, IsAuthentic}
 use Rattle.suit_envelope.specs.Envelopes.{EnvelopeSays}
@@ -31,7 +32,7 @@ use Rattle.admission.specs.Judging.{AreSafe, IsNotSafe}
 -- the answer on an envelope that is not authentic, with its values
 pub record IsUnauthentic (said : EnvelopeSays) (key : List ℕ) (answer : Authenticity) : Type 0 where
   pub lacking : answer ≢ Yes
-  pub answers : (digest : List ℕ) (blocks : List (List ℕ)) → WrapperSays said.wrapper digest blocks
+  pub answers : (digest : Digest) (blocks : List (List ℕ)) → WrapperSays said.wrapper digest blocks
       → AnswersAuthentic digest blocks said.manifest key answer
 
 -- ---- what is met, one after the other

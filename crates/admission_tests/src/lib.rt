@@ -1,4 +1,4 @@
-//! Tests of `admission`, over its public calls alone.
+//! Tests of `admission` and `manifest_view`, over their public calls alone: a crate that holds its own tests is proved twice.
 #![tactic(auto)]
 
 #[cfg(test)]

@@ -2,6 +2,8 @@
 
 ghost use Rattle.std.specs.Prelude.{◌≡◌, IfOk, length};
 
+mod lent_manifests;
+
 use admission::{LONGEST_TRIMMED, NotOpened, Opened, admit, open, startable};
 use det_cbor::Bytes;
 use flash_layout::{Entry, Layout, Memory};

@@ -11,8 +11,6 @@ mod components;
 mod identifiers;
 mod later;
 mod member;
-#[cfg(test)]
-mod tests;
 mod values;
 mod view;
 

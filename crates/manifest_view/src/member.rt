@@ -10,8 +10,7 @@ pub enum MemberView<'a> {
     Empty,
     /// The manifest holds it.
     Here(LentSequence<'a>),
-    /// The manifest states its digest: the SHA-256 of the member's whole byte string in the
-    /// envelope.
+    /// The manifest states the digest of the member's whole byte string in the envelope.
     Apart(Digest),
 }
 

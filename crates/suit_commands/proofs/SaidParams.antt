@@ -5,6 +5,8 @@ use Rattle.det_cbor.specs.DataItem.{DataItem, DataPairs, spell, IsByte, IsValid,
 use Rattle.det_cbor.specs.LevelLaws.{valid_alone}
 use Rattle.suit_params.specs.declared.param.Param.{Param}
 use Rattle.suit_params.specs.declared.param.ParamKey.{ParamKey}
+use Rattle.suit_params.specs.declared.digest.Digest.{Digest}
+use Rattle.suit_params.specs.DigestBytes.{digest_bytes}
 use Rattle.suit_params.specs.Digests.{IsDigest}
 use Rattle.suit_params.specs.Params.{SaysValue, SaysVendor, SaysClass, SaysDevice, SaysDigest, SaysSlot, SaysStrict, SaysSoft, SaysSize, SaysContent, SaysUri, SaysSource, SaysArgs, SayParams, NoMore, ParamThen, IsParams, ParamMap}
 use Rattle.suit_params.specs.ParamKeys.{key_item}
@@ -13,14 +15,14 @@ use Rattle.suit_params.specs.ParamMaking.{IsParam, IsBelow}
 use Rattle.suit_params.proofs.ParamLawProofs.{param_laws}
 
 -- the bytes of a digest that a valid item says
-digest_bytes : (place : ℕ) (x : DataItem) (digest : List ℕ) → IsValid x → IsDigest place x digest → AllByRecursion IsByte digest
-digest_bytes place x digest valid is = (subst IsValid is.is valid).2.1.0.1
+digest_valid : (place : ℕ) (x : DataItem) (digest : Digest) → IsValid x → IsDigest place x digest → AllByRecursion IsByte (digest_bytes digest)
+digest_valid place x digest valid is = (subst IsValid is.is valid).2.1.0.1
 
 value_param : (count deep place : ℕ) (key : ParamKey) (x : DataItem) (p : Param) → IsValidWithin deep x → SaysValue count place key x p → IsParam p × IsBelow count p
 value_param count deep place key x p valid (SaysVendor id long) = ((long, valid.1), tt)
 value_param count deep place key x p valid (SaysClass id long) = ((long, valid.1), tt)
 value_param count deep place key x p valid (SaysDevice id long) = ((long, valid.1), tt)
-value_param count deep place key x p valid (SaysDigest content digest whole) = ((whole.says_so.long, digest_bytes _ whole.item digest whole.spells.valid whole.says_so), tt)
+value_param count deep place key x p valid (SaysDigest content digest whole) = ((whole.says_so.long, digest_valid _ whole.item digest whole.spells.valid whole.says_so), tt)
 value_param count deep place key x p valid (SaysSlot n) = (valid, tt)
 value_param count deep place key x p valid (SaysStrict b) = (tt, tt)
 value_param count deep place key x p valid (SaysSoft b) = (tt, tt)

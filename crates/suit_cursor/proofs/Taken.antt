@@ -1,6 +1,6 @@
 -- Parameters that are known to be read without a fault.
-use Rattle.std.proofs.Common.{◌≡◌, ◌∙◌, ℕ, Bool, true, false, cond, eqb, List, Result, Ok, Err, refl, sym, ap, subst}
-use Rattle.std.specs.Prelude.{IsOk}
+use Rattle.std.proofs.Common.{◌≡◌, ◌∙◌, ℕ, Bool, true, false, cond, eqb, Option, Some, None, Result, Ok, Err, refl, sym, ap, subst}
+use Rattle.std.specs.Prelude.{IsOk, IsSome}
 use Rattle.std.proofs.lemmas.Bool.{eqb-true}
 use Rattle.det_cbor.specs.declared.head.Head.{Head}
 use Rattle.det_cbor.specs.declared.head.HeadKind.{HeadKind}
@@ -12,7 +12,10 @@ use Rattle.suit_params.specs.declared.refusal.Refusal.{Refusal}
 use Rattle.suit_params.specs.declared.refusal.Why.TheVariants.{Shape, Algorithm, BadParam}
 use Rattle.suit_params.specs.Refusing.{refused}
 use Rattle.suit_params.specs.Reading.{head_from, kind_from, bytes_from, only_from, array_from}
-use Rattle.suit_params.specs.DigestReading.{value_at, algorithm_after, algorithm_at, elements_at, digest_at}
+use Rattle.suit_params.specs.declared.digest.Digest.{Digest}
+use Rattle.suit_params.specs.declared.digest_kind.DigestKind.{DigestKind}
+use Rattle.suit_params.specs.DigestKinds.{size_of, kind_of}
+use Rattle.suit_params.specs.DigestReading.{digest_with, value_at, algorithm_by, algorithm_after, algorithm_at, elements_at, digest_at}
 use Rattle.suit_params.specs.ParamReading.{id_from, held_from, digest_from}
 use Rattle.suit_cursor.proofs.Known.{ok_is, first_ok, then_ok}
 use Rattle.suit_cursor.proofs.ItsHead.{all_of_it}
@@ -24,42 +27,62 @@ tested false r bad ok = absurd cc
 
 -- ---- bytes behind a head that says how many they are
 
-abbrev sized_from : ℕ → Refusal → Result (ℕ × Position) Refusal → Result (List ℕ × Position) Refusal
-sized_from size bad r = r >>= λ n. cond (eqb n.0 size) (bytes_from n.0 n.1) (Err bad)
+module _ {A : Type 0} (take : ℕ → Position → Result A Refusal) where
+  abbrev sized_from : ℕ → Refusal → Result (ℕ × Position) Refusal → Result A Refusal
+  sized_from size bad r = r >>= λ n. cond (eqb n.0 size) (take n.0 n.1) (Err bad)
 
-of_size : (size n : ℕ) (bad : Refusal) (q : Position) → IsOk (cond (eqb n size) (bytes_from n q) (Err bad)) → cond (eqb n size) (bytes_from n q) (Err bad) ≡ bytes_from size q
-of_size size n bad q ok =
-    let is = tested (eqb n size) (bytes_from n q) bad ok in
-    ap (λ (b : Bool). cond b (bytes_from n q) (Err bad)) is ∙ ap (λ (m : ℕ). bytes_from m q) (eqb-true n size is)
+  of_size : (size n : ℕ) (bad : Refusal) (q : Position) → IsOk (cond (eqb n size) (take n q) (Err bad)) → cond (eqb n size) (take n q) (Err bad) ≡ take size q
+  of_size size n bad q ok =
+      let is = tested (eqb n size) (take n q) bad ok in
+      ap (λ (b : Bool). cond b (take n q) (Err bad)) is ∙ ap (λ (m : ℕ). take m q) (eqb-true n size is)
 
-sized : (size : ℕ) (bad : Refusal) (r : Result (ℕ × Position) Refusal) (n : ℕ) (q : Position) → r ≡ Ok (n, q) → IsOk (sized_from size bad r) → sized_from size bad r ≡ bytes_from size q
-sized size bad r n q e ok =
-    let step = ap (sized_from size bad) e in
-    step ∙ of_size size n bad q (subst (λ (s : Result (List ℕ × Position) Refusal). IsOk s) step ok)
+  sized : (size : ℕ) (bad : Refusal) (r : Result (ℕ × Position) Refusal) (n : ℕ) (q : Position) → r ≡ Ok (n, q) → IsOk (sized_from size bad r) → sized_from size bad r ≡ take size q
+  sized size bad r n q e ok =
+      let step = ap (sized_from size bad) e in
+      step ∙ of_size size n bad q (subst (λ (s : Result A Refusal). IsOk s) step ok)
 
 pub id_goes : (p : Position) (n : ℕ) (q : Position) → kind_from kinds.Bytes BadParam p ≡ Ok (n, q) → IsOk (id_from p) → id_from p ≡ bytes_from 16 q
 unfolding id_from
-id_goes p n q e ok = sized 16 (refused p.place BadParam) (kind_from kinds.Bytes BadParam p) n q e ok
+id_goes p n q e ok = sized bytes_from 16 (refused p.place BadParam) (kind_from kinds.Bytes BadParam p) n q e ok
 
-pub value_goes : (array : ℕ) (p : Position) (n : ℕ) (q : Position) → kind_from kinds.Bytes Shape p ≡ Ok (n, q) → IsOk (value_at array p) → value_at array p ≡ bytes_from 32 q
+pub value_goes : (array : ℕ) (kind : DigestKind) (p : Position) (n : ℕ) (q : Position) → kind_from kinds.Bytes Shape p ≡ Ok (n, q) → IsOk (value_at array kind p)
+    → value_at array kind p ≡ digest_with kind (size_of kind) q
 unfolding value_at
-value_goes array p n q e ok = sized 32 (refused array Algorithm) (kind_from kinds.Bytes Shape p) n q e ok
+value_goes array kind p n q e ok = sized (digest_with kind) (size_of kind) (refused array Algorithm) (kind_from kinds.Bytes Shape p) n q e ok
 
 -- ---- digests
 
-after_ok : (array place n : ℕ) (q : Position) (kind : HeadKind) → IsOk (algorithm_after array place n q kind) → algorithm_after array place n q kind ≡ Ok q
-after_ok array place n q kinds.Negative ok = ap (λ (b : Bool). cond b (Ok q) (Err (refused array Algorithm))) (tested (eqb n 15) (Ok q) (refused array Algorithm) ok)
+by_ok : (array : ℕ) (q : Position) (kind : Option DigestKind) → IsOk (algorithm_by array q kind) → IsSome kind
+by_ok array q None ok = absurd cc
+by_ok array q (Some kind) ok = refl
+
+after_ok : (array place n : ℕ) (q : Position) (kind : HeadKind) → IsOk (algorithm_after array place n q kind)
+    → IsSome (kind_of n) × (algorithm_after array place n q kind ≡ algorithm_by array q (kind_of n))
+after_ok array place n q kinds.Negative ok = (by_ok array q (kind_of n) ok, refl)
 after_ok array place n q kind ok = absurd cc
 
 -- an algorithm's head is all of it
-algorithm_goes : (array : ℕ) (p : Position) (h : Head) (q : Position) → head_from p ≡ Ok (h, q) → IsOk (algorithm_at array p) → algorithm_at array p ≡ Ok q
-unfolding algorithm_at
-algorithm_goes array p h q e ok =
-    let step = ap (λ (r : Result (Head × Position) Refusal). r >>= λ g. algorithm_after array p.place g.0.value g.1 g.0.kind) e in
-    step ∙ after_ok array p.place h.value q h.kind (subst (λ (s : Result Position Refusal). IsOk s) step ok)
 
-abbrev both_at : ℕ → Position → Result (List ℕ) Refusal
-both_at array q = algorithm_at array q >>= λ s. value_at array s >>= λ d. Ok d.0
+pub head_ok : (array : ℕ) (p : Position) → IsOk (algorithm_at array p) → IsOk (head_from p)
+unfolding algorithm_at
+head_ok array p ok = first_ok (head_from p) _ ok
+
+algorithm_step : (array : ℕ) (p : Position) (h : Head) (q : Position) → head_from p ≡ Ok (h, q) → algorithm_at array p ≡ algorithm_after array p.place h.value q h.kind
+unfolding algorithm_at
+algorithm_step array p h q e = ap (λ (r : Result (Head × Position) Refusal). r >>= λ g. algorithm_after array p.place g.0.value g.1 g.0.kind) e
+
+module _ (array : ℕ) (p : Position) (h : Head) (q : Position) (e : head_from p ≡ Ok (h, q)) (ok : IsOk (algorithm_at array p)) where
+  known : IsSome (kind_of h.value) × (algorithm_after array p.place h.value q h.kind ≡ algorithm_by array q (kind_of h.value))
+  known = after_ok array p.place h.value q h.kind (subst (λ (r : Result (DigestKind × Position) Refusal). IsOk r) (algorithm_step array p h q e) ok)
+
+  pub kind_known : IsSome (kind_of h.value)
+  kind_known = known.0
+
+  pub algorithm_goes : (kind : DigestKind) → kind_of h.value ≡ Some kind → algorithm_at array p ≡ Ok (kind, q)
+  algorithm_goes kind is = algorithm_step array p h q e ∙ known.1 ∙ ap (algorithm_by array q) is
+
+abbrev both_at : ℕ → Position → Result Digest Refusal
+both_at array q = algorithm_at array q >>= λ s. value_at array s.0 s.1 >>= λ d. Ok d.0
 
 both_is : (place n : ℕ) (q : Position) → IsOk (elements_at place (n, q)) → elements_at place (n, q) ≡ both_at place q
 both_is place n q ok = ap (λ (b : Bool). cond b (both_at place q) (Err (refused place Shape))) (tested (eqb n 2) (both_at place q) (refused place Shape) ok)
@@ -68,49 +91,39 @@ digest_goes : (p : Position) (n : ℕ) (q : Position) → kind_from kinds.Array 
 unfolding digest_at array_from
 digest_goes p n q e ok =
     let step = ap (λ (r : Result (ℕ × Position) Refusal). r >>= elements_at p.place) e in
-    step ∙ both_is p.place n q (subst (λ (s : Result (List ℕ) Refusal). IsOk s) step ok)
+    step ∙ both_is p.place n q (subst (λ (s : Result Digest Refusal). IsOk s) step ok)
 
 pub array_ok : (p : Position) → IsOk (digest_at p) → IsOk (kind_from kinds.Array Shape p)
 unfolding digest_at array_from
 array_ok p ok = first_ok (kind_from kinds.Array Shape p) _ ok
 
-algorithm_ok : (array : ℕ) (p : Position) → IsOk (algorithm_at array p) → IsOk (head_from p)
-unfolding algorithm_at
-algorithm_ok array p ok = first_ok (head_from p) _ ok
-
--- the three heads of a digest, as the code goes
+-- the heads of a digest, as the code goes
 
 module _ (p : Position) (array n : ℕ) (q : Position) (place : array ≡ p.place) (e : kind_from kinds.Array Shape p ≡ Ok (n, q)) (ok : IsOk (digest_at p)) where
   goes : digest_at p ≡ both_at array q
   goes = digest_goes p n q e ok ∙ ap (λ (a : ℕ). both_at a q) (sym place)
 
   both_ok : IsOk (both_at array q)
-  both_ok = subst (λ (r : Result (List ℕ) Refusal). IsOk r) goes ok
+  both_ok = subst (λ (r : Result Digest Refusal). IsOk r) goes ok
 
-  first_is_ok : IsOk (algorithm_at array q)
-  first_is_ok = first_ok (algorithm_at array q) _ both_ok
+  pub algorithm_ok : IsOk (algorithm_at array q)
+  algorithm_ok = first_ok (algorithm_at array q) _ both_ok
 
-  pub second_ok : IsOk (head_from q)
-  second_ok = algorithm_ok array q first_is_ok
+  pub value_ok : (kind : DigestKind) (r : Position) → algorithm_at array q ≡ Ok (kind, r) → IsOk (value_at array kind r)
+  value_ok kind r f = first_ok (value_at array kind r) _ (then_ok (algorithm_at array q) _ (kind, r) f both_ok)
 
-  behind_it : (h : Head) (r : Position) → head_from q ≡ Ok (h, r) → algorithm_at array q ≡ Ok r
-  behind_it h r f = algorithm_goes array q h r f first_is_ok
-
-  pub third_ok : (h : Head) (r : Position) → head_from q ≡ Ok (h, r) → IsOk (value_at array r)
-  third_ok h r f = first_ok (value_at array r) _ (then_ok (algorithm_at array q) _ r (behind_it h r f) both_ok)
-
-  pub digest_is : (h : Head) (r : Position) (d : List ℕ) (s : Position) → head_from q ≡ Ok (h, r) → value_at array r ≡ Ok (d, s) → digest_at p ≡ Ok d
-  digest_is h r d s f g =
-      goes ∙ ap (λ (a : Result Position Refusal). a >>= λ t. value_at array t >>= λ v. Ok v.0) (behind_it h r f)
-      ∙ ap (λ (a : Result (List ℕ × Position) Refusal). a >>= λ v. Ok v.0) g
+  pub digest_is : (kind : DigestKind) (r : Position) (d : Digest) (s : Position) → algorithm_at array q ≡ Ok (kind, r) → value_at array kind r ≡ Ok (d, s) → digest_at p ≡ Ok d
+  digest_is kind r d s f g =
+      goes ∙ ap (λ (a : Result (DigestKind × Position) Refusal). a >>= λ t. value_at array t.0 t.1 >>= λ v. Ok v.0) f
+      ∙ ap (λ (a : Result (Digest × Position) Refusal). a >>= λ v. Ok v.0) g
 
 -- the content of a byte string is one digest, and nothing more
-abbrev in_content : Position × Position → Result (List ℕ × Position) Refusal
+abbrev in_content : Position × Position → Result (Digest × Position) Refusal
 in_content c = only_from c.0 >>= λ item. digest_at item >>= λ d. Ok (d, c.1)
 
 pub content_goes : (p c q : Position) → held_from p ≡ Ok (c, q) → IsBytes c.left → IsOk (digest_from p) → digest_from p ≡ (digest_at c >>= λ d. Ok (d, q))
 content_goes p c q e bytes ok =
     let step : digest_from p ≡ in_content (c, q) = ap (λ (r : Result (Position × Position) Refusal). r >>= in_content) e in
-    let goes = subst (λ (s : Result (List ℕ × Position) Refusal). IsOk s) step ok in
+    let goes = subst (λ (s : Result (Digest × Position) Refusal). IsOk s) step ok in
     let item = ok_is (only_from c) (first_ok (only_from c) _ goes) in
     step ∙ ap (λ (r : Result Position Refusal). r >>= λ i. digest_at i >>= λ d. Ok (d, q)) item.1 ∙ ap (λ (i : Position). digest_at i >>= λ d. Ok (d, q)) (all_of_it c item.0 bytes item.1)

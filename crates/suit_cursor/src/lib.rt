@@ -18,8 +18,6 @@ mod passing;
 mod sequence;
 mod slice_params;
 mod taking;
-#[cfg(test)]
-mod tests;
 mod view;
 mod walk;
 

@@ -2,14 +2,15 @@
 
 ghost use Rattle.std.specs.Prelude.{◌≡◌, IsOk, IsSome, Ok, Some};
 ghost use Rattle.suit_params.specs.Reading.{bytes_from};
-ghost use Rattle.suit_params.specs.DigestReading.{value_at, digest_at};
+ghost use Rattle.suit_params.specs.DigestKinds.{size_of, kind_of};
+ghost use Rattle.suit_params.specs.DigestReading.{digest_with, value_at, algorithm_at, digest_at};
 ghost use Rattle.suit_params.specs.ParamKeys.{numbered};
 ghost use Rattle.suit_params.specs.ParamReading.{key_from, id_from, held_from, text_from, number_from, flag_from, index_from, digest_from, bytes_value_from, value_from, param_from};
 ghost use Rattle.suit_params.specs.ParamSlices.{param_of};
 
 use crate::judged::Judged;
 use det_cbor::{HeadKind, as_text};
-use suit_params::{Digest, ParamKey, ParamSlice, Why};
+use suit_params::{Digest, DigestKind, ParamKey, ParamSlice, Why};
 
 // The parameter that has a number.
 #[inline(always)]
@@ -127,47 +128,69 @@ fn take_index(map: &mut Judged<'_>, count: u32) -> u32
     take_number(map) as u32
 }
 
-// The next 32 bytes.
+// The hash function of the negative number with this argument.
 #[inline(always)]
-fn take_sum(item: &mut Judged<'_>) -> Digest
-    requires { IsOk (bytes_from 32 item.old) }
-    ensures { bytes_from 32 item.old ≡ Ok (result.bytes, item.new) }
+fn numbered_kind(argument: u64) -> DigestKind
+    requires { IsSome (kind_of argument) }
+    ensures { kind_of argument ≡ Some result }
 {
-    let bytes = item.bytes(32);
-    let mut digest = Digest { bytes: [0; 32] };
-    digest.bytes.copy_from_slice(bytes);
-    digest
+    match argument {
+        15 => DigestKind::Sha256,
+        42 => DigestKind::Sha384,
+        _ => DigestKind::Sha512,
+    }
+}
+
+// The first element of a digest, whose array stands at a place.
+#[inline(always)]
+fn take_algorithm(item: &mut Judged<'_>, array: u64) -> DigestKind
+    requires { IsOk (algorithm_at array item.old) }
+    ensures { algorithm_at array item.old ≡ Ok (result, item.new) }
+{
+    let _ = array;
+    let head = item.head();
+    numbered_kind(head.value)
+}
+
+// The next bytes, as many as a digest by this hash function has.
+#[inline(always)]
+fn take_sum(item: &mut Judged<'_>, kind: DigestKind) -> Digest
+    requires { IsOk (bytes_from (size_of kind) item.old) }
+    ensures { digest_with kind (size_of kind) item.old ≡ Ok (result, item.new) }
+{
+    let bytes = item.bytes(kind.size() as u64);
+    Digest::new(kind, bytes)
 }
 
 // The second element of a digest, whose array stands at a place.
 #[inline(always)]
 #[tactic(auto, unfolding(suit_params::specs::DigestReading::value_at))]
-fn take_second(item: &mut Judged<'_>, array: u64) -> Digest
-    requires { IsOk (value_at array item.old) }
-    ensures { value_at array item.old ≡ Ok (result.bytes, item.new) }
+fn take_second(item: &mut Judged<'_>, array: u64, kind: DigestKind) -> Digest
+    requires { IsOk (value_at array kind item.old) }
+    ensures { value_at array kind item.old ≡ Ok (result, item.new) }
 {
     let _ = array;
     let _length = item.value(HeadKind::Bytes, Why::Shape);
-    take_sum(item)
+    take_sum(item, kind)
 }
 
 // The digest that a whole item is, behind its three heads.
 #[inline(always)]
 fn whole_digest(mut item: Judged<'_>) -> Digest
     requires { IsOk (digest_at item) }
-    ensures { digest_at item.entry ≡ Ok result.bytes }
+    ensures { digest_at item.entry ≡ Ok result }
 {
     let array = item.place();
     let _elements = item.value(HeadKind::Array, Why::Shape);
-    let _algorithm = item.head();
-    take_second(&mut item, array)
+    let kind = take_algorithm(&mut item, array);
+    take_second(&mut item, array, kind)
 }
 
 // A byte string that holds a digest.
 #[inline(always)]
 fn take_digest(map: &mut Judged<'_>) -> Digest
     requires { IsOk (digest_from map.old) }
-    ensures { digest_from map.old ≡ Ok (result.bytes, map.new) }
+    ensures { digest_from map.old ≡ Ok (result, map.new) }
 {
     let content = take_held(map);
     content.are_bytes();

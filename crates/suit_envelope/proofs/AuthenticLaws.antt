@@ -4,6 +4,7 @@ use Rattle.det_cbor.specs.DataItem.{ByteString, spell, spell_items, AreValidWith
 use Rattle.det_cbor.specs.Position.{Position}
 use Rattle.det_cbor.specs.ResultLaws.{ok_pair, not_both}
 use Rattle.hmac_mac0.specs.declared.verdict.MacVerdict.{MacVerdict}
+use Rattle.suit_params.specs.declared.digest.Digest.{Digest}
 use Rattle.suit_params.specs.declared.refusal.Refusal.{Refusal}
 use Rattle.suit_params.specs.HeadLaws.{after}
 use Rattle.suit_params.specs.HeldLaws.{content_read}
@@ -18,16 +19,16 @@ contents_read levels p (block ∷ blocks) valid is =
     let q = after p (spell (ByteString block)) (spell_items (strings_of blocks)) in
     rw (content_read levels p (ByteString block) (spell_items (strings_of blocks)) valid.0 is, contents_read levels q blocks valid.1 refl) refl
 
-pub first_is : (wrapper digest : List ℕ) (blocks : List (List ℕ)) (f : FirstRead wrapper digest blocks) → first_from wrapper ≡ Ok (f.content, f.rest)
+pub first_is : (wrapper : List ℕ) (digest : Digest) (blocks : List (List ℕ)) (f : FirstRead wrapper digest blocks) → first_from wrapper ≡ Ok (f.content, f.rest)
 first_is wrapper digest blocks f = rw f.starts f.held
 
-pub contents_after : (wrapper digest : List ℕ) (blocks : List (List ℕ)) → WrapperSays wrapper digest blocks → (f : FirstRead wrapper digest blocks) → contents_from (length blocks) f.rest ≡ Ok blocks
+pub contents_after : (wrapper : List ℕ) (digest : Digest) (blocks : List (List ℕ)) → WrapperSays wrapper digest blocks → (f : FirstRead wrapper digest blocks) → contents_from (length blocks) f.rest ≡ Ok blocks
 contents_after wrapper digest blocks so f = contents_read 1 f.rest blocks so.spells.valid.2.1 f.left
 
 -- the answer of a scan of the blocks that were read
 pub scan_says : (wrapper key payload : List ℕ) (content rest : Position) (count : ℕ) (answer : MacVerdict) → Ok (content, rest) ≡ first_from wrapper → count ≡ count_from wrapper → payload ≡ content.left
     → ((blocks : List (List ℕ)) → contents_from count rest ≡ Ok blocks → BlocksSay key payload blocks answer)
-    → (digest : List ℕ) (blocks : List (List ℕ)) → WrapperSays wrapper digest blocks → BlocksSay key (payload_of digest) blocks answer
+    → (digest : Digest) (blocks : List (List ℕ)) → WrapperSays wrapper digest blocks → BlocksSay key (payload_of digest) blocks answer
 scan_says wrapper key payload content rest count answer e counted bytes says digest blocks so =
     let f = first_read wrapper digest blocks so in
     let parts = ok_pair content f.content rest f.rest (e ∙ first_is wrapper digest blocks f) in

@@ -1,6 +1,7 @@
 -- An envelope is authentic exactly where the answer is yes.
 use Rattle.std.proofs.Common.{◌≡◌, List, ℕ, [], ◌∷◌, refl, subst}
 use Rattle.std.specs.List.{AllByRecursion}
+use Rattle.suit_params.specs.declared.digest.Digest.{Digest}
 use Rattle.suit_envelope.specs.Macs.{IsOther, FailsToVerify, SomeVerifies, ThisVerifies, ALaterVerifies}
 use Rattle.suit_envelope.specs.Authentic.{IsAuthentic, AnswersAuthentic, payload_of}
 use Rattle.suit_envelope.specs.WrapperParts.{WrapperSays, HasWrapper}
@@ -18,13 +19,13 @@ none_is_mac key payload (block ∷ blocks) other (ThisVerifies b rest verifies) 
 none_is_mac key payload (block ∷ blocks) other (ALaterVerifies b rest later) = none_is_mac key payload blocks other.1 later
 
 module _ (wrapper manifest key : List ℕ) where
-  pub yes_is_authentic : (answer : Authenticity) → ((digest : List ℕ) (blocks : List (List ℕ)) → WrapperSays wrapper digest blocks → AnswersAuthentic digest blocks manifest key answer)
+  pub yes_is_authentic : (answer : Authenticity) → ((digest : Digest) (blocks : List (List ℕ)) → WrapperSays wrapper digest blocks → AnswersAuthentic digest blocks manifest key answer)
       → HasWrapper wrapper → answer ≡ answers.Yes → IsAuthentic wrapper manifest key
   yes_is_authentic answer told has same =
       let said : AnswersAuthentic has.0 has.1 manifest key answers.Yes = subst (λ (a : Authenticity). AnswersAuthentic has.0 has.1 manifest key a) same (told has.0 has.1 has.2) in
       record { digest = has.0; blocks = has.1; says = has.2; stated = said.0; verifies = said.1 }
 
-  pub authentic_is_yes : (answer : Authenticity) → ((digest : List ℕ) (blocks : List (List ℕ)) → WrapperSays wrapper digest blocks → AnswersAuthentic digest blocks manifest key answer)
+  pub authentic_is_yes : (answer : Authenticity) → ((digest : Digest) (blocks : List (List ℕ)) → WrapperSays wrapper digest blocks → AnswersAuthentic digest blocks manifest key answer)
       → IsAuthentic wrapper manifest key → answer ≡ answers.Yes
   authentic_is_yes answers.Yes told is = refl
   authentic_is_yes (answers.DigestDiffers stated found) told is = absurd ((told is.digest is.blocks is.says).2 is.stated)

@@ -5,6 +5,7 @@ use Rattle.det_cbor.specs.Heads.{head_bytes}
 use Rattle.std.specs.List.{AllByRecursion}
 use Rattle.det_cbor.specs.DataItem.{DataItem, MapOf, TaggedItem, DataPairs, NoPairs, PairThen, spell, IsValidWithin, ArePairsWithin}
 use Rattle.det_cbor.specs.ResultLaws.{bind_ok, bind_err, same_ok, same_err}
+use Rattle.suit_params.specs.declared.digest.Digest.{Digest}
 use Rattle.suit_params.specs.declared.refusal.Refusal.{Refusal}
 use Rattle.suit_params.specs.declared.refusal.Why.TheVariants.{Shape, UnknownKey, Missing}
 use Rattle.suit_params.specs.Refusing.{refused, IsByteString, RefusesHeld, SaysHeld}
@@ -84,10 +85,10 @@ lacks_judge place es = record {
 held : Judges (judge_held judge_wrapper) (SaysHeld IsWrapper) (RefusesHeld RefusesWrapper)
 held = held_judges judge_wrapper IsWrapper RefusesWrapper wrapper_judges
 
-abbrev held_value : ℕ → DataItem → Result (List ℕ) Refusal
+abbrev held_value : ℕ → DataItem → Result Digest Refusal
 held_value place x = judge_held judge_wrapper place x
 
-abbrev passed : List ℕ → Result Unit Refusal
+abbrev passed : Digest → Result Unit Refusal
 passed digest = Ok tt
 
 -- which a key is
@@ -129,7 +130,7 @@ no_bytes place x key none =
 -- ---- values by their key
 
 abbrev SaysValue : ℕ → DataItem → Key → Type 0
-SaysValue place x key = IsByteString x × (key ≡ Wrapper → (digest : List ℕ) × SaysHeld IsWrapper place x digest)
+SaysValue place x key = IsByteString x × (key ≡ Wrapper → (digest : Digest) × SaysHeld IsWrapper place x digest)
 
 value_ok : (levels place : ℕ) (x : DataItem) (key : Key) → IsValidWithin levels x → judge_content place x key ≡ Ok tt → SaysValue place x key
 value_ok levels place x key valid e =

@@ -9,6 +9,7 @@ use Rattle.det_cbor.specs.HeadReading.{◌>>=◌}
 use Rattle.det_cbor.specs.HeadSpelling.{spelled}
 use Rattle.det_cbor.specs.ItemOrder.{spell_parts}
 use Rattle.det_cbor.specs.Position.{Position}
+use Rattle.suit_params.specs.declared.digest.Digest.{Digest}
 use Rattle.suit_params.specs.declared.refusal.Refusal.{Refusal}
 use Rattle.suit_params.specs.declared.refusal.Why.TheVariants.{Shape}
 use Rattle.suit_params.specs.Refusing.{refused, content_place}
@@ -29,10 +30,10 @@ use Rattle.suit_envelope.proofs.WrapperJudging.{wrapper_read}
 
 -- ---- values
 
-abbrev passed : List ℕ → Result Unit Refusal
+abbrev passed : Digest → Result Unit Refusal
 passed digest = Ok tt
 
-regroup : (r : Result Position Refusal) (f : Position → Result (List ℕ) Refusal) → (r >>= λ item. f item >>= passed) ≡ ((r >>= f) >>= passed)
+regroup : (r : Result Position Refusal) (f : Position → Result Digest Refusal) → (r >>= λ item. f item >>= passed) ≡ ((r >>= f) >>= passed)
 regroup (Ok item) f = refl
 regroup (Err e) f = refl
 
@@ -40,7 +41,7 @@ regroup (Err e) f = refl
 wrapper_says : (levels place : ℕ) (bytes : List ℕ) → IsValidWithin levels (ByteString bytes) → wrapper_held (record { left = bytes; place = content_place place bytes }) ≡ judge_content place (ByteString bytes) Wrapper
 wrapper_says levels place bytes valid =
     let c : Position = record { left = bytes; place = content_place place bytes } in
-    regroup (only_from c) wrapper_at ∙ ap (λ (r : Result (List ℕ) Refusal). r >>= passed) (content_is wrapper_at judge_wrapper wrapper_read levels place bytes valid)
+    regroup (only_from c) wrapper_at ∙ ap (λ (r : Result Digest Refusal). r >>= passed) (content_is wrapper_at judge_wrapper wrapper_read levels place bytes valid)
 
 first_then : (a b c : Result Unit Refusal) → (first_refusal a b >>= λ _. c) ≡ (a >>= λ _. b >>= λ _. c)
 first_then (Ok done) b c = refl

@@ -39,14 +39,11 @@ first_differs key payload e f [] a = elim a [ ]
 first_differs key payload e f (block ∷ blocks) (ThisDiffers x rest a) = a.other
 first_differs key payload e f (block ∷ blocks) (ALaterDiffers x rest other a) = first_differs key payload e f blocks a
 
-same_digest : (a b : Digest) (digest : List ℕ) → a.bytes ≡ digest → b.bytes ≡ digest → a ≡ b
-same_digest a b digest x y = ap (λ (bytes : List ℕ). record { bytes = bytes }) (x ∙ sym y)
-
 -- ---- answers
 
-pub tells_difference : (digest : List ℕ) (blocks : List (List ℕ)) (manifest key : List ℕ) (a : Authenticity) → AnswersAuthentic digest blocks manifest key a → TellsDifference a
+pub tells_difference : (digest : Digest) (blocks : List (List ℕ)) (manifest key : List ℕ) (a : Authenticity) → AnswersAuthentic digest blocks manifest key a → TellsDifference a
 tells_difference digest blocks manifest key answers.Yes x = tt
-tells_difference digest blocks manifest key (answers.DigestDiffers stated found) x = λ same. x.2 (sym x.0 ∙ ap (λ (d : Digest). d.bytes) same ∙ x.1)
+tells_difference digest blocks manifest key (answers.DigestDiffers stated found) x = λ same. x.2 (sym x.0 ∙ same ∙ x.1)
 tells_difference digest blocks manifest key answers.NoMac x = tt
 tells_difference digest blocks manifest key (answers.MacDiffers expected found) x = first_differs key (payload_of digest) (tag_bytes expected) found.now blocks x.2
 
@@ -57,7 +54,7 @@ one_authenticity digest blocks manifest key answers.Yes answers.NoMac x y = none
 one_authenticity digest blocks manifest key answers.Yes (answers.MacDiffers expected found) x y = none_verifies key (payload_of digest) blocks y.1 x.1
 one_authenticity digest blocks manifest key (answers.DigestDiffers stated found) answers.Yes x y = x.2 y.0
 one_authenticity digest blocks manifest key (answers.DigestDiffers stated found) (answers.DigestDiffers other_stated other_found) x y =
-    (same_digest stated other_stated digest x.0 y.0, same_digest found other_found _ x.1 y.1)
+    (x.0 ∙ sym y.0, x.1 ∙ sym y.1)
 one_authenticity digest blocks manifest key (answers.DigestDiffers stated found) answers.NoMac x y = x.2 y.0
 one_authenticity digest blocks manifest key (answers.DigestDiffers stated found) (answers.MacDiffers expected tag) x y = x.2 y.0
 one_authenticity digest blocks manifest key answers.NoMac answers.Yes x y = none_is_mac key (payload_of digest) blocks x.1 y.1

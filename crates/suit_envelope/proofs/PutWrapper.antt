@@ -3,6 +3,7 @@ use Rattle.std.proofs.Common.{◌≡◌, ◌≢◌, ℕ, Bool, true, false, List
 use Rattle.std.specs.Prelude.{◌||◌, IfOk}
 use Rattle.std.specs.List.{AllByRecursion}
 use Rattle.det_cbor.specs.DataItem.{DataItem, UnsignedInteger, ByteString}
+use Rattle.suit_params.specs.declared.digest.Digest.{Digest}
 use Rattle.suit_params.specs.declared.refusal.Refusal.{Refusal}
 use Rattle.suit_params.specs.Refusing.{SaysWhole}
 use Rattle.suit_envelope.specs.declared.envelope.Envelope.{Envelope}
@@ -15,7 +16,7 @@ use Rattle.suit_envelope.specs.WrapperParts.{HasWrapper}
 use Rattle.suit_envelope.proofs.WrapperLaws.{has_wrapper}
 
 abbrev Good : EnvelopeSays → Type 0
-Good s = (digest : List ℕ) × SaysWhole IsWrapper s.wrapper_place s.wrapper digest
+Good s = (digest : Digest) × SaysWhole IsWrapper s.wrapper_place s.wrapper digest
 
 -- a key that is not the wrapper's leaves the wrapper as it was
 put_other : (s : EnvelopeSays) (key : Key) (content : List ℕ) (place : ℕ) → key ≢ Wrapper → Good s → Good (put s key content place)
@@ -89,5 +90,5 @@ ok_wrapper bytes (Err r) so = tt
 
 -- ---- the answer of a call, for a wrapper
 
-pub digest_is : (r : Result (List ℕ) Refusal) (digest : List ℕ) → r ≡ Ok digest → (found : List ℕ) → r ≡ Ok found → found ≡ digest
+pub digest_is : (r : Result Digest Refusal) (digest : Digest) → r ≡ Ok digest → (found : Digest) → r ≡ Ok found → found ≡ digest
 digest_is r digest e found f = cc

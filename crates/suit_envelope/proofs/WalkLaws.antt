@@ -3,6 +3,7 @@ use Rattle.std.proofs.Common.{◌≡◌, ℕ, zero, suc, List, ◌∷◌, length
 use Rattle.det_cbor.specs.HeadReading.{◌>>=◌}
 use Rattle.det_cbor.specs.Position.{Position}
 use Rattle.det_cbor.specs.ResultLaws.{bind_ok, ok_pair}
+use Rattle.suit_params.specs.declared.digest.Digest.{Digest}
 use Rattle.suit_params.specs.declared.refusal.Refusal.{Refusal}
 use Rattle.suit_params.specs.Reading.{content_from}
 use Rattle.suit_envelope.specs.Macs.{contents_from}
@@ -22,12 +23,12 @@ walk_contents (suc n) p blocks is =
 
 -- from behind the digest the walk gives all blocks
 pub walk_all : (wrapper : List ℕ) (content rest : Position) (count : ℕ) → Ok (content, rest) ≡ first_from wrapper → count ≡ count_from wrapper
-    → (digest : List ℕ) (blocks : List (List ℕ)) → WrapperSays wrapper digest blocks → walked_from count rest ≡ blocks
+    → (digest : Digest) (blocks : List (List ℕ)) → WrapperSays wrapper digest blocks → walked_from count rest ≡ blocks
 walk_all wrapper content rest count e counted digest blocks so =
     let f = first_read wrapper digest blocks so in
     let parts = ok_pair content f.content rest f.rest (e ∙ first_is wrapper digest blocks f) in
     let long : count ≡ length blocks = counted ∙ count_read wrapper digest blocks so in
     ap (λ (n : ℕ). walked_from n rest) long ∙ ap (walked_from (length blocks)) parts.1 ∙ walk_contents (length blocks) f.rest blocks (contents_after wrapper digest blocks so f)
 
-pub walk_never : (wrapper : List ℕ) (r : Refusal) (answer : List (List ℕ)) → Err r ≡ first_from wrapper → (digest : List ℕ) (blocks : List (List ℕ)) → WrapperSays wrapper digest blocks → answer ≡ blocks
+pub walk_never : (wrapper : List ℕ) (r : Refusal) (answer : List (List ℕ)) → Err r ≡ first_from wrapper → (digest : Digest) (blocks : List (List ℕ)) → WrapperSays wrapper digest blocks → answer ≡ blocks
 walk_never wrapper r answer e digest blocks so = absurd (first_never wrapper r e (digest, blocks, so))

@@ -7,6 +7,7 @@ use Rattle.det_cbor.specs.DataItem.{DataItem, ArrayOf, DataItems, NoItems, ItemT
 use Rattle.det_cbor.specs.HeadReading.{◌>>=◌}
 use Rattle.det_cbor.specs.Position.{Position}
 use Rattle.det_cbor.specs.ResultLaws.{bind_ok, bind_err, same_ok, same_err}
+use Rattle.suit_params.specs.declared.digest.Digest.{Digest}
 use Rattle.suit_params.specs.declared.refusal.Refusal.{Refusal}
 use Rattle.suit_params.specs.declared.refusal.Why.TheVariants.{Shape}
 use Rattle.suit_params.specs.Refusing.{refused, IsByteString, RefusesHeld, SaysHeld}
@@ -56,10 +57,10 @@ by_elements P some other (ArrayOf (ItemThen first blocks)) = some first blocks
 by_elements P some other x = other x (record { other = λ h. h; judged = λ place. refl; read = λ place p. refl })
 
 -- the digest is read, and then the blocks
-abbrev then_blocks : (Position → Result Unit Refusal) → List ℕ × Position → Result (List ℕ) Refusal
+abbrev then_blocks : (Position → Result Unit Refusal) → Digest × Position → Result Digest Refusal
 then_blocks f d = f d.1 >>= λ _. Ok d.0
 
-digest_step : (r : Result (List ℕ) Refusal) (q : Position) (f : Position → Result Unit Refusal) (z : Result Unit Refusal) → f q ≡ z → ((r >>= with_rest q) >>= then_blocks f) ≡ (r >>= λ d. z >>= λ _. Ok d)
+digest_step : (r : Result Digest Refusal) (q : Position) (f : Position → Result Unit Refusal) (z : Result Unit Refusal) → f q ≡ z → ((r >>= with_rest q) >>= then_blocks f) ≡ (r >>= λ d. z >>= λ _. Ok d)
 digest_step (Ok d) q f z e = rw e refl
 digest_step (Err s) q f z e = refl
 
@@ -106,7 +107,7 @@ block_judges = record {
 first_judges : Judges (judge_held judge_digest) (SaysHeld IsDigest) (RefusesHeld RefusesDigest)
 first_judges = held_judges judge_digest IsDigest RefusesDigest digest_judges
 
-wrapper_ok : (levels place : ℕ) (x : DataItem) (d : List ℕ) → IsValidWithin levels x → judge_wrapper place x ≡ Ok d → IsWrapper place x d
+wrapper_ok : (levels place : ℕ) (x : DataItem) (d : Digest) → IsValidWithin levels x → judge_wrapper place x ≡ Ok d → IsWrapper place x d
 wrapper_ok levels place x d valid e =
     by_elements (λ (y : DataItem). IsValidWithin levels y → judge_wrapper place y ≡ Ok d → IsWrapper place y d)
     (λ first blocks v f. bind_ok (judge_held judge_digest (elements_place place blocks) first) _ d f (λ a a-is f. bind_ok (judge_each judge_block (blocks_of place first blocks)) _ d f (λ done done-is f.
@@ -116,7 +117,7 @@ wrapper_ok levels place x d valid e =
     (λ y other v f. let never = sym (other.judged place) ∙ f in absurd cc)
     x valid e
 
-wrapper_again : (place : ℕ) (x : DataItem) (d : List ℕ) → IsWrapper place x d → judge_wrapper place x ≡ Ok d
+wrapper_again : (place : ℕ) (x : DataItem) (d : Digest) → IsWrapper place x d → judge_wrapper place x ≡ Ok d
 wrapper_again place x d so =
     ap (judge_wrapper place) so.is ∙ rw (first_judges.again (elements_place place so.blocks) so.first d so.holds, each_again Anything judge_block IsBlock RefusesBlock block_judges (blocks_of place so.first so.blocks) so.rest) refl
 

@@ -10,6 +10,7 @@ use Rattle.det_cbor.specs.HeadReading.{◌>>=◌}
 use Rattle.std.proofs.lemmas.Option.{slice_get_past}
 use Rattle.det_cbor.specs.ResultLaws.{same_ok, not_both}
 use Rattle.det_cbor.specs.Position.{Position}
+use Rattle.suit_params.specs.declared.digest.Digest.{Digest}
 use Rattle.suit_params.specs.declared.refusal.Refusal.{Refusal}
 use Rattle.suit_params.specs.Refusing.{IsByteString, content_place, SaysWhole}
 use Rattle.suit_params.specs.Digests.{IsDigest, digest_item}
@@ -30,7 +31,7 @@ strings_blocks : (place : ℕ) (blocks : List (List ℕ)) → AllByRecursion IsB
 strings_blocks place [] = tt
 strings_blocks place (block ∷ blocks) = (tt, strings_blocks (place + length (spell (ByteString block))) blocks)
 
-pub says_wrapper : (at : ℕ) (wrapper digest : List ℕ) (blocks : List (List ℕ)) → WrapperSays wrapper digest blocks → IsWrapper at (wrapper_item digest blocks) digest
+pub says_wrapper : (at : ℕ) (wrapper : List ℕ) (digest : Digest) (blocks : List (List ℕ)) → WrapperSays wrapper digest blocks → IsWrapper at (wrapper_item digest blocks) digest
 says_wrapper at wrapper digest blocks so =
     let first = ByteString (spell (digest_item digest)) in
     let place = elements_place at (strings_of blocks) in
@@ -40,7 +41,7 @@ says_wrapper at wrapper digest blocks so =
 only_read : (p : Position) (x : DataItem) → IsValid x → p.left ≡ spell x → only_from p ≡ Ok (inside p x)
 only_read p x valid is = rw (item_read p x [] valid (is ∙ sym (append-nil (spell x)))) refl
 
-pub digest_read : (wrapper digest : List ℕ) (blocks : List (List ℕ)) → WrapperSays wrapper digest blocks → digest_from wrapper ≡ Ok digest
+pub digest_read : (wrapper : List ℕ) (digest : Digest) (blocks : List (List ℕ)) → WrapperSays wrapper digest blocks → digest_from wrapper ≡ Ok digest
 digest_read wrapper digest blocks so =
     let x = wrapper_item digest blocks in
     rw (only_read (start_of wrapper) x so.spells.valid so.spells.is) (wrapper_read 0 0 x so.spells.valid ∙ wrapper_judges.again 0 x digest (says_wrapper 0 wrapper digest blocks so))
@@ -51,7 +52,7 @@ strings_count : (blocks : List (List ℕ)) → item_count (strings_of blocks) �
 strings_count [] = refl
 strings_count (block ∷ blocks) = omega (arith, strings_count blocks)
 
-pub count_read : (wrapper digest : List ℕ) (blocks : List (List ℕ)) → WrapperSays wrapper digest blocks → count_from wrapper ≡ length blocks
+pub count_read : (wrapper : List ℕ) (digest : Digest) (blocks : List (List ℕ)) → WrapperSays wrapper digest blocks → count_from wrapper ≡ length blocks
 count_read wrapper digest blocks so =
     let x = wrapper_item digest blocks in
     let count : item_count (strings_of blocks) + 1 - 1 ≡ length blocks = omega (arith, strings_count blocks) in
@@ -70,7 +71,7 @@ nth_read levels (suc n) p (block ∷ blocks) valid is lt =
     rw (content_read levels p (ByteString block) (spell_items (strings_of blocks)) valid.0 is) (nth_read levels n q blocks valid.1 refl (omega arith))
 
 -- the first byte string of a wrapper is read, and the blocks are left
-pub record FirstRead (wrapper digest : List ℕ) (blocks : List (List ℕ)) : Type 0 where
+pub record FirstRead (wrapper : List ℕ) (digest : Digest) (blocks : List (List ℕ)) : Type 0 where
   pub head : Head
   pub inside : Position
   pub starts : head_from (start_of wrapper) ≡ Ok (head, inside)
@@ -80,7 +81,7 @@ pub record FirstRead (wrapper digest : List ℕ) (blocks : List (List ℕ)) : Ty
   pub payload : content.left ≡ payload_of digest
   pub left : rest.left ≡ spell_items (strings_of blocks)
 
-pub first_read : (wrapper digest : List ℕ) (blocks : List (List ℕ)) → WrapperSays wrapper digest blocks → FirstRead wrapper digest blocks
+pub first_read : (wrapper : List ℕ) (digest : Digest) (blocks : List (List ℕ)) → WrapperSays wrapper digest blocks → FirstRead wrapper digest blocks
 first_read wrapper digest blocks so =
     let x = wrapper_item digest blocks in
     let p = start_of wrapper in
@@ -99,7 +100,7 @@ first_read wrapper digest blocks so =
       left = refl;
     }
 
-pub block_read : (wrapper digest : List ℕ) (blocks : List (List ℕ)) (n : ℕ) → WrapperSays wrapper digest blocks → n < length blocks → option_map (λ (c : Position). c.left) (result_ok (block_from n wrapper)) ≡ slice_get blocks n
+pub block_read : (wrapper : List ℕ) (digest : Digest) (blocks : List (List ℕ)) (n : ℕ) → WrapperSays wrapper digest blocks → n < length blocks → option_map (λ (c : Position). c.left) (result_ok (block_from n wrapper)) ≡ slice_get blocks n
 block_read wrapper digest blocks n so lt =
     let first = first_read wrapper digest blocks so in
     rw (first.starts, first.held) (nth_read 1 n first.rest blocks so.spells.valid.2.1 first.left lt)
@@ -115,7 +116,7 @@ strings_again place (ItemThen x xs) all =
     (λ y other f. absurd (other.other f))
     x all.0
 
-pub has_wrapper : (place : ℕ) (wrapper digest : List ℕ) → SaysWhole IsWrapper place wrapper digest → HasWrapper wrapper
+pub has_wrapper : (place : ℕ) (wrapper : List ℕ) (digest : Digest) → SaysWhole IsWrapper place wrapper digest → HasWrapper wrapper
 has_wrapper place wrapper digest so =
     let w = so.says_so in
     let held = w.holds in
@@ -136,25 +137,25 @@ has_wrapper place wrapper digest so =
 
 -- ---- the answers of calls
 
-pub stated_is : (wrapper digest found : List ℕ) (blocks : List (List ℕ)) → WrapperSays wrapper digest blocks → Ok found ≡ digest_from wrapper → found ≡ digest
+pub stated_is : (wrapper : List ℕ) (digest found : Digest) (blocks : List (List ℕ)) → WrapperSays wrapper digest blocks → Ok found ≡ digest_from wrapper → found ≡ digest
 stated_is wrapper digest found blocks so e = same_ok found digest (e ∙ digest_read wrapper digest blocks so)
 
 pub stated_never : (wrapper : List ℕ) (r : Refusal) → HasWrapper wrapper → Err r ≡ digest_from wrapper → ⊥
 stated_never wrapper r has e = not_both (digest_from wrapper) has.0 r (digest_read wrapper has.0 has.1 has.2) (sym e)
 
-pub block_past : (wrapper : List ℕ) (count n : ℕ) → count ≡ count_from wrapper → count ≤ n → (digest : List ℕ) (blocks : List (List ℕ)) → WrapperSays wrapper digest blocks → None ≡ slice_get blocks n
+pub block_past : (wrapper : List ℕ) (count n : ℕ) → count ≡ count_from wrapper → count ≤ n → (digest : Digest) (blocks : List (List ℕ)) → WrapperSays wrapper digest blocks → None ≡ slice_get blocks n
 block_past wrapper count n is le digest blocks so =
     let long : count ≡ length blocks = is ∙ count_read wrapper digest blocks so in
     sym (slice_get_past blocks n (omega arith))
 
 pub block_found : (wrapper : List ℕ) (count n : ℕ) (content : Position) → count ≡ count_from wrapper → n < count → Ok content ≡ block_from n wrapper
-    → (digest : List ℕ) (blocks : List (List ℕ)) → WrapperSays wrapper digest blocks → Some content.left ≡ slice_get blocks n
+    → (digest : Digest) (blocks : List (List ℕ)) → WrapperSays wrapper digest blocks → Some content.left ≡ slice_get blocks n
 block_found wrapper count n content is lt e digest blocks so =
     let long : count ≡ length blocks = is ∙ count_read wrapper digest blocks so in
     ap (λ (r : Result Position Refusal). option_map (λ (c : Position). c.left) (result_ok r)) e ∙ block_read wrapper digest blocks n so (omega arith)
 
 pub block_never : (wrapper : List ℕ) (count n : ℕ) (r : Refusal) → count ≡ count_from wrapper → n < count → Err r ≡ block_from n wrapper
-    → (digest : List ℕ) (blocks : List (List ℕ)) → WrapperSays wrapper digest blocks → None ≡ slice_get blocks n
+    → (digest : Digest) (blocks : List (List ℕ)) → WrapperSays wrapper digest blocks → None ≡ slice_get blocks n
 block_never wrapper count n r is lt e digest blocks so =
     let long : count ≡ length blocks = is ∙ count_read wrapper digest blocks so in
     ap (λ (a : Result Position Refusal). option_map (λ (c : Position). c.left) (result_ok a)) e ∙ block_read wrapper digest blocks n so (omega arith)

@@ -5,38 +5,39 @@ use Rattle.det_cbor.specs.DataItem.{spell}
 use Rattle.det_cbor.specs.HeadReading.{◌>>=◌}
 use Rattle.det_cbor.specs.Position.{Position}
 use Rattle.hmac_mac0.specs.Tags.{tag_bytes}
+use Rattle.suit_params.specs.declared.digest.Digest.{Digest}
 use Rattle.suit_params.specs.declared.refusal.Refusal.{Refusal}
 use Rattle.suit_params.specs.Digests.{digest_item}
 use Rattle.suit_params.specs.Reading.{head_from, content_from}
 use Rattle.suit_envelope.specs.Macs.{IsOther, FailsToVerify, SomeVerifies, FirstDiffers}
-use Rattle.suit_envelope.specs.Members.{string_digest}
+use Rattle.suit_envelope.specs.Members.{string_like}
 use Rattle.suit_envelope.specs.WrapperParts.{WrapperSays, start_of}
 use Rattle.suit_envelope.specs.declared.authenticity.Authenticity.{Authenticity}
 use Rattle.suit_envelope.specs.declared.authenticity.Authenticity.TheVariants as answers
 
 -- the content of the wrapper's first byte string is the payload of each block
-abbrev pub payload_of : List ℕ → List ℕ
+abbrev pub payload_of : Digest → List ℕ
 payload_of digest = spell (digest_item digest)
 
--- the wrapper's digest is that of the manifest's whole byte string, and some block verifies
+-- the wrapper's digest is that of the manifest's whole byte string, under its own hash function, and some block verifies
 pub record IsAuthentic (wrapper manifest key : List ℕ) : Type 0 where
-  pub digest : List ℕ
+  pub digest : Digest
   pub blocks : List (List ℕ)
   pub says : WrapperSays wrapper digest blocks
-  pub stated : digest ≡ string_digest manifest
+  pub stated : digest ≡ string_like digest manifest
   pub verifies : SomeVerifies key (payload_of digest) blocks
 
 -- the answer to a wrapper that states this digest and has these blocks; the digest is judged first
-abbrev pub AnswersAuthentic : List ℕ → List (List ℕ) → List ℕ → List ℕ → Authenticity → Type 0
+abbrev pub AnswersAuthentic : Digest → List (List ℕ) → List ℕ → List ℕ → Authenticity → Type 0
 AnswersAuthentic digest blocks manifest key answers.Yes =
-    (digest ≡ string_digest manifest) × SomeVerifies key (payload_of digest) blocks
+    (digest ≡ string_like digest manifest) × SomeVerifies key (payload_of digest) blocks
 AnswersAuthentic digest blocks manifest key (answers.DigestDiffers stated found) =
-    (stated.bytes ≡ digest) × (found.bytes ≡ string_digest manifest)
-    × (digest ≢ string_digest manifest)
+    (stated ≡ digest) × (found ≡ string_like digest manifest)
+    × (digest ≢ string_like digest manifest)
 AnswersAuthentic digest blocks manifest key answers.NoMac =
-    (digest ≡ string_digest manifest) × AllByRecursion IsOther blocks
+    (digest ≡ string_like digest manifest) × AllByRecursion IsOther blocks
 AnswersAuthentic digest blocks manifest key (answers.MacDiffers expected found) =
-    (digest ≡ string_digest manifest)
+    (digest ≡ string_like digest manifest)
     × AllByRecursion (FailsToVerify key (payload_of digest)) blocks
     × FirstDiffers key (payload_of digest) (tag_bytes expected) found.now blocks
 

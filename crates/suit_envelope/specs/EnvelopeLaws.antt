@@ -1,6 +1,7 @@
 -- Laws of all envelopes, whatever reads them (draft-ietf-suit-manifest-25, section 8.2).
 use Rattle.std.specs.Prelude.{◌<◌, ℕ, List, length}
 use Rattle.det_cbor.specs.DataItem.{IsString}
+use Rattle.suit_params.specs.declared.digest.Digest.{Digest}
 use Rattle.suit_params.specs.OneWhole.{HasOneAnswer}
 use Rattle.suit_envelope.specs.Authentic.{AnswersAuthentic, TellSame}
 use Rattle.suit_envelope.specs.declared.authenticity.Authenticity.{Authenticity}
@@ -30,6 +31,6 @@ pub record EnvelopeLaws : Type 0 where
 -- the law: whatever is answered of a wrapper, a manifest and a key tells the same
 abbrev pub AuthenticityLaw : Type 0
 AuthenticityLaw =
-    (digest : List ℕ) (blocks : List (List ℕ)) (manifest key : List ℕ) (a b : Authenticity)
+    (digest : Digest) (blocks : List (List ℕ)) (manifest key : List ℕ) (a b : Authenticity)
     → AnswersAuthentic digest blocks manifest key a
     → AnswersAuthentic digest blocks manifest key b → TellSame a b

@@ -3,6 +3,7 @@ use Rattle.std.specs.Prelude.{◌≡◌, ◌≢◌, ℕ, ◌+◌, ◌==◌, ◌|
 use Rattle.std.specs.List.{AllByRecursion}
 use Rattle.det_cbor.specs.Heads.{head_bytes}
 use Rattle.det_cbor.specs.DataItem.{DataItem, UnsignedInteger, TextString, ByteString, MapOf, TaggedItem, DataPairs, NoPairs, PairThen, pair_count, spell}
+use Rattle.suit_params.specs.declared.digest.Digest.{Digest}
 use Rattle.suit_params.specs.declared.refusal.Refusal.{Refusal}
 use Rattle.suit_params.specs.declared.refusal.Why.TheVariants.{Shape, UnknownKey, Missing}
 use Rattle.suit_params.specs.Refusing.{refused, IsByteString, content_place, RefusesHeld, SaysHeld, RefusesFirst}
@@ -133,7 +134,7 @@ IsValue e =
     IsByteString e.value
     ×
     (key_of e.key ≡ Wrapper
-    → (digest : List ℕ) × SaysHeld IsWrapper e.value_place e.value digest)
+    → (digest : Digest) × SaysHeld IsWrapper e.value_place e.value digest)
 
 pub record IsEnvelope (place : ℕ) (x : DataItem) (said : EnvelopeSays) : Type 0 where
   pub map : EnvelopeMap

@@ -2,6 +2,7 @@
 use Rattle.std.specs.Prelude.{ℕ, if◌then◌else◌, List, [], ◌∷◌, Option, Some, None, Result, Ok, Err}
 use Rattle.det_cbor.specs.DataItem.{DataItem, ArrayOf, ItemThen}
 use Rattle.det_cbor.specs.HeadReading.{◌>>=◌}
+use Rattle.suit_params.specs.declared.digest.Digest.{Digest}
 use Rattle.suit_params.specs.declared.refusal.Refusal.{Refusal}
 use Rattle.suit_params.specs.declared.refusal.Why.TheVariants.{Shape, UnknownKey, Missing}
 use Rattle.suit_params.specs.Refusing.{refused}
@@ -14,7 +15,7 @@ use Rattle.suit_envelope.specs.declared.key.Key.TheVariants.{Wrapper, Unknown}
 abbrev pub judge_block : ℕ × DataItem → Result Unit Refusal
 judge_block b = judge_string b.0 b.1 >>= λ _. Ok tt
 
-abbrev pub judge_wrapper : ℕ → DataItem → Result (List ℕ) Refusal
+abbrev pub judge_wrapper : ℕ → DataItem → Result Digest Refusal
 judge_wrapper place (ArrayOf (ItemThen first blocks)) =
     judge_held judge_digest (elements_place place blocks) first
     >>= λ digest. judge_each judge_block (blocks_of place first blocks) >>= λ _. Ok digest

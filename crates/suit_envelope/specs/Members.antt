@@ -1,16 +1,22 @@
 -- Byte strings of an envelope by their digests, and what becomes of a severed member.
 use Rattle.std.specs.Prelude.{◌≡◌, ◌≢◌, ℕ, List, Option, Some, None}
-use Rattle.sha2.specs.Sha256.{sha256}
 use Rattle.det_cbor.specs.DataItem.{ByteString, spell}
+use Rattle.suit_params.specs.declared.digest.Digest.{Digest}
+use Rattle.suit_params.specs.declared.digest_kind.DigestKind.{DigestKind}
+use Rattle.suit_params.specs.Hashes.{hash, hash_like}
 use Rattle.suit_envelope.specs.Envelopes.{EnvelopeSays}
 use Rattle.suit_envelope.specs.declared.severed.MemberName.{MemberName}
 use Rattle.suit_envelope.specs.declared.severed.MemberName.TheVariants as names
 use Rattle.suit_envelope.specs.declared.severed.MemberBytes.{MemberBytes}
 use Rattle.suit_envelope.specs.declared.severed.MemberBytes.TheVariants as answers
 
--- the SHA-256 of a whole byte string, its head and its content (draft-ietf-suit-manifest-25, section 8.3)
-abbrev pub string_digest : List ℕ → List ℕ
-string_digest content = sha256 (spell (ByteString content))
+-- the digest of a whole byte string, its head and its content (draft-ietf-suit-manifest-25, section 8.3)
+abbrev pub string_digest : DigestKind → List ℕ → Digest
+string_digest kind content = hash kind (spell (ByteString content))
+
+-- by the hash function of a digest
+abbrev pub string_like : Digest → List ℕ → Digest
+string_like digest content = hash_like digest (spell (ByteString content))
 
 abbrev pub member_of : EnvelopeSays → MemberName → Option (List ℕ)
 member_of said names.PayloadFetch = said.payload_fetch
@@ -23,11 +29,11 @@ IsGot content (answers.Got bytes) = bytes.now ≡ content
 IsGot content _ = ⊥
 
 -- a member is taken where its digest is the stated one
-abbrev pub AnswersMember : Option (List ℕ) → List ℕ → MemberBytes → Type 0
+abbrev pub AnswersMember : Option (List ℕ) → Digest → MemberBytes → Type 0
 AnswersMember None stated answers.Severed = Unit {0}
 AnswersMember None stated _ = ⊥
 AnswersMember (Some content) stated (answers.Got bytes) =
-    (bytes.now ≡ content) × (string_digest content ≡ stated)
+    (bytes.now ≡ content) × (string_like stated content ≡ stated)
 AnswersMember (Some content) stated answers.Severed = ⊥
 AnswersMember (Some content) stated (answers.Differs told found) =
-    (told.bytes ≡ stated) × (found.bytes ≡ string_digest content) × (found.bytes ≢ stated)
+    (told ≡ stated) × (found ≡ string_like stated content) × (found ≢ stated)

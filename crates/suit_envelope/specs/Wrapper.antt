@@ -3,6 +3,7 @@ use Rattle.std.specs.Prelude.{◌≡◌, ℕ, ◌+◌, List, [], ◌∷◌, leng
 use Rattle.std.specs.List.{AllByRecursion}
 use Rattle.det_cbor.specs.Heads.{head_bytes}
 use Rattle.det_cbor.specs.DataItem.{DataItem, ArrayOf, DataItems, NoItems, ItemThen, item_count, spell}
+use Rattle.suit_params.specs.declared.digest.Digest.{Digest}
 use Rattle.suit_params.specs.declared.refusal.Refusal.{Refusal}
 use Rattle.suit_params.specs.declared.refusal.Why.TheVariants.{Shape}
 use Rattle.suit_params.specs.Refusing.{refused, IsByteString, RefusesHeld, SaysHeld, RefusesFirst}
@@ -25,7 +26,7 @@ abbrev pub IsBlock : ℕ × DataItem → Type 0
 IsBlock b = IsByteString b.1
 
 -- the first element holds the digest, and each other is a block
-pub record IsWrapper (place : ℕ) (x : DataItem) (digest : List ℕ) : Type 0 where
+pub record IsWrapper (place : ℕ) (x : DataItem) (digest : Digest) : Type 0 where
   pub first : DataItem
   pub blocks : DataItems
   pub is : x ≡ ArrayOf (ItemThen first blocks)
@@ -47,7 +48,7 @@ pub data RefusesWrapper (place : ℕ) : DataItem → Refusal → Type 0 where
   BadDigest : (first : DataItem) (blocks : DataItems) (r : Refusal)
       → RefusesHeld RefusesDigest (elements_place place blocks) first r
       → RefusesWrapper place (ArrayOf (ItemThen first blocks)) r
-  BadBlock : (first : DataItem) (blocks : DataItems) (digest : List ℕ) (r : Refusal)
+  BadBlock : (first : DataItem) (blocks : DataItems) (digest : Digest) (r : Refusal)
       → SaysHeld IsDigest (elements_place place blocks) first digest
       → RefusesFirst RefusesBlock IsBlock (blocks_of place first blocks) r
       → RefusesWrapper place (ArrayOf (ItemThen first blocks)) r

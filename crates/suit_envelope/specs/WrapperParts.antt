@@ -1,10 +1,12 @@
 -- A wrapper by its parts: the digest that it states, and its blocks.
-use Rattle.std.specs.Prelude.{◌≡◌, ℕ, ◌-◌, zero, suc, List, [], ◌∷◌, length, Result, Ok, Err}
+use Rattle.std.specs.Prelude.{ℕ, ◌-◌, zero, suc, List, [], ◌∷◌, Result, Ok, Err}
 use Rattle.det_cbor.specs.declared.head.Head.{Head}
 use Rattle.det_cbor.specs.DataItem.{DataItem, ByteString, ArrayOf, DataItems, NoItems, ItemThen, spell, IsValid, Spells}
 use Rattle.det_cbor.specs.HeadReading.{◌>>=◌}
 use Rattle.det_cbor.specs.Position.{Position}
+use Rattle.suit_params.specs.declared.digest.Digest.{Digest}
 use Rattle.suit_params.specs.declared.refusal.Refusal.{Refusal}
+use Rattle.suit_params.specs.DigestBytes.{IsLong}
 use Rattle.suit_params.specs.Digests.{digest_item}
 use Rattle.suit_params.specs.Reading.{head_from, only_from, content_from}
 use Rattle.suit_envelope.specs.WrapperReading.{wrapper_at}
@@ -14,26 +16,26 @@ strings_of [] = NoItems
 strings_of (block ∷ blocks) = ItemThen (ByteString block) (strings_of blocks)
 
 -- the digest in a byte string, and then the blocks (draft-ietf-suit-manifest-25, section 8.3)
-abbrev pub wrapper_item : List ℕ → List (List ℕ) → DataItem
+abbrev pub wrapper_item : Digest → List (List ℕ) → DataItem
 wrapper_item digest blocks =
     ArrayOf (ItemThen (ByteString (spell (digest_item digest))) (strings_of blocks))
 
-pub record WrapperSays (wrapper digest : List ℕ) (blocks : List (List ℕ)) : Type 0 where
+pub record WrapperSays (wrapper : List ℕ) (digest : Digest) (blocks : List (List ℕ)) : Type 0 where
   pub spells : Spells (wrapper_item digest blocks) wrapper
   pub digest_valid : IsValid (digest_item digest)
-  pub long : length digest ≡ 32
+  pub long : IsLong digest
 
 -- these bytes are a wrapper
 abbrev pub HasWrapper : List ℕ → Type 0
 HasWrapper wrapper =
-    (digest : List ℕ) × (blocks : List (List ℕ)) × WrapperSays wrapper digest blocks
+    (digest : Digest) × (blocks : List (List ℕ)) × WrapperSays wrapper digest blocks
 
 -- ---- how the parts are read
 
 abbrev pub start_of : List ℕ → Position
 start_of wrapper = record { left = wrapper; place = 0 }
 
-abbrev pub digest_from : List ℕ → Result (List ℕ) Refusal
+abbrev pub digest_from : List ℕ → Result Digest Refusal
 digest_from wrapper = only_from (start_of wrapper) >>= λ item. wrapper_at item
 
 abbrev pub count_after : Result (Head × Position) Refusal → ℕ

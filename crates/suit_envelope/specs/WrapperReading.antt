@@ -1,9 +1,10 @@
 -- How the elements of a wrapper are read, of an item that was judged before.
-use Rattle.std.specs.Prelude.{ℕ, zero, suc, ◌-◌, ◌==◌, if◌then◌else◌, List, Result, Ok, Err}
+use Rattle.std.specs.Prelude.{ℕ, zero, suc, ◌-◌, ◌==◌, if◌then◌else◌, Result, Ok, Err}
 use Rattle.det_cbor.specs.declared.head.HeadKind.{HeadKind}
 use Rattle.det_cbor.specs.declared.head.HeadKind.TheVariants as kinds
 use Rattle.det_cbor.specs.HeadReading.{◌>>=◌}
 use Rattle.det_cbor.specs.Position.{Position}
+use Rattle.suit_params.specs.declared.digest.Digest.{Digest}
 use Rattle.suit_params.specs.declared.refusal.Refusal.{Refusal}
 use Rattle.suit_params.specs.declared.refusal.Why.TheVariants.{Shape}
 use Rattle.suit_params.specs.Refusing.{refused}
@@ -15,16 +16,16 @@ blocks_from zero p = Ok tt
 blocks_from (suc n) p = content_from p >>= λ c. blocks_from n c.1
 
 -- the next item as a byte string that holds a digest
-abbrev pub digest_held_from : Position → Result (List ℕ × Position) Refusal
+abbrev pub digest_held_from : Position → Result (Digest × Position) Refusal
 digest_held_from p =
     content_from p >>= λ c. only_from c.0 >>= λ item. digest_at item >>= λ digest. Ok (digest, c.1)
 
-abbrev pub elements_after : ℕ → ℕ → Position → HeadKind → Result (List ℕ) Refusal
+abbrev pub elements_after : ℕ → ℕ → Position → HeadKind → Result Digest Refusal
 elements_after place n p kinds.Array =
     if n == 0 then Err (refused place Shape)
     else (digest_held_from p >>= λ d. blocks_from (n - 1) d.1 >>= λ _. Ok d.0)
 elements_after place n p _ = Err (refused place Shape)
 
 -- a whole item, as a wrapper
-unfoldable pub wrapper_at : Position → Result (List ℕ) Refusal
+unfoldable pub wrapper_at : Position → Result Digest Refusal
 wrapper_at p = head_from p >>= λ h. elements_after p.place h.0.value h.1 h.0.kind

@@ -8,7 +8,7 @@ ghost use Rattle.suit_envelope.specs.WrapperParts.{WrapperSays, HasWrapper};
 
 use crate::Envelope;
 use crate::macs::scan;
-use crate::string_hash::string_digest;
+use crate::string_hash::string_like;
 use crate::wrapper_parts::{count, stated_digest};
 use det_cbor::Cursor;
 use hmac_mac0::{MacTag, MacVerdict};
@@ -40,7 +40,7 @@ pub(crate) fn first_string(wrapper: &[u8]) -> Result<(Cursor<'_>, Cursor<'_>), R
 // The judgement of the blocks, for the first byte string as their payload.
 fn macs<'a>(wrapper: &'a [u8], key: &[u8]) -> Result<MacVerdict<'a>, Refusal>
     ensures says { IfOk result
-        (λ answer. (digest : List ℕ) (blocks : List (List ℕ))
+        (λ answer. (digest : Digest) (blocks : List (List ℕ))
         → WrapperSays wrapper.now digest blocks
         → BlocksSay key.now (payload_of digest) blocks answer) }
     ensures read { IfErr result (λ _. HasWrapper wrapper.now → ⊥) }
@@ -51,12 +51,12 @@ fn macs<'a>(wrapper: &'a [u8], key: &[u8]) -> Result<MacVerdict<'a>, Refusal>
 
 fn answer<'a>(envelope: &Envelope<'a>, key: &[u8]) -> Authenticity<'a>
     requires { HasWrapper envelope.now.wrapper.now }
-    ensures { (digest : List ℕ) (blocks : List (List ℕ))
+    ensures { (digest : Digest) (blocks : List (List ℕ))
         → WrapperSays envelope.now.wrapper.now digest blocks
         → AnswersAuthentic digest blocks envelope.now.manifest.now key.now result }
 {
     let stated = stated_digest(envelope);
-    let found = string_digest(envelope.manifest);
+    let found = string_like(&stated, envelope.manifest);
     if stated != found {
         return Authenticity::DigestDiffers { stated, found };
     }
@@ -70,15 +70,15 @@ fn answer<'a>(envelope: &Envelope<'a>, key: &[u8]) -> Authenticity<'a>
 
 /// Whether the envelope is authentic under a key (draft-ietf-suit-manifest-25, section 8.3).
 ///
-/// The wrapper's digest is judged first, against the manifest's whole byte string, and then the
-/// blocks, whose payload is the content of the wrapper's first byte string. Takes no memory.
+/// The wrapper's digest is judged first, against the manifest's whole byte string under its own hash
+/// function, and then the blocks, whose payload is the content of the wrapper's first byte string. Takes no memory.
 pub fn authentic<'a>(envelope: &Envelope<'a>, key: &[u8]) -> Authenticity<'a>
     requires { HasWrapper envelope.now.wrapper.now }
     ensures yes { result ≡ Yes
         → IsAuthentic envelope.now.wrapper.now envelope.now.manifest.now key.now }
     ensures every_yes { IsAuthentic envelope.now.wrapper.now envelope.now.manifest.now key.now
         → result ≡ Yes }
-    ensures answers { (digest : List ℕ) (blocks : List (List ℕ))
+    ensures answers { (digest : Digest) (blocks : List (List ℕ))
         → WrapperSays envelope.now.wrapper.now digest blocks
         → AnswersAuthentic digest blocks envelope.now.manifest.now key.now result }
     ensures differs { TellsDifference result }

@@ -35,7 +35,7 @@ pub use payload_bytes::PayloadBytes;
 pub use payload_list::PayloadList;
 pub use payloads::payload;
 pub use severed::{MemberBytes, MemberName, member};
-pub use string_hash::string_digest;
+pub use string_hash::{string_digest, string_like};
 pub use trimming::{trim, trimmed_length};
 pub use walk::BlockWalk;
 pub use wrapper_parts::{block, blocks, stated_digest};

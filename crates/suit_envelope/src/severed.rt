@@ -1,11 +1,11 @@
 //! Severed members of an envelope, taken by their digests.
 
 ghost use Rattle.std.specs.Prelude.{◌≡◌, ◌↔◌, ℕ, List, Some, option_map};
-ghost use Rattle.suit_envelope.specs.Members.{member_of, string_digest, AnswersMember, IsGot};
+ghost use Rattle.suit_envelope.specs.Members.{member_of, string_like, AnswersMember, IsGot};
 ghost use Rattle.suit_envelope.specs.Said.{said_by};
 
 use crate::Envelope;
-use crate::string_hash::string_digest;
+use crate::string_hash::string_like;
 use suit_params::Digest;
 
 /// The members that may stand in the envelope apart from the manifest.
@@ -39,12 +39,12 @@ fn content<'a>(envelope: &Envelope<'a>, name: MemberName) -> Option<&'a [u8]>
 
 // The answer for a member whose digest is stated.
 fn judged<'a>(member: Option<&'a [u8]>, stated: &Digest) -> MemberBytes<'a>
-    ensures { AnswersMember (option_map (λ s. s.now) member.entry) stated.now.bytes result }
+    ensures { AnswersMember (option_map (λ s. s.now) member.entry) stated.now result }
 {
     match member {
         None => MemberBytes::Severed,
         Some(bytes) => {
-            let found = string_digest(bytes);
+            let found = string_like(stated, bytes);
             if found == *stated {
                 MemberBytes::Got(bytes)
             } else {
@@ -58,13 +58,13 @@ fn judged<'a>(member: Option<&'a [u8]>, stated: &Digest) -> MemberBytes<'a>
 }
 
 /// The severed member whose digest the manifest states (draft-ietf-suit-manifest-25, section 8.3).
-/// The digest is that of the whole byte string, its head and its content.
+/// The digest is that of the whole byte string, its head and its content, under its own hash function.
 #[tactic(auto, using(crate::proofs::MemberAnswers::got_alone))]
 pub fn member<'a>(envelope: &Envelope<'a>, name: MemberName, stated: &Digest) -> MemberBytes<'a>
-    ensures answers { AnswersMember (member_of (said_by envelope.now) name) stated.now.bytes
+    ensures answers { AnswersMember (member_of (said_by envelope.now) name) stated.now
         result }
     ensures got { (content : List ℕ) → member_of (said_by envelope.now) name ≡ Some content
-        → (IsGot content result ↔ (string_digest content ≡ stated.now.bytes)) }
+        → (IsGot content result ↔ (string_like stated.now content ≡ stated.now)) }
 {
     judged(content(envelope, name), stated)
 }

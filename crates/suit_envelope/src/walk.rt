@@ -2,6 +2,7 @@
 
 ghost use Rattle.std.specs.Prelude.{◌≡◌, ℕ, List, drop, option_map};
 ghost use Rattle.std.specs.List.{slice_get};
+ghost use Rattle.suit_params.specs.declared.digest.Digest.{Digest};
 ghost use Rattle.suit_envelope.specs.WrapperParts.{WrapperSays};
 
 use crate::Envelope;
@@ -31,7 +32,7 @@ impl<'a> Model for BlockWalk<'a> {
 impl<'a> BlockWalk<'a> {
     /// All authentication blocks of an envelope.
     pub fn new(envelope: &Envelope<'a>) -> BlockWalk<'a>
-        ensures { (digest : List ℕ) (blocks : List (List ℕ))
+        ensures { (digest : Digest) (blocks : List (List ℕ))
             → WrapperSays envelope.now.wrapper.now digest blocks → result ≡ blocks }
     {
         match first_string(envelope.wrapper) {

@@ -9,7 +9,7 @@ use suit_params::{Digest, Refusal, Why, digest_of, only_item, read_content, read
 
 // The next byte string, as the digest that it holds.
 fn digest_held(elements: &mut Cursor<'_>) -> Result<Digest, Refusal>
-    ensures { map_ok (λ d. (d.bytes, elements.new)) result ≡ digest_held_from elements.old }
+    ensures { map_ok (λ d. (d, elements.new)) result ≡ digest_held_from elements.old }
 {
     let content = read_content(elements)?;
     let item = only_item(content)?;
@@ -29,7 +29,7 @@ fn blocks(mut elements: Cursor<'_>, count: u64) -> Result<(), Refusal>
 /// Reads a whole item, judged as one before, as a wrapper: its digest.
 #[tactic(auto, unfolding(crate::specs::WrapperReading::wrapper_at))]
 pub(crate) fn wrapper_of(mut item: Cursor<'_>) -> Result<Digest, Refusal>
-    ensures { map_ok (λ d. d.bytes) result ≡ wrapper_at item.entry }
+    ensures { result ≡ wrapper_at item.entry }
 {
     let place = item.place();
     let head = read_head(&mut item)?;

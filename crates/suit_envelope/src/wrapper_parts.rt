@@ -2,7 +2,6 @@
 
 ghost use Rattle.std.specs.Prelude.{◌≡◌, ℕ, List, length, option_map};
 ghost use Rattle.std.specs.List.{slice_get};
-ghost use Rattle.det_cbor.specs.HeadReading.{map_ok};
 ghost use Rattle.suit_envelope.specs.WrapperParts.{WrapperSays, HasWrapper, digest_from, count_from, passed_from, block_from};
 
 use crate::Envelope;
@@ -11,7 +10,7 @@ use det_cbor::Cursor;
 use suit_params::{Digest, Refusal, bytes_left, only_item, read_content, read_head};
 
 fn digest_of_wrapper(wrapper: &[u8]) -> Result<Digest, Refusal>
-    ensures { map_ok (λ d. d.bytes) result ≡ digest_from wrapper.now }
+    ensures { result ≡ digest_from wrapper.now }
 {
     let item = only_item(Cursor::new(wrapper, 0))?;
     wrapper_of(item)
@@ -49,8 +48,8 @@ fn nth(wrapper: &[u8], number: u64) -> Result<Cursor<'_>, Refusal>
 /// The digest that the envelope's wrapper states, of the manifest's whole byte string.
 pub fn stated_digest(envelope: &Envelope<'_>) -> Digest
     requires { HasWrapper envelope.now.wrapper.now }
-    ensures { (digest : List ℕ) (blocks : List (List ℕ))
-        → WrapperSays envelope.now.wrapper.now digest blocks → result.bytes ≡ digest }
+    ensures { (digest : Digest) (blocks : List (List ℕ))
+        → WrapperSays envelope.now.wrapper.now digest blocks → result ≡ digest }
 {
     match digest_of_wrapper(envelope.wrapper) {
         Ok(digest) => digest,
@@ -61,7 +60,7 @@ pub fn stated_digest(envelope: &Envelope<'_>) -> Digest
 /// The number of authentication blocks.
 #[tactic(auto, using(crate::proofs::WrapperLaws::count_read))]
 pub fn blocks(envelope: &Envelope<'_>) -> u64
-    ensures { (digest : List ℕ) (blocks : List (List ℕ))
+    ensures { (digest : Digest) (blocks : List (List ℕ))
         → WrapperSays envelope.now.wrapper.now digest blocks → result ≡ length blocks }
 {
     count(envelope.wrapper)
@@ -69,7 +68,7 @@ pub fn blocks(envelope: &Envelope<'_>) -> u64
 
 /// The authentication block of a number, counted from 0; none past the last.
 pub fn block<'a>(envelope: &Envelope<'a>, number: u64) -> Option<&'a [u8]>
-    ensures { (digest : List ℕ) (blocks : List (List ℕ))
+    ensures { (digest : Digest) (blocks : List (List ℕ))
         → WrapperSays envelope.now.wrapper.now digest blocks
         → option_map (λ b. b.now) result ≡ slice_get blocks number }
 {

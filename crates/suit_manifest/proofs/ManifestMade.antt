@@ -2,9 +2,9 @@
 use Rattle.std.proofs.Common.{◌≡◌, ℕ, Bool, true, false, List, [], ◌∷◌, Option, Some, None, refl, sym, ap, subst, ◌∙◌, arith}
 use Rattle.std.specs.Prelude.{option_map}
 use Rattle.det_cbor.specs.DataItem.{DataItem, UnsignedInteger, ByteString, TextString, MapOf, ArrayOf, DataPairs, spell, IsValid}
+use Rattle.suit_params.specs.declared.digest.Digest.{Digest}
 use Rattle.suit_params.specs.Refusing.{Says, SaysHeld, SaysWhole, content_place}
 use Rattle.suit_params.specs.Params.{pairs_place}
-use Rattle.suit_params.specs.declared.digest.Digest.{Digest}
 use Rattle.suit_params.specs.Digests.{digest_item}
 use Rattle.suit_commands.specs.SequenceLaws.{SequenceLaws}
 use Rattle.suit_commands.specs.SequenceMaking.{step_items, inner_item, placed, unplaced, first_code}
@@ -48,29 +48,29 @@ module _ (laws : SequenceLaws) where
   here_made : (count place : ℕ) (x : DataItem) (s : SequenceTree) → SaysSevered count place x (members.Here s) → x ≡ inner_item s
   here_made count place x s (SaysHere t held) = string_made false count place x t held
 
-  apart_made : (count place : ℕ) (x : DataItem) (m : Member) (bytes : List ℕ) → SaysSevered count place x m → m ≡ members.Apart (record { bytes = bytes }) → x ≡ digest_item bytes
+  apart_made : (count place : ℕ) (x : DataItem) (m : Member) (digest : Digest) → SaysSevered count place x m → m ≡ members.Apart digest → x ≡ digest_item digest
   apart_made count place x m bytes (SaysHere t held) is = absurd cc
-  apart_made count place x m bytes (SaysApart digest so) is = so.is ∙ ap (λ (d : Digest). digest_item d.bytes) (let same : ◌≡◌ {A = Digest} (record { bytes = digest }) (record { bytes = bytes }) = cc in same)
+  apart_made count place x m digest (SaysApart said so) is = so.is ∙ ap digest_item (let same : said ≡ digest = cc in same)
 
   severed_made : (count n place : ℕ) (ps : DataPairs) (m : Member) → SeveredUnder n count (entries place ps) m → value_in n ps ≡ severed_item m
   severed_made count n place ps members.Empty said = absent n place ps said
   severed_made count n place ps (members.Here s) said = found n place ps said.entry (inner_item s) said.there (here_made count said.entry.value_place said.entry.value s said.says_so)
   severed_made count n place ps (members.Apart digest) said =
-      found n place ps said.entry (digest_item digest.bytes) said.there (apart_made count said.entry.value_place said.entry.value (members.Apart digest) digest.bytes said.says_so refl)
+      found n place ps said.entry (digest_item digest) said.there (apart_made count said.entry.value_place said.entry.value (members.Apart digest) digest said.says_so refl)
 
   text_here_made : (place : ℕ) (x : DataItem) (t : TextMember) (content : List ℕ) → SaysTextMember place x t → t ≡ texts.Here content → x ≡ ByteString content
   text_here_made place x t content (SaysTextHere y held) is = held.is ∙ ap ByteString cc
   text_here_made place x t content (SaysTextApart digest so) is = absurd cc
 
-  text_apart_made : (place : ℕ) (x : DataItem) (t : TextMember) (bytes : List ℕ) → SaysTextMember place x t → t ≡ texts.Apart (record { bytes = bytes }) → x ≡ digest_item bytes
+  text_apart_made : (place : ℕ) (x : DataItem) (t : TextMember) (digest : Digest) → SaysTextMember place x t → t ≡ texts.Apart digest → x ≡ digest_item digest
   text_apart_made place x t bytes (SaysTextHere y held) is = absurd cc
-  text_apart_made place x t bytes (SaysTextApart digest so) is = so.is ∙ ap (λ (d : Digest). digest_item d.bytes) (let same : ◌≡◌ {A = Digest} (record { bytes = digest }) (record { bytes = bytes }) = cc in same)
+  text_apart_made place x t digest (SaysTextApart said so) is = so.is ∙ ap digest_item (let same : said ≡ digest = cc in same)
 
   text_member_made : (place : ℕ) (ps : DataPairs) (t : TextMember) → TextUnder (entries place ps) t → value_in 23 ps ≡ text_member_item t
   text_member_made place ps texts.Empty said = absent 23 place ps said
   text_member_made place ps (texts.Here content) said = found 23 place ps said.entry (ByteString content) said.there (text_here_made said.entry.value_place said.entry.value (texts.Here content) content said.says_so refl)
   text_member_made place ps (texts.Apart digest) said =
-      found 23 place ps said.entry (digest_item digest.bytes) said.there (text_apart_made said.entry.value_place said.entry.value (texts.Apart digest) digest.bytes said.says_so refl)
+      found 23 place ps said.entry (digest_item digest) said.there (text_apart_made said.entry.value_place said.entry.value (texts.Apart digest) digest said.says_so refl)
 
   -- ---- the item
 

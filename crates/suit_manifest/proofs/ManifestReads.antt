@@ -7,6 +7,7 @@ use Rattle.det_cbor.specs.Heads.{head_bytes}
 use Rattle.det_cbor.specs.DataItem.{DataItem, ByteString, TextString, ArrayOf, MapOf, NullItem, DataPairs, spell, IsValidWithin}
 use Rattle.det_cbor.specs.HeadReading.{◌>>=◌}
 use Rattle.det_cbor.specs.Position.{Position}
+use Rattle.suit_params.specs.declared.digest.Digest.{Digest}
 use Rattle.suit_params.specs.declared.refusal.Refusal.{Refusal}
 use Rattle.suit_params.specs.declared.refusal.Why.TheVariants.{Trailing}
 use Rattle.suit_params.specs.Refusing.{refused, content_place}
@@ -62,21 +63,21 @@ text_read levels place (TextString text) valid =
     rw (item_head_read levels p (TextString text) [] valid (sym (append-nil (spell (TextString text)))), bytes_again q text [] refl, good_text text valid.1) refl
 text_read levels place x valid = rw (item_head_read levels (at place x) x [] valid (sym (append-nil (spell x)))) refl
 
-abbrev made_apart : List ℕ → Result Member Refusal
-made_apart d = Ok (members.Apart (record { bytes = d }))
+abbrev made_apart : Digest → Result Member Refusal
+made_apart d = Ok (members.Apart d)
 
 abbrev made_here : SequenceTree → Result Member Refusal
 made_here s = Ok (members.Here s)
 
-abbrev made_text : List ℕ → Result TextMember Refusal
-made_text d = Ok (texts.Apart (record { bytes = d }))
+abbrev made_text : Digest → Result TextMember Refusal
+made_text d = Ok (texts.Apart d)
 
 severed_read : (count : ℕ) → ReadsAs (severed_at count) (judge_severed count)
 unfolding severed_at
 severed_read count levels place x valid =
     by_kind Member (λ (y : DataItem). IsValidWithin levels y → severed_at count (at place y) ≡ judge_severed count place y)
     (λ items v. rw (item_head_read levels (at place (ArrayOf items)) (ArrayOf items) [] v (sym (append-nil (spell (ArrayOf items)))))
-    (ap (λ (r : Result (List ℕ) Refusal). r >>= made_apart) (digest_read levels (ArrayOf items) place v)))
+    (ap (λ (r : Result Digest Refusal). r >>= made_apart) (digest_read levels (ArrayOf items) place v)))
     (λ y o v. rw (item_head_read levels (at place y) y [] v (sym (append-nil (spell y))), o.read (apart_at (at place y)) (here_at count (at place y)), o.judged judge_held_apart (judge_here count) place)
     (ap (λ (r : Result SequenceTree Refusal). r >>= made_here) (held_sequence_reads false count levels place y v)))
     x valid
@@ -112,7 +113,7 @@ unfolding text_member_at
 text_member_read levels place x valid =
     by_kind TextMember (λ (y : DataItem). IsValidWithin levels y → text_member_at (at place y) ≡ judge_text_member place y)
     (λ items v. rw (item_head_read levels (at place (ArrayOf items)) (ArrayOf items) [] v (sym (append-nil (spell (ArrayOf items)))))
-    (ap (λ (r : Result (List ℕ) Refusal). r >>= made_text) (digest_read levels (ArrayOf items) place v)))
+    (ap (λ (r : Result Digest Refusal). r >>= made_text) (digest_read levels (ArrayOf items) place v)))
     (λ y o v. rw (item_head_read levels (at place y) y [] v (sym (append-nil (spell y))), o.read (text_apart_at (at place y)) (text_here_at (at place y)), o.judged judge_text_apart judge_text_here place)
     (text_here_read levels place y v))
     x valid

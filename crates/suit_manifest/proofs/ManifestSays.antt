@@ -3,9 +3,11 @@ use Rattle.std.proofs.Common.{◌≡◌, ℕ, Bool, true, false, List, Option, S
 use Rattle.std.specs.Prelude.{IfSome}
 use Rattle.std.specs.List.{AllByRecursion}
 use Rattle.det_cbor.specs.DataItem.{ByteString, TextString, UnsignedInteger, ArrayOf, spell}
+use Rattle.suit_params.specs.declared.digest.Digest.{Digest}
 use Rattle.suit_params.specs.Refusing.{SaysHeld, content_place}
 use Rattle.suit_params.specs.Params.{pairs_place}
-use Rattle.suit_params.specs.Digests.{digest_item, IsDigest, IsDigestBytes}
+use Rattle.suit_params.specs.DigestBytes.{IsDigestBytes}
+use Rattle.suit_params.specs.Digests.{digest_item, IsDigest}
 use Rattle.suit_commands.specs.Allowed.{levels_allowed}
 use Rattle.suit_commands.specs.Selections.{Among}
 use Rattle.suit_commands.specs.Tree.{SequenceTree}
@@ -45,7 +47,7 @@ text_under : (n low place : ℕ) (rows : List Row) (o : Option (List ℕ)) → A
 text_under n low place rows None up is = absent_among n low place rows up is
 text_under n low place rows (Some text) up is = says_among SaysText n place rows (TextString text) text is refl
 
-digest_says : (place : ℕ) (digest : List ℕ) → IsDigestBytes digest → IsDigest place (digest_item digest) digest
+digest_says : (place : ℕ) (digest : Digest) → IsDigestBytes digest → IsDigest place (digest_item digest) digest
 digest_says place digest fits = record { is = refl; long = fits.0 }
 
 severed_under : (count n low place : ℕ) (rows : List Row) (m : Member) → Ascend low rows → value_among n rows ≡ severed_item m → SeveredFits m → IsSevered count m
@@ -55,7 +57,7 @@ severed_under count n low place rows (members.Here s) up is fits severed =
     let at : ℕ = place_among n place rows in
     says_among (SaysSevered count) n place rows (inner_item s) (members.Here (placed (first_code at s) s)) is (SaysHere (placed (first_code at s) s) (held_says false count at s fits severed))
 severed_under count n low place rows (members.Apart digest) up is fits severed =
-    says_among (SaysSevered count) n place rows (digest_item digest.bytes) (members.Apart digest) is (SaysApart digest.bytes (digest_says (place_among n place rows) digest.bytes fits))
+    says_among (SaysSevered count) n place rows (digest_item digest) (members.Apart digest) is (SaysApart digest (digest_says (place_among n place rows) digest fits))
 
 text_member_under : (low place : ℕ) (rows : List Row) (t : TextMember) → Ascend low rows → value_among 23 rows ≡ text_member_item t → TextFits t → IsTextMember t
     → TextUnder (entries place (row_pairs rows)) t
@@ -64,7 +66,7 @@ text_member_under low place rows (texts.Here content) up is fits text =
     says_among SaysTextMember 23 place rows (ByteString content) (texts.Here content) is
     (SaysTextHere text.0 (record { content = content; is = refl; holds = record { item = text.0; spells = text.1; says_so = refl } }))
 text_member_under low place rows (texts.Apart digest) up is fits text =
-    says_among SaysTextMember 23 place rows (digest_item digest.bytes) (texts.Apart digest) is (SaysTextApart digest.bytes (digest_says (place_among 23 place rows) digest.bytes fits))
+    says_among SaysTextMember 23 place rows (digest_item digest) (texts.Apart digest) is (SaysTextApart digest (digest_says (place_among 23 place rows) digest fits))
 
 -- ---- the common part
 

@@ -3,7 +3,7 @@ use Rattle.std.proofs.Common.{◌≡◌, ℕ, List, [], ◌∷◌, length, Optio
 use Rattle.std.specs.Prelude.{IfSome}
 use Rattle.std.specs.List.{AllByRecursion}
 use Rattle.det_cbor.specs.DataItem.{ArrayOf, item_count, IsString, IsValid, IsValidWithin, AreValidWithin}
-use Rattle.suit_params.specs.Digests.{digest_item, IsDigestBytes}
+use Rattle.suit_params.proofs.DigestSpelled.{digest_valid}
 use Rattle.suit_commands.specs.Tree.{SequenceTree}
 use Rattle.suit_manifest.specs.declared.manifest.Manifest.{Manifest}
 use Rattle.suit_manifest.specs.declared.manifest.Member.{Member}
@@ -38,9 +38,6 @@ components_valid ids fit = (omega arith, omega (arith, identifiers_counted ids, 
 
 -- ---- values
 
-digest_valid : (digest : List ℕ) → IsDigestBytes digest → IsValidWithin 1 (digest_item digest)
-digest_valid digest fits = (omega arith, omega arith, (omega arith, ((omega (arith, fits.0), fits.1), tt)))
-
 text_valid : (o : Option (List ℕ)) → IfSome o IsUtf8String → IfSome (text_item o) (IsValidWithin 1)
 text_valid None fits = tt
 text_valid (Some text) fits = fits
@@ -52,12 +49,12 @@ held_valid (Some s) fits = fits.0
 severed_valid : (m : Member) → SeveredFits m → IfSome (severed_item m) (IsValidWithin 1)
 severed_valid members.Empty fits = tt
 severed_valid (members.Here s) fits = fits.0
-severed_valid (members.Apart digest) fits = digest_valid digest.bytes fits
+severed_valid (members.Apart digest) fits = digest_valid 1 digest (omega arith) fits
 
 text_member_valid : (t : TextMember) → TextFits t → IfSome (text_member_item t) (IsValidWithin 1)
 text_member_valid texts.Empty fits = tt
 text_member_valid (texts.Here content) fits = fits
-text_member_valid (texts.Apart digest) fits = digest_valid digest.bytes fits
+text_member_valid (texts.Apart digest) fits = digest_valid 1 digest (omega arith) fits
 
 -- ---- the maps
 

@@ -4,6 +4,7 @@ use Rattle.std.proofs.lemmas.Bool.{eqb-true, eqb-false, ne_eqb, eq-eqb}
 use Rattle.det_cbor.specs.DataItem.{DataItem, UnsignedInteger, ByteString, TextString, ArrayOf, DataItems, IsValidWithin}
 use Rattle.det_cbor.specs.HeadReading.{◌>>=◌}
 use Rattle.det_cbor.specs.ResultLaws.{chosen, bind_ok, bind_err, same_ok, same_err, not_both}
+use Rattle.suit_params.specs.declared.digest.Digest.{Digest}
 use Rattle.suit_params.specs.declared.refusal.Refusal.{Refusal}
 use Rattle.suit_params.specs.declared.refusal.Why.TheVariants.{Shape, Version}
 use Rattle.suit_params.specs.Refusing.{refused, Refuses, SaysHeld, NoString, content_place}
@@ -133,8 +134,8 @@ by_kind A P array other (ArrayOf xs) = array xs
 by_kind A P array other x = other x (record { other = λ h. h; judged = λ f g place. refl; read = λ a b. refl })
 
 -- the meanings and refusals of both
-module _ (A B : Type 0) (make : List ℕ → A) (keep : B → A) (judge : ℕ → DataItem → Result B Refusal) (says : ℕ → DataItem → B → Type 0) (form : ℕ → DataItem → Refusal → Type 0) (law : Judges judge says form)
-    (both : ℕ → DataItem → A → Type 0) (apart : (place : ℕ) (x : DataItem) (d : List ℕ) → IsDigest place x d → both place x (make d)) (here : (place : ℕ) (x : DataItem) (b : B) → says place x b → both place x (keep b)) where
+module _ (A B : Type 0) (make : Digest → A) (keep : B → A) (judge : ℕ → DataItem → Result B Refusal) (says : ℕ → DataItem → B → Type 0) (form : ℕ → DataItem → Refusal → Type 0) (law : Judges judge says form)
+    (both : ℕ → DataItem → A → Type 0) (apart : (place : ℕ) (x : DataItem) (d : Digest) → IsDigest place x d → both place x (make d)) (here : (place : ℕ) (x : DataItem) (b : B) → says place x b → both place x (keep b)) where
   abbrev judge_digests : ℕ → DataItem → Result A Refusal
   judge_digests place x = judge_digest place x >>= λ d. Ok (make d)
 
@@ -165,7 +166,7 @@ module _ (A B : Type 0) (make : List ℕ → A) (keep : B → A) (judge : ℕ �
   or_refused place x r (BadDigest y s array bad) = digest_or place x array ∙ rw (digest_refused place x r bad) refl
   or_refused place x r (BadHeld y s other bad) = other_or place x other ∙ rw (law.refuses place x r bad) refl
 
-  pub apart_again : (place : ℕ) (x : DataItem) (d : List ℕ) → IsDigest place x d → judge_or judge_digests judge_others place x ≡ Ok (make d)
+  pub apart_again : (place : ℕ) (x : DataItem) (d : Digest) → IsDigest place x d → judge_or judge_digests judge_others place x ≡ Ok (make d)
   apart_again place x d so = digest_or place x (subst IsArray (sym so.is) tt) ∙ rw (digest_again place x d so) refl
 
   pub here_again : (place : ℕ) (x : DataItem) (b : B) → (IsArray x → ⊥) → says place x b → judge_or judge_digests judge_others place x ≡ Ok (keep b)
@@ -176,8 +177,8 @@ module _ (A B : Type 0) (make : List ℕ → A) (keep : B → A) (judge : ℕ �
 held_other : {A : Type 0} (says : ℕ → DataItem → A → Type 0) (place : ℕ) (x : DataItem) (a : A) → SaysHeld says place x a → IsArray x → ⊥
 held_other says place x a so array = subst IsArray so.is array
 
-abbrev apart_member : List ℕ → Member
-apart_member d = members.Apart (record { bytes = d })
+abbrev apart_member : Digest → Member
+apart_member d = members.Apart d
 
 abbrev here_member : SequenceTree → Member
 here_member s = members.Here s
@@ -189,7 +190,7 @@ module _ (count : ℕ) where
   abbrev refuses_member : ℕ → DataItem → Refusal → Type 0
   refuses_member place x r = RefusesMember count place x r
 
-  said_apart : (place : ℕ) (x : DataItem) (d : List ℕ) → IsDigest place x d → SaysSevered count place x (apart_member d)
+  said_apart : (place : ℕ) (x : DataItem) (d : Digest) → IsDigest place x d → SaysSevered count place x (apart_member d)
   said_apart place x d so = SaysApart d so
 
   said_here : (place : ℕ) (x : DataItem) (s : SequenceTree) → SaysMember count place x s → SaysSevered count place x (here_member s)
@@ -259,13 +260,13 @@ content_refused place x r bad =
 content_judges : Judges judge_content SaysContent RefusesItem
 content_judges = record { ok = content_ok; again = content_again; err = content_err; refuses = content_refused }
 
-abbrev apart_text : List ℕ → TextMember
-apart_text d = texts.Apart (record { bytes = d })
+abbrev apart_text : Digest → TextMember
+apart_text d = texts.Apart d
 
 abbrev here_text : List ℕ → TextMember
 here_text content = texts.Here content
 
-text_apart : (place : ℕ) (x : DataItem) (d : List ℕ) → IsDigest place x d → SaysTextMember place x (apart_text d)
+text_apart : (place : ℕ) (x : DataItem) (d : Digest) → IsDigest place x d → SaysTextMember place x (apart_text d)
 text_apart place x d so = SaysTextApart d so
 
 text_here : (place : ℕ) (x : DataItem) (content : List ℕ) → SaysContent place x content → SaysTextMember place x (here_text content)

@@ -50,7 +50,7 @@ judge_or array other place (ArrayOf items) = array place (ArrayOf items)
 judge_or array other place x = other place x
 
 abbrev pub judge_held_apart : ℕ → DataItem → Result Member Refusal
-judge_held_apart place x = judge_digest place x >>= λ d. Ok (members.Apart (record { bytes = d }))
+judge_held_apart place x = judge_digest place x >>= λ d. Ok (members.Apart d)
 
 abbrev pub judge_here : ℕ → ℕ → DataItem → Result Member Refusal
 judge_here count place x = judge_member count place x >>= λ s. Ok (members.Here s)
@@ -59,7 +59,7 @@ abbrev pub judge_severed : ℕ → ℕ → DataItem → Result Member Refusal
 judge_severed count = judge_or judge_held_apart (judge_here count)
 
 abbrev pub judge_text_apart : ℕ → DataItem → Result TextMember Refusal
-judge_text_apart place x = judge_digest place x >>= λ d. Ok (texts.Apart (record { bytes = d }))
+judge_text_apart place x = judge_digest place x >>= λ d. Ok (texts.Apart d)
 
 abbrev pub judge_item : ℕ → DataItem → Result DataItem Refusal
 judge_item place x = Ok x

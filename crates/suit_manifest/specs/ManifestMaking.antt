@@ -63,12 +63,12 @@ held_item (Some s) = Some (inner_item s)
 abbrev pub severed_item : Member → Option DataItem
 severed_item members.Empty = None
 severed_item (members.Here s) = Some (inner_item s)
-severed_item (members.Apart digest) = Some (digest_item digest.bytes)
+severed_item (members.Apart digest) = Some (digest_item digest)
 
 abbrev pub text_member_item : TextMember → Option DataItem
 text_member_item texts.Empty = None
 text_member_item (texts.Here content) = Some (ByteString content)
-text_member_item (texts.Apart digest) = Some (digest_item digest.bytes)
+text_member_item (texts.Apart digest) = Some (digest_item digest)
 
 -- ---- the manifest, whose common part is an item of its own in a byte string
 

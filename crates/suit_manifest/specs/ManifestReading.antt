@@ -56,7 +56,7 @@ array_or array other kinds.Array = array
 array_or array other _ = other
 
 abbrev pub apart_at : Position → Result Member Refusal
-apart_at p = digest_at p >>= λ d. Ok (members.Apart (record { bytes = d }))
+apart_at p = digest_at p >>= λ d. Ok (members.Apart d)
 
 abbrev pub here_at : ℕ → Position → Result Member Refusal
 here_at count p = member_at count p >>= λ s. Ok (members.Here s)
@@ -65,7 +65,7 @@ unfoldable pub severed_at : ℕ → Position → Result Member Refusal
 severed_at count p = head_from p >>= λ h. array_or (apart_at p) (here_at count p) h.0.kind
 
 abbrev pub text_apart_at : Position → Result TextMember Refusal
-text_apart_at p = digest_at p >>= λ d. Ok (texts.Apart (record { bytes = d }))
+text_apart_at p = digest_at p >>= λ d. Ok (texts.Apart d)
 
 abbrev pub text_here_at : Position → Result TextMember Refusal
 text_here_at p = content_from p >>= λ c. only_from c.0 >>= λ _. Ok (texts.Here c.0.left)

@@ -4,7 +4,7 @@ use Rattle.std.specs.List.{AllByRecursion}
 use Rattle.std.specs.Str.{IsUtf8}
 use Rattle.det_cbor.specs.DataItem.{DataItem, spell, Spells, IsString}
 use Rattle.suit_params.specs.Refusing.{SaysWhole}
-use Rattle.suit_params.specs.Digests.{IsDigestBytes}
+use Rattle.suit_params.specs.DigestBytes.{IsDigestBytes}
 use Rattle.suit_commands.specs.Tree.{SequenceTree}
 use Rattle.suit_commands.specs.Allowed.{IsSequence, levels_allowed}
 use Rattle.suit_commands.specs.SequenceMaking.{sequence_item}
@@ -38,12 +38,12 @@ HeldFits s =
 abbrev pub SeveredFits : Member → Type 0
 SeveredFits members.Empty = Unit {0}
 SeveredFits (members.Here s) = HeldFits s
-SeveredFits (members.Apart digest) = IsDigestBytes digest.bytes
+SeveredFits (members.Apart digest) = IsDigestBytes digest
 
 abbrev pub TextFits : TextMember → Type 0
 TextFits texts.Empty = Unit {0}
 TextFits (texts.Here content) = IsString content
-TextFits (texts.Apart digest) = IsDigestBytes digest.bytes
+TextFits (texts.Apart digest) = IsDigestBytes digest
 
 pub record CommonFits (m : Manifest) : Type 0 where
   pub components : ComponentsFit m.components

@@ -1,6 +1,7 @@
 -- The manifest (draft-ietf-suit-manifest-25, section 8.4).
 use Rattle.std.specs.Prelude.{◌≡◌, ◌≢◌, ℕ, false, List, [], ◌∷◌, length, Option, None}
 use Rattle.det_cbor.specs.DataItem.{DataItem, UnsignedInteger, TextString}
+use Rattle.suit_params.specs.declared.digest.Digest.{Digest}
 use Rattle.suit_params.specs.declared.refusal.Refusal.{Refusal}
 use Rattle.suit_params.specs.declared.refusal.Why.TheVariants.{Shape, Version}
 use Rattle.suit_params.specs.Refusing.{refused, Refuses, Says, SaysHeld, RefusesHeld, RefusesFirst}
@@ -45,8 +46,8 @@ SaysMember count place x s = SaysHeld (SaysSequence false count levels_allowed) 
 pub data SaysSevered (count place : ℕ) (x : DataItem) : Member → Type 0 where
   SaysHere : (s : SequenceTree) → SaysMember count place x s
       → SaysSevered count place x (members.Here s)
-  SaysApart : (digest : List ℕ) → IsDigest place x digest
-      → SaysSevered count place x (members.Apart (record { bytes = digest }))
+  SaysApart : (digest : Digest) → IsDigest place x digest
+      → SaysSevered count place x (members.Apart digest)
 
 -- any one item
 abbrev pub SaysItem : Says DataItem
@@ -56,8 +57,8 @@ SaysItem place x said = x ≡ said
 pub data SaysTextMember (place : ℕ) (x : DataItem) : TextMember → Type 0 where
   SaysTextHere : (said : DataItem) (held : SaysHeld SaysItem place x said)
       → SaysTextMember place x (texts.Here held.content)
-  SaysTextApart : (digest : List ℕ) → IsDigest place x digest
-      → SaysTextMember place x (texts.Apart (record { bytes = digest }))
+  SaysTextApart : (digest : Digest) → IsDigest place x digest
+      → SaysTextMember place x (texts.Apart digest)
 
 abbrev pub SeveredUnder : ℕ → ℕ → List Entry → Member → Type 0
 SeveredUnder n count es members.Empty = entry_under n es ≡ None

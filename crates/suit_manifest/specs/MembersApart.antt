@@ -12,7 +12,7 @@ use Rattle.suit_commands.specs.Sequences.{SaysSequence}
 use Rattle.suit_commands.specs.SequenceFaults.{RefusesSequence}
 use Rattle.suit_envelope.specs.Envelopes.{EnvelopeSays}
 use Rattle.suit_envelope.specs.Places.{MembersEndBelow}
-use Rattle.suit_envelope.specs.Members.{member_of, string_digest}
+use Rattle.suit_envelope.specs.Members.{member_of, string_like}
 use Rattle.suit_envelope.specs.Said.{said_by}
 use Rattle.suit_envelope.specs.declared.envelope.Envelope.{Envelope}
 use Rattle.suit_envelope.specs.declared.severed.MemberName.{MemberName}
@@ -35,7 +35,7 @@ pub record IsTaken (count : ℕ) (held : Option (List ℕ)) (place : ℕ) (state
     (s : SequenceTree) : Type 0 where
   pub content : List ℕ
   pub there : held ≡ Some content
-  pub matches : string_digest content ≡ stated.bytes
+  pub matches : string_like stated content ≡ stated
   pub says_so : SaysWhole (SaysSequence false count levels_allowed) place content s
 
 -- a member is taken where the manifest states its digest, and nowhere else
@@ -50,10 +50,10 @@ pub data LacksTaken (name : MemberName) (count : ℕ) (held : Option (List ℕ))
     (stated : Digest) : MemberFault → Type 0 where
   IsSevered : held ≡ None → LacksTaken name count held place stated (Severed name)
   IsOther : (content : List ℕ) (found : Digest) → held ≡ Some content
-      → found.bytes ≡ string_digest content → found.bytes ≢ stated.bytes
+      → found ≡ string_like stated content → found ≢ stated
       → LacksTaken name count held place stated (Differs name stated found)
   IsNoSequence : (content : List ℕ) (r : Refusal) → held ≡ Some content
-      → string_digest content ≡ stated.bytes
+      → string_like stated content ≡ stated
       → RefusesWhole (RefusesSequence false count levels_allowed) place content r
       → LacksTaken name count held place stated (Refused r)
 

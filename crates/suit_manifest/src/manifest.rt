@@ -11,8 +11,7 @@ pub enum Member {
     Empty,
     /// The manifest holds it.
     Here(Sequence),
-    /// The manifest states its digest: the SHA-256 of the member's whole byte string in the
-    /// envelope.
+    /// The manifest states its digest: that of the member's whole byte string in the envelope.
     Apart(Digest),
 }
 

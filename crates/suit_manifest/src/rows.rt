@@ -2,7 +2,8 @@
 
 ghost use Rattle.std.specs.Prelude.{◌≡◌, ◌++◌, IfSome, OnOk};
 ghost use Rattle.det_cbor.specs.DataItem.{DataPairs, UnsignedInteger, spell, spell_pairs, IsString};
-ghost use Rattle.suit_params.specs.Digests.{digest_item, IsDigestBytes};
+ghost use Rattle.suit_params.specs.DigestBytes.{IsDigestBytes};
+ghost use Rattle.suit_params.specs.Digests.{digest_item};
 ghost use Rattle.suit_commands.specs.SequenceMaking.{inner_item};
 ghost use Rattle.suit_manifest.specs.ManifestMaking.{pair_then, text_item, held_item, severed_item, text_member_item};
 ghost use Rattle.suit_manifest.specs.ManifestWriting.{IsUtf8String, HeldFits, SeveredFits, TextFits};
@@ -34,8 +35,8 @@ fn push_here(
 fn push_apart(out: &mut Bytes, key: u64, digest: &Digest) -> Result<(), AllocError>
     ensures ok { OnOk result
         (out.new
-        ≡ out.old ++ (spell (UnsignedInteger key) ++ spell (digest_item digest.now.bytes))) }
-    ensures fits { OnOk result (IsDigestBytes digest.now.bytes) }
+        ≡ out.old ++ (spell (UnsignedInteger key) ++ spell (digest_item digest.now))) }
+    ensures fits { OnOk result (IsDigestBytes digest.now) }
 {
     push_number(out, key)?;
     push_digest(out, digest)?;

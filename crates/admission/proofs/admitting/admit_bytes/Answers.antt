@@ -1,8 +1,22 @@
 use Rattle.std.proofs.Common.{refl}
 use Rattle.std.proofs.lemmas.Result.{err_from_is_err_and}
 use Rattle.suit_envelope.specs.Said.{said_by}
-use Rattle.admission.proofs.Refusing.{members_not_admitted, procedures_not_admitted}
+use Rattle.admission.proofs.Refusing.{component_not_admitted, manifest_not_admitted, members_not_admitted, procedures_not_admitted}
 use Rattle.admission.proofs.admitting.admit_bytes.Goals as goal
+
+pub returns-in_err-manifest-clause-refused : goal.returns-in_err-manifest-clause-refused
+returns-in_err-manifest-clause-refused c =
+    let p = err_from_is_err_and c.from_residual-in_err-manifest.result c.from_residual-in_err-manifest.ensures.1 in
+    rw (p.1, p.2) (manifest_not_admitted c.args.layout.now c.args.key.now c.args.bytes.now (said_by c.in_ok-envelope.envelope)
+    (record { within = c.in_ok-envelope.ensures.within; authentic = c.in_ok-authenticated.ensures.authentic refl })
+    c.in_err-manifest.field-0.0 c.in_err-manifest.ensures.refused)
+
+pub returns-in_err-places-clause-refused : goal.returns-in_err-places-clause-refused
+returns-in_err-places-clause-refused c =
+    let p = err_from_is_err_and c.from_residual-in_err-places.result c.from_residual-in_err-places.ensures.1 in
+    rw (p.1, p.2) (λ some. component_not_admitted c.args.layout.now c.args.key.now c.args.bytes.now (said_by c.in_ok-envelope.envelope) c.in_ok-manifest.manifest
+    (record { are_authentic = record { within = c.in_ok-envelope.ensures.within; authentic = c.in_ok-authenticated.ensures.authentic refl }; says = c.in_ok-manifest.ensures.says })
+    c.in_err-places.field-0.0.component c.in_err-places.ensures.unknown)
 
 pub returns-in_err-members-clause-refused : goal.returns-in_err-members-clause-refused
 returns-in_err-members-clause-refused c =

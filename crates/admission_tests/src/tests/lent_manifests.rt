@@ -1,7 +1,6 @@
-//! The tests: the manifest of a first envelope, at its place there, and with another byte at each
-//! place.
+//! The manifest of the stored envelope, lent at its place there, and with another byte at each place.
 
-use crate::ManifestView;
+use manifest_view::ManifestView;
 use std::alloc::{AllocError, Global};
 use suit_manifest::decode_manifest;
 use suit_params::Fault;
