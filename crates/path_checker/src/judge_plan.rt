@@ -31,7 +31,6 @@ mod reuse;
 mod same_param;
 mod selected;
 mod sets;
-mod sip;
 mod standing;
 mod straight;
 mod trace;

@@ -5,7 +5,8 @@ use lib.Pointwise.{bytes_decides}
 use Rattle.std.specs.Prelude.{◌==◌, nat_le, ◌&&◌, if◌then◌else◌, option_to_list}
 use Rattle.std.specs.Option.{option_and_then}
 use Rattle.std.specs.Str.{bytes_eq}
-use Rattle.sha2.specs.Sha256.{sha256}
+use Rattle.suit_params.specs.DigestLaws.{has_decides}
+use Rattle.suit_params.specs.Hashes.{hash_like, has_digest}
 use Rattle.suit_params.specs.declared.digest.Digest.{Digest}
 use Rattle.suit_params.specs.declared.param.ParamKey.TheVariants as keys
 use Rattle.suit_params.specs.InForce.{in_force, number_of, bytes_of, digest_in, size_in}
@@ -55,7 +56,7 @@ fits_so (Some m) content has = eq-eqb (length content) m (has m refl)
 record IsImageOf (digest : Option Digest) (size : Option ℕ) (content : List ℕ) : Type 0 where
   is : Digest
   named : digest ≡ Some is
-  has : sha256 content ≡ is.bytes
+  has : hash_like is content ≡ is
   long : (n : ℕ) → size ≡ Some n → length content ≡ n
 
 image_passed : (p c : ℕ) (size : Option ℕ) (s : State) (w : Device) (digest : Option Digest) → (matched p c size s w digest).ending ≡ Done s → IsImageOf digest size (content_at w c)
@@ -63,11 +64,11 @@ image_passed p c size s w None e = absurd (failed_or_done s p s.soft_failure e)
 image_passed p c size s w (Some d) e =
     let content : List ℕ = content_at w c in
     let image = passed_so p (Matched c d size) (Missed c) s w (is_image d size content) e in
-    let same : Bool = bytes_eq (sha256 content) d.bytes in
+    let same : Bool = has_digest d content in
     record {
       is = d;
       named = refl;
-      has = (bytes_decides (sha256 content) d.bytes).0 (first_true same (fits_size size content) image);
+      has = (has_decides d content).0 (first_true same (fits_size size content) image);
       long = fits size content (second_true same (fits_size size content) image);
     }
 
@@ -78,8 +79,8 @@ passed_image p c size s w (Some d) image =
     let content : List ℕ = content_at w c in
     let same : d ≡ image.is = ap (the_digest d) image.named in
     so_passed p (Matched c d size) (Missed c) s w (is_image d size content)
-    (and_from (bytes_eq (sha256 content) d.bytes) (fits_size size content)
-    ((bytes_decides (sha256 content) d.bytes).1 (image.has ∙ ap (λ (x : Digest). x.bytes) (sym same))) (fits_so size content image.long))
+    (and_from (has_digest d content) (fits_size size content)
+    ((has_decides d content).1 (ap (λ (x : Digest). hash_like x content) same ∙ image.has ∙ sym same)) (fits_so size content image.long))
 
 content_passed : (wanted : Option (List ℕ)) (content : List ℕ) → is_content wanted content ≡ true → wanted ≡ Some content
 content_passed None content e = absurd (true≢false (sym e))

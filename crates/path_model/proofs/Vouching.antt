@@ -1,11 +1,10 @@
 -- While each invoke is covered, a content whose match stands is the image that was matched, and so is what is launched.
 use Rattle.std.proofs.Common.{◌≡◌, ◌≢◌, ℕ, Bool, true, false, List, [], ◌∷◌, ◌++◌, Option, Some, None, refl, sym, ap, subst, ◌∙◌, append_assoc, inl, inr, get_or-set_other}
 use Rattle.std.proofs.lemmas.List.{append-nil}
-use lib.Pointwise.{bytes_decides}
 use Rattle.std.specs.Prelude.{◌==◌, nat_le, ◌&&◌, if◌then◌else◌, length}
 use Rattle.std.specs.List.{AllByRecursion}
-use Rattle.std.specs.Str.{bytes_eq}
-use Rattle.sha2.specs.Sha256.{sha256}
+use Rattle.suit_params.specs.DigestLaws.{has_decides}
+use Rattle.suit_params.specs.Hashes.{has_digest}
 use Rattle.suit_params.specs.declared.digest.Digest.{Digest}
 use Rattle.suit_params.specs.declared.param.Param.{Param}
 use Rattle.suit_params.specs.declared.param.ParamKey.TheVariants as keys
@@ -125,12 +124,12 @@ its_digest past w c None size args covered v = absurd covered
 its_digest past w c (Some d) size args covered v =
     let image = v.matches c d size covered in
     let content : List ℕ = content_at w c in
-    let same : Bool = bytes_eq (sha256 content) d.bytes in
+    let same : Bool = has_digest d content in
     let sized : Bool = fits_size size content in
     record {
       digest = d;
       named = refl;
-      has = (bytes_decides (sha256 content) d.bytes).0 (first_true same sized image);
+      has = (has_decides d content).0 (first_true same sized image);
       size = fits size content (second_true same sized image);
     }
 

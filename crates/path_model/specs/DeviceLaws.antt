@@ -1,7 +1,7 @@
 -- Laws of conditions and directives on contents: when each succeeds, why it fails, and what it leaves
 -- (draft-ietf-suit-manifest-25, sections 8.4.9 and 8.4.10, and this project's own choices).
 use Rattle.std.specs.Prelude.{◌≡◌, ◌≢◌, ◌↔◌, ◌⊎◌, ◌<◌, ◌≤◌, ℕ, List, [], ◌∷◌, ◌++◌, Option, Some, None, length}
-use Rattle.sha2.specs.Sha256.{sha256}
+use Rattle.suit_params.specs.Hashes.{hash_like}
 use Rattle.suit_params.specs.declared.digest.Digest.{Digest}
 use Rattle.suit_params.specs.declared.param.ParamKey.{ParamKey}
 use Rattle.suit_params.specs.declared.param.ParamKey.TheVariants as keys
@@ -23,7 +23,7 @@ use Rattle.path_model.specs.DevicePlays.{Launched, Device, content_at, asking, c
 pub record HasImage (state : State) (device : Device) (component : ℕ) : Type 0 where
   pub digest : Digest
   pub named : digest_in state.parameters component ≡ Some digest
-  pub has : sha256 (content_at device component) ≡ digest.bytes
+  pub has : hash_like digest (content_at device component) ≡ digest
   pub size : (size : ℕ) → size_in state.parameters component ≡ Some size
       → length (content_at device component) ≡ size
 

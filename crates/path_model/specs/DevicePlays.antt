@@ -2,7 +2,7 @@
 -- (draft-ietf-suit-manifest-25, sections 8.4.9 and 8.4.10, and this project's own choices).
 use Rattle.std.specs.Prelude.{◌≡◌, ◌≤◌, ℕ, ◌==◌, nat_le, if◌then◌else◌, ◌&&◌, ◌⊎◌, Bool, true, false, List, [], ◌∷◌, ◌++◌, Option, Some, None, IsSome, get_or, length, slice_get, slice_set}
 use Rattle.std.specs.Str.{bytes_eq}
-use Rattle.sha2.specs.Sha256.{sha256}
+use Rattle.suit_params.specs.Hashes.{has_digest}
 use Rattle.suit_params.specs.declared.digest.Digest.{Digest}
 use Rattle.suit_params.specs.declared.param.ParamKey.{ParamKey}
 use Rattle.suit_params.specs.declared.param.ParamKey.TheVariants as keys
@@ -93,8 +93,9 @@ abbrev pub fits_size : Option ℕ → List ℕ → Bool
 fits_size None content = true
 fits_size (Some size) content = length content == size
 
+-- the content has the digest, and the size where one is
 abbrev pub is_image : Digest → Option ℕ → List ℕ → Bool
-is_image digest size content = bytes_eq (sha256 content) digest.bytes && fits_size size content
+is_image digest size content = has_digest digest content && fits_size size content
 
 abbrev pub matched : ℕ → ℕ → Option ℕ → State → Device → Option Digest → Outcome Device
 matched place component size state device None =

@@ -1,7 +1,7 @@
 -- Laws of plays on the contents of a device.
 use Rattle.std.specs.Prelude.{◌≡◌, ℕ, List, ◌++◌, Option, Some, None, length}
 use Rattle.std.specs.List.{AllByRecursion}
-use Rattle.sha2.specs.Sha256.{sha256}
+use Rattle.suit_params.specs.Hashes.{hash_like}
 use Rattle.suit_params.specs.declared.digest.Digest.{Digest}
 use Rattle.suit_commands.specs.Tree.{PlanTree}
 use Rattle.path_model.specs.Path.{AreIdentities, RunsPlan, Path, first_state}
@@ -43,7 +43,7 @@ FaultedAsksFirst =
 pub record HasItsDigest (launch : Launched) : Type 0 where
   pub digest : Digest
   pub named : launch.digest ≡ Some digest
-  pub has : sha256 launch.bytes ≡ digest.bytes
+  pub has : hash_like digest launch.bytes ≡ digest
   pub size : (size : ℕ) → launch.size ≡ Some size → length launch.bytes ≡ size
 
 -- so it is with every launch of a safe procedure

@@ -9,7 +9,7 @@ use crate::judge_plan::matches::Match;
 use std::alloc::{AllocError, Global};
 
 // How far down a match is searched.
-const DEEPEST: u32 = 512;
+const DEEPEST: u32 = 576;
 
 // As long as there are so few, the tree begins with the first match.
 const FEW: usize = 16;

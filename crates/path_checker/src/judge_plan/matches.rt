@@ -7,9 +7,9 @@ ghost use Rattle.path_checker.specs.Matches.{Match as TheMatch, match_of, matche
 use crate::judge_plan::links::{Ended, Links};
 use crate::judge_plan::memory::Memory;
 use crate::judge_plan::same_param::same_digest;
-use crate::judge_plan::sip::Sip;
 use path_model::Event;
 use std::alloc::{AllocError, Global};
+use std::hash::{DefaultHasher, Hasher};
 use std::marker::Model;
 use std::rc::Rc;
 use suit_params::Digest;
@@ -22,13 +22,22 @@ pub(crate) struct Match<'a> {
     print: u64,
 }
 
-// No matches are easily found that have one fingerprint.
+// By SipHash: no matches are easily found that have one fingerprint.
 fn print_of(digest: &Digest, size: Option<u64>) -> u64 {
-    let sip = Sip::new().with_bytes(&digest.bytes[..]);
-    match size {
-        Some(size) => sip.with(size).print(),
-        None => sip.print(),
+    let mut hasher = DefaultHasher::new();
+    hasher.write(digest.bytes());
+    if let Some(size) = size {
+        hasher.write_u64(size);
     }
+    hasher.finish()
+}
+
+// A bit of a digest. Behind the last one they come again.
+fn bit_of(digest: &Digest, depth: u32) -> Option<bool> {
+    let bytes = digest.bytes();
+    let place = (depth as usize / 8).checked_rem(bytes.len())?;
+    let byte = bytes.get(place)?;
+    Some((*byte >> (depth % 8)) & 1 == 1)
 }
 
 impl<'a> Match<'a> {
@@ -113,10 +122,7 @@ impl<'a> Match<'a> {
         if depth < 64 {
             return (self.print >> depth) & 1 == 1;
         }
-        match self.digest.bytes.get((depth / 8 % 32) as usize) {
-            Some(byte) => (*byte >> (depth % 8)) & 1 == 1,
-            None => false,
-        }
+        bit_of(self.digest, depth).unwrap_or(false)
     }
 }
 

@@ -10,7 +10,7 @@ use suit_params::{Digest, Param, ParamList};
 pub(crate) fn same_digest(one: &Digest, other: &Digest) -> bool
     ensures { IsTrue result ↔ (one.now ≡ other.now) }
 {
-    same_bytes(&one.bytes[..], &other.bytes[..])
+    same_bytes(one.bytes(), other.bytes())
 }
 
 /// Whether both are absent, or both are there and equal.

@@ -32,7 +32,7 @@ impl<'a> StandingMatches<'a> {
     pub(crate) fn new(alloc: Global) -> Result<StandingMatches<'a>, AllocError>
         ensures { IfOk result (λ standing. (component : ℕ) → held_of standing component ≡ []) }
     {
-        let mut of = Vec::new(alloc);
+        let mut of = Vec::with_capacity(alloc, 8)?;
         for _ in 0..8_u32 {
             of.push(None)?;
         }
@@ -43,7 +43,7 @@ impl<'a> StandingMatches<'a> {
     pub(crate) fn copy(&self, alloc: Global) -> Result<StandingMatches<'a>, AllocError>
         ensures { IfOk result (λ other. other.of.items ≡ self.now.of.items) }
     {
-        let mut of = Vec::new(alloc);
+        let mut of = Vec::with_capacity(alloc, self.of.len())?;
         for held in self.of.as_slice() {
             of.push(shared(held)?)?;
         }

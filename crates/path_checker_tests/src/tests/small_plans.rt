@@ -12,12 +12,12 @@ use path_model::{BadPath, Event, Identity, first_uncovered};
 use std::alloc::{AllocError, Global};
 use suit_commands::{Plan, Sequence, width};
 
-// Each with two values.
+// Each with two values. The digests are by SHA-256 and SHA-384, of the same letters.
 const PARAMS: [[&[u8]; 2]; 8] = [
     [b"\x01\x50aaaaaaaaaaaaaaaa", b"\x01\x50bbbbbbbbbbbbbbbb"],
     [
         b"\x03\x58\x24\x82\x2f\x58\x20aaaaaaaaaaaaaaaaaaaaaaaaaaaaaaaa",
-        b"\x03\x58\x24\x82\x2f\x58\x20bbbbbbbbbbbbbbbbbbbbbbbbbbbbbbbb",
+        b"\x03\x58\x35\x82\x38\x2a\x58\x30aaaaaaaaaaaaaaaaaaaaaaaaaaaaaaaaaaaaaaaaaaaaaaaa",
     ],
     [b"\x05\x00", b"\x05\x01"],
     [b"\x0d\xf4", b"\x0d\xf5"],

@@ -19,7 +19,7 @@ struct Worked<'a> {
     count: u32,
 }
 
-// ---- parts. The digests are 32 letters a or b.
+// ---- parts. The digests are letters a or b, 32 where nothing else is said.
 
 const SHARED: &[u8] =
     b"\x82\x14\xa2\x03\x58\x24\x82\x2f\x58\x20aaaaaaaaaaaaaaaaaaaaaaaaaaaaaaaa\x0e\x03";
@@ -215,6 +215,13 @@ const SETS_AGAIN: &[u8] =
 const SETS_OTHER: &[u8] =
     b"\x84\x14\xa1\x03\x58\x24\x82\x2f\x58\x20bbbbbbbbbbbbbbbbbbbbbbbbbbbbbbbb\x17\x0f";
 
+// By SHA-512, with the same letters and 32 more.
+const SETS_LONGER: &[u8] =
+    b"\x84\x14\xa1\x03\x58\x45\x82\x38\x2b\x58\x40aaaaaaaaaaaaaaaaaaaaaaaaaaaaaaaaaaaaaaaaaaaaaaaaaaaaaaaaaaaaaaaa\x17\x0f";
+
+const MATCHES_LONGER: &[u8] =
+    b"\x84\x14\xa1\x03\x58\x45\x82\x38\x2b\x58\x40aaaaaaaaaaaaaaaaaaaaaaaaaaaaaaaaaaaaaaaaaaaaaaaaaaaaaaaaaaaaaaaa\x03\x0f";
+
 const MAYBE: &[u8] = b"\x82\x0f\x82\x43\x82\x03\x0f\xf6";
 
 const SOFTLY: &[u8] = b"\x82\x18\x20\x47\x84\x14\xa1\x0d\xf5\x03\x0f";
@@ -229,6 +236,9 @@ fn an_image_is_matched_before_its_invoke(rt: HostRuntime) -> Result<(), AllocErr
     assert!(rt; is_invocation(alloc, MATCH, b"", "safe at width 4")?);
     assert!(rt; is_invocation(alloc, MATCH, SETS_AGAIN, "safe at width 6")?);
     assert!(rt; is_invocation(alloc, MATCH, SETS_OTHER, "matched 0\ninvoked 0\n")?);
+    assert!(rt; is_invocation(alloc, MATCH, SETS_LONGER, "matched 0\ninvoked 0\n")?);
+    assert!(rt; is_invocation(alloc, MATCHES_LONGER, SETS_LONGER, "safe at width 7")?);
+    assert!(rt; is_invocation(alloc, MATCHES_LONGER, SETS_AGAIN, "matched 0\ninvoked 0\n")?);
     assert!(rt; is_invocation(alloc, MAYBE, INVOKE, "missed 0\nfailed 105\ninvoked 0\n")?);
     assert!(rt; is_invocation(alloc, SOFTLY, INVOKE, "missed 0\nfailed 109\ninvoked 0\n")?);
     assert!(rt; is_invocation(alloc, NOT_SOFTLY, INVOKE, "safe at width 14")?);
