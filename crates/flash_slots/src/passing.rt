@@ -2,41 +2,42 @@
 
 ghost use Rattle.flash_layout.specs.Slots.{LiesWithin, slot_content};
 ghost use Rattle.flash_slots.specs.Contents.{ResultCounts, pieces_of};
-ghost use Rattle.sha2.specs.Sha256.{sha256};
 ghost use Rattle.std.specs.Prelude.{◌≡◌, ◌↔◌, ◌<◌, ◌≤◌, IfOk, IsTrue, length};
 ghost use Rattle.suit_edge.specs.Flash.{Grows, IsSame};
+ghost use Rattle.suit_params.specs.Hashes.{hash};
 
 use crate::reading::{length, read_some};
 use flash_layout::{FlashFault, Slot};
 use lane_bytes::same;
-use sha2::{Digest as _, Sha256};
 use suit_edge::Disk;
+use suit_params::{Digest, DigestKind, Hasher};
 
-/// The SHA-256 of so many of the first bytes of the room for the content, which are read through the other room.
+/// The digest of so many of the first bytes of the room for the content, which are read through the other room.
 pub fn digest_some<D: Disk>(
     disk: &mut D,
     slot: Slot,
     size: u64,
+    kind: DigestKind,
     room: &mut [u8],
-) -> Result<[u8; 32], FlashFault>
+) -> Result<Digest, FlashFault>
     requires slot { LiesWithin (D.extent disk.old) slot }
     requires few { size ≤ slot.capacity }
     requires room { 0 < length room.old }
     ensures size { D.extent disk.new ≡ D.extent disk.old }
     ensures counts { ResultCounts result (D.faults disk.old) (D.faults disk.new) }
     ensures exact { IsTrue D.told
-        → IfOk result (λ d. d ≡ sha256 (pieces_of slot size (D.flash disk.old).reads)) }
+        → IfOk result (λ d. d ≡ hash kind (pieces_of slot size (D.flash disk.old).reads)) }
     ensures same { IsTrue D.told → IsSame (D.flash disk.old) (D.flash disk.new) }
     ensures grows { IsTrue D.told → Grows (D.flash disk.old) (D.flash disk.new) }
 {
-    let mut hasher = Sha256::new();
+    let mut hasher = Hasher::new(kind);
     let mut from: u64 = 0;
     while from < size {
         let count = read_some(disk, slot, size, from, room)?;
         hasher.update(&room[..count]);
         from += count as u64;
     }
-    Ok(hasher.finalize())
+    Ok(hasher.finish())
 }
 
 /// Whether the content equals these bytes. It is read through the room.

@@ -1,7 +1,9 @@
 -- A judgement of a manifest anywhere holds of it in the trimmed envelope.
 use Rattle.std.proofs.Common.{◌≡◌, ◌≤◌, ℕ, List, [], refl, sym, ap, subst, ◌∙◌, arith}
 use Rattle.det_cbor.specs.ResultLaws.{same_ok}
+use Rattle.suit_params.specs.declared.digest.Digest.{Digest}
 use Rattle.suit_envelope.specs.EnvelopeLaws.{EnvelopeLaws}
+use Rattle.suit_envelope.specs.Members.{string_like}
 use Rattle.suit_envelope.specs.Trimmed.{trimmed, trimmed_says}
 use Rattle.suit_envelope.specs.WrapperParts.{WrapperSays}
 use Rattle.suit_envelope.proofs.WrapperLaws.{digest_read}
@@ -16,7 +18,7 @@ use Rattle.place_laws.proofs.NumbersAlike.{numbers_move}
 use Rattle.place_laws.proofs.PlansAlike.{procedure_moves, safe_moves}
 
 -- a wrapper states one digest
-one_digest : (wrapper a b : List ℕ) (some others : List (List ℕ)) → WrapperSays wrapper a some → WrapperSays wrapper b others → a ≡ b
+one_digest : (wrapper : List ℕ) (a b : Digest) (some others : List (List ℕ)) → WrapperSays wrapper a some → WrapperSays wrapper b others → a ≡ b
 one_digest wrapper a b some others first second = same_ok a b (sym (digest_read wrapper a some first) ∙ digest_read wrapper b others second)
 
 trimmed_are_bytes : (wrapper manifest : List ℕ) → AreBytes wrapper → AreBytes manifest → AreBytes (trimmed wrapper manifest)
@@ -37,6 +39,7 @@ installation_laws laws layout key file envelope r says is =
     let same : SameManifest is.said other = moved.2 in
     let plans : SamePlan (invocation_tree is.said) (invocation_tree other) = procedure_moves is.said other same in
     let components : is.said.components ≡ other.components = ap (λ (m : Manifest). m.components) same in
+    let stated : r.digest ≡ is.authentic.digest = one_digest wrapper r.digest is.authentic.digest is.digest.0 is.authentic.blocks is.digest.1 is.authentic.says in
     let number : is.said.sequence ≡ other.sequence = ap (λ (m : Manifest). m.sequence) same in
     record {
       wrapper = wrapper;
@@ -48,7 +51,7 @@ installation_laws laws layout key file envelope r says is =
       says = moved.1;
       authentic = is.authentic;
       number = is.number ∙ number;
-      digest = one_digest wrapper r.digest.bytes is.authentic.digest is.digest.0 is.authentic.blocks is.digest.1 is.authentic.says ∙ is.authentic.stated;
+      digest = stated ∙ is.authentic.stated ∙ ap (λ (d : Digest). string_like d manifest) (sym stated);
       components = subst (HasEach layout) components is.components;
       safe = safe_moves (invocation_tree is.said) (invocation_tree other) plans is.safe;
       narrow = subst (λ (n : ℕ). n ≤ widest) (numbers_move (invocation_tree is.said) (invocation_tree other) plans).width is.narrow;

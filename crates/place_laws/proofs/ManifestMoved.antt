@@ -1,6 +1,7 @@
 -- An item that says a manifest says it at each place, places apart.
 use Rattle.std.proofs.Common.{◌≡◌, ℕ, Bool, true, false, List, [], ◌∷◌, length, Option, Some, None, refl, ap, subst}
 use Rattle.det_cbor.specs.DataItem.{DataItem, DataPairs}
+use Rattle.suit_params.specs.declared.digest.Digest.{Digest}
 use Rattle.suit_params.specs.Refusing.{Says, SaysHeld}
 use Rattle.suit_params.specs.Params.{pairs_place}
 use Rattle.suit_commands.specs.Tree.{SequenceTree}
@@ -62,7 +63,7 @@ here_moves count p q x s (SaysHere t held) =
     let u = strings_move false count p q x s held in
     record { other = u.other; says_so = SaysHere u.other u.says_so; alike = u.alike }
 
-apart_moved : (count p q : ℕ) (x : DataItem) (m : Member) → SaysSevered count p x m → (digest : List ℕ) → m ≡ members.Apart (record { bytes = digest }) → SaysSevered count q x m
+apart_moved : (count p q : ℕ) (x : DataItem) (m : Member) → SaysSevered count p x m → (digest : Digest) → m ≡ members.Apart digest → SaysSevered count q x m
 apart_moved count p q x m (SaysHere t held) digest is = absurd cc
 apart_moved count p q x m (SaysApart d said) digest is = SaysApart d (digest_moved p q x d said)
 
@@ -73,7 +74,7 @@ severed_under n count p q ps (members.Here s) said =
     let t = under_moved (SaysHereOnly count) SameSequence (here_moves count) n p q ps s (record { entry = said.entry; there = said.there; says_so = said.says_so }) in
     (members.Here t.0, record { entry = t.1.entry; there = t.1.there; says_so = t.1.says_so }, ap members.Here t.2)
 severed_under n count p q ps (members.Apart digest) said =
-    (members.Apart digest, under_kept (SaysSevered count) (members.Apart digest) (λ a b x is. apart_moved count a b x (members.Apart digest) is digest.bytes refl) n p q ps said, refl)
+    (members.Apart digest, under_kept (SaysSevered count) (members.Apart digest) (λ a b x is. apart_moved count a b x (members.Apart digest) is digest refl) n p q ps said, refl)
 
 text_member_moved : (p q : ℕ) (x : DataItem) (t : TextMember) → SaysTextMember p x t → SaysTextMember q x t
 text_member_moved p q x t (SaysTextHere said held) =

@@ -1,12 +1,13 @@
 -- A map says the same parameters at each place.
 use Rattle.std.proofs.Common.{ℕ, List}
 use Rattle.det_cbor.specs.DataItem.{DataItem, DataPairs}
+use Rattle.suit_params.specs.declared.digest.Digest.{Digest}
 use Rattle.suit_params.specs.declared.param.Param.{Param}
 use Rattle.suit_params.specs.declared.param.ParamKey.{ParamKey}
 use Rattle.suit_params.specs.Digests.{IsDigest}
 use Rattle.suit_params.specs.Params.{SaysValue, SaysVendor, SaysClass, SaysDevice, SaysDigest, SaysSlot, SaysStrict, SaysSoft, SaysSize, SaysContent, SaysUri, SaysSource, SaysArgs, SayParams, NoMore, ParamThen, IsParams, ParamMap}
 
-pub digest_moved : (p q : ℕ) (x : DataItem) (digest : List ℕ) → IsDigest p x digest → IsDigest q x digest
+pub digest_moved : (p q : ℕ) (x : DataItem) (digest : Digest) → IsDigest p x digest → IsDigest q x digest
 digest_moved p q x digest said = record { is = said.is; long = said.long }
 
 value_moved : (count p q : ℕ) (key : ParamKey) (x : DataItem) (a : Param) → SaysValue count p key x a → SaysValue count q key x a

@@ -24,7 +24,7 @@ pub record IsAccepted (layout : List Entry) (key : Key) (wrapper manifest : List
   pub says : SaysWhole IsManifest place manifest said
   pub authentic : IsAuthentic wrapper manifest (key_bytes key)
   pub number : r.sequence ≡ said.sequence
-  pub digest : (blocks : List (List ℕ)) × WrapperSays wrapper r.digest.bytes blocks
+  pub digest : (blocks : List (List ℕ)) × WrapperSays wrapper r.digest blocks
   pub components : HasEach layout said.components
   pub safe : Safe (invocation_tree said)
   pub narrow : width_number (invocation_tree said) ≤ widest

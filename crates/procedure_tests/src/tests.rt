@@ -3,5 +3,6 @@
 mod device;
 mod drawing;
 mod drawn;
+mod lent_sequences;
 mod player;
 mod spelled;

@@ -1,10 +1,12 @@
 -- The fields of a record page stand at their places.
-use Rattle.std.proofs.Common.{◌≡◌, ℕ, ◌-◌, ◌^◌, ◌<◌, List, ◌∷◌, length, replicate, refl, sym, ap, subst, ◌∙◌, arith}
+use Rattle.std.proofs.Common.{◌≡◌, ℕ, ◌-◌, ◌^◌, ◌<◌, List, ◌∷◌, ◌+◌, replicate, refl, sym, ap, subst, ◌∙◌}
+use Rattle.std.specs.List.{slice_range}
 use Rattle.flash_layout.specs.declared.slot.Record.{Record}
 use Rattle.flash_layout.specs.ConfigPage.{number_bytes}
 use Rattle.flash_layout.specs.PageReading.{number_at}
 use Rattle.flash_layout.specs.PagePlaces.{IsNumberField}
 use Rattle.flash_layout.proofs.PageFields.{number_read}
+use Rattle.suit_params.specs.DigestBytes.{digest_bytes}
 use Rattle.rollback_record.specs.RecordPage.{IsTypedRecord, record_body}
 use Rattle.rollback_record.specs.RecordPlaces.{HasRecordPlaces, RecordPlaces}
 use Rattle.rollback_record.proofs.Fields.{bank_at, record_fields, size_at}
@@ -16,8 +18,8 @@ number_placed n bytes fits is = ap number_at is ∙ number_read n fits
 body_placed : (r : Record) → IsTypedRecord r → HasRecordPlaces r (0xA5 ∷ record_body r)
 unfolding record_body
 body_placed r typed =
+    let page = 0xA5 ∷ record_body r in
     let f = record_fields r typed in
-    let room : 64 - length r.digest.bytes ≡ 32 = omega (arith, typed.digest) in
     record {
       long = f.whole_long;
       gate = refl;
@@ -25,9 +27,9 @@ body_placed r typed =
       sequence = number_placed r.sequence _ typed.sequence f.sequence_is;
       bank = bank_at _ _ _ _ _ _ _ _ _ f;
       size = number_placed r.length _ typed.size f.length_is;
-      digest_size = size_at _ _ _ _ _ _ _ _ _ f;
-      digest = f.digest_is;
-      rest = f.zeros_is ∙ ap (λ (n : ℕ). replicate n 0) room;
+      digest_size = size_at _ _ _ _ _ _ _ _ _ f ∙ typed.digest;
+      digest = subst (λ (n : ℕ). slice_range page 27 (27 + n) ≡ digest_bytes r.digest) typed.digest f.digest_is;
+      rest = subst (λ (n : ℕ). slice_range page (27 + n) 91 ≡ replicate (64 - n) 0) typed.digest f.zeros_is;
       active = f.active_is;
     }
 

@@ -1,5 +1,5 @@
 -- The fields spelled on a record page are read back.
-use Rattle.std.proofs.Common.{◌≡◌, ℕ, ◌-◌, List, [], ◌∷◌, ◌++◌, length, get_or, replicate, refl, sym, ap, ◌∙◌, append_assoc, arith}
+use Rattle.std.proofs.Common.{◌≡◌, ℕ, ◌+◌, ◌-◌, ◌≤◌, List, [], ◌∷◌, ◌++◌, length, get_or, replicate, Option, Some, None, option_map, refl, sym, ap, ◌∙◌, append_assoc, arith}
 use Rattle.std.specs.List.{slice_range}
 use Rattle.std.proofs.lemmas.List.Edits.{get_or-between}
 use Rattle.std.proofs.lemmas.List.{append-nil, length-append, length-replicate}
@@ -8,10 +8,15 @@ use Rattle.flash_layout.specs.declared.slot.Record.{Record}
 use Rattle.flash_layout.specs.ConfigPage.{number_bytes}
 use Rattle.flash_layout.specs.PageReading.{number_at}
 use Rattle.flash_layout.proofs.PageFields.{field, number_read, number_long}
-use Rattle.rollback_record.specs.RecordPage.{IsPageBeside, IsTypedRecord, IsRecordPage, record_body, fields_at}
+use Rattle.suit_params.specs.declared.digest.Digest.{Digest}
+use Rattle.suit_params.specs.declared.digest_kind.DigestKind.{DigestKind}
+use Rattle.suit_params.specs.DigestBytes.{digest_bytes, digest_kind, digest_by, IsLong}
+use Rattle.suit_params.specs.DigestKinds.{size_of, kind_of_length}
+use Rattle.suit_params.specs.DigestLaws.{kind_told, made_again, size_few}
+use Rattle.rollback_record.specs.RecordPage.{IsPageBeside, IsTypedRecord, IsRecordPage, record_body, digest_at, fields_with, fields_at}
 
-same_record : (a b : Record) → a.generation ≡ b.generation → a.sequence ≡ b.sequence → a.bank ≡ b.bank → a.length ≡ b.length → a.digest.bytes ≡ b.digest.bytes → a.active ≡ b.active → a ≡ b
-same_record a b p q r s t u = λ i. record { generation = p i; sequence = q i; bank = r i; length = s i; digest = record { bytes = t i }; active = u i }
+same_record : (a b : Record) → a.generation ≡ b.generation → a.sequence ≡ b.sequence → a.bank ≡ b.bank → a.length ≡ b.length → a.digest ≡ b.digest → a.active ≡ b.active → a ≡ b
+same_record a b p q r s t u = λ i. record { generation = p i; sequence = q i; bank = r i; length = s i; digest = t i; active = u i }
 
 -- the fields of a page's bytes
 module _ (gate bank size : ℕ) (generation sequence long digest zeros active : List ℕ) where
@@ -24,13 +29,13 @@ module _ (gate bank size : ℕ) (generation sequence long digest zeros active : 
     pub bank_is : slice_range whole 17 18 ≡ bank ∷ []
     pub length_is : slice_range whole 18 26 ≡ long
     pub size_is : slice_range whole 26 27 ≡ size ∷ []
-    pub digest_is : slice_range whole 27 59 ≡ digest
-    pub zeros_is : slice_range whole 59 91 ≡ zeros
+    pub digest_is : slice_range whole 27 (27 + length digest) ≡ digest
+    pub zeros_is : slice_range whole (27 + length digest) 91 ≡ zeros
     pub active_is : slice_range whole 91 99 ≡ active
     pub whole_long : length whole ≡ 99
 
-  pub has_fields : length generation ≡ 8 → length sequence ≡ 8 → length long ≡ 8 → length digest ≡ 32 → length zeros ≡ 32 → length active ≡ 8 → HasFields
-  has_fields g s l d z a =
+  pub has_fields : length generation ≡ 8 → length sequence ≡ 8 → length long ≡ 8 → length digest + length zeros ≡ 64 → length active ≡ 8 → HasFields
+  has_fields g s l d a =
       let h1 : List ℕ = gate ∷ [] in
       let h2 = h1 ++ generation in
       let h3 = h2 ++ sequence in
@@ -44,8 +49,8 @@ module _ (gate bank size : ℕ) (generation sequence long digest zeros active : 
       let n4 : length h4 ≡ 18 = omega (arith, n3, length-append h3 (bank ∷ [])) in
       let n5 : length h5 ≡ 26 = omega (arith, n4, l, length-append h4 long) in
       let n6 : length h6 ≡ 27 = omega (arith, n5, length-append h5 (size ∷ [])) in
-      let n7 : length h7 ≡ 59 = omega (arith, n6, d, length-append h6 digest) in
-      let n8 : length h8 ≡ 91 = omega (arith, n7, z, length-append h7 zeros) in
+      let n7 : length h7 ≡ 27 + length digest = omega (arith, n6, length-append h6 digest) in
+      let n8 : length h8 ≡ 91 = omega (arith, n7, d, length-append h7 zeros) in
       let all : whole ≡ h8 ++ active = simp append_assoc in
       record {
         generation_is = field h1 generation (sequence ++ (bank ∷ (long ++ (size ∷ ((digest ++ zeros) ++ active))))) whole 1 9 (ap (λ (l : List ℕ). gate ∷ l) (append_assoc generation sequence (bank ∷ (long ++ (size ∷ ((digest ++ zeros) ++ active)))))) refl g;
@@ -53,8 +58,8 @@ module _ (gate bank size : ℕ) (generation sequence long digest zeros active : 
         bank_is = field h3 (bank ∷ []) (long ++ (size ∷ ((digest ++ zeros) ++ active))) whole 17 18 refl n3 refl;
         length_is = field h4 long (size ∷ ((digest ++ zeros) ++ active)) whole 18 26 (ap (λ (l : List ℕ). gate ∷ l) (sym (append_assoc (generation ++ sequence) (bank ∷ []) (long ++ (size ∷ ((digest ++ zeros) ++ active)))))) n4 l;
         size_is = field h5 (size ∷ []) ((digest ++ zeros) ++ active) whole 26 27 (ap (λ (l : List ℕ). gate ∷ l) (sym (append_assoc ((generation ++ sequence) ++ bank ∷ []) long (size ∷ ((digest ++ zeros) ++ active)) ∙ append_assoc (generation ++ sequence) (bank ∷ []) (long ++ (size ∷ ((digest ++ zeros) ++ active)))))) n5 refl;
-        digest_is = field h6 digest (zeros ++ active) whole 27 59 (simp append_assoc) n6 d;
-        zeros_is = field h7 zeros active whole 59 91 (simp append_assoc) n7 z;
+        digest_is = field h6 digest (zeros ++ active) whole 27 (27 + length digest) (simp append_assoc) n6 (omega arith);
+        zeros_is = field h7 zeros active whole (27 + length digest) 91 (simp append_assoc) n7 (omega (arith, d));
         active_is = field h8 active [] whole 91 99 (all ∙ ap (λ (l : List ℕ). h8 ++ l) (sym (append-nil active))) n8 a;
         whole_long = ap length all ∙ omega (arith, n8, a, length-append h8 active);
       }
@@ -69,32 +74,54 @@ module _ (gate bank size : ℕ) (generation sequence long digest zeros active : 
 
 -- the fields of a record's page
 pub record_fields : (r : Record) → IsTypedRecord r
-    → HasFields 0xA5 r.bank 32 (number_bytes r.generation) (number_bytes r.sequence) (number_bytes r.length) r.digest.bytes (replicate (64 - length r.digest.bytes) 0) r.active
+    → HasFields 0xA5 r.bank (length (digest_bytes r.digest)) (number_bytes r.generation) (number_bytes r.sequence) (number_bytes r.length) (digest_bytes r.digest) (replicate (64 - length (digest_bytes r.digest)) 0) r.active
 record_fields r typed =
-    let zeros : List ℕ = replicate (64 - length r.digest.bytes) 0 in
-    let z : length zeros ≡ 32 = omega (arith, typed.digest, length-replicate {A = ℕ} (64 - length r.digest.bytes) 0) in
-    has_fields 0xA5 r.bank 32 (number_bytes r.generation) (number_bytes r.sequence) (number_bytes r.length) r.digest.bytes zeros r.active
-    (number_long r.generation) (number_long r.sequence) (number_long r.length) typed.digest z typed.active
+    let digest : List ℕ = digest_bytes r.digest in
+    let zeros : List ℕ = replicate (64 - length digest) 0 in
+    let few : length digest ≤ 64 = omega (arith, typed.digest, size_few (digest_kind r.digest)) in
+    let both : length digest + length zeros ≡ 64 = omega (arith, few, length-replicate {A = ℕ} (64 - length digest) 0) in
+    has_fields 0xA5 r.bank (length digest) (number_bytes r.generation) (number_bytes r.sequence) (number_bytes r.length) digest zeros r.active
+    (number_long r.generation) (number_long r.sequence) (number_long r.length) both typed.active
 
-body_read : (r : Record) → IsTypedRecord r → fields_at (0xA5 ∷ record_body r) ≡ r
+-- the digest behind its length
+digest_read : (page : List ℕ) (digest : Digest) → IsLong digest → get_or page 26 0 ≡ length (digest_bytes digest) → slice_range page 27 (27 + length (digest_bytes digest)) ≡ digest_bytes digest → digest_at page ≡ Some digest
+digest_read page digest long size is =
+    let told : kind_of_length (get_or page 26 0) ≡ Some (digest_kind digest) = ap kind_of_length (size ∙ long) ∙ kind_told (digest_kind digest) in
+    let bytes : slice_range page 27 (27 + size_of (digest_kind digest)) ≡ digest_bytes digest = ap (λ (n : ℕ). slice_range page 27 (27 + n)) (sym long) ∙ is in
+    ap (option_map (λ (kind : DigestKind). digest_by kind (slice_range page 27 (27 + size_of kind)))) told
+    ∙ ap (λ (l : List ℕ). Some (digest_by (digest_kind digest) l)) bytes
+    ∙ ap (λ (d : Digest). Some d) (made_again digest)
+
+fields_same : (page : List ℕ) (digest : Digest) (r : Record) → digest_at page ≡ Some digest → fields_with page digest ≡ r → fields_at page ≡ Some r
+fields_same page digest r told same = ap (option_map (fields_with page)) told ∙ ap (λ (x : Record). Some x) same
+
+body_read : (r : Record) → IsTypedRecord r → fields_at (0xA5 ∷ record_body r) ≡ Some r
 unfolding record_body
 body_read r typed =
-    let zeros : List ℕ = replicate (64 - length r.digest.bytes) 0 in
+    let page = 0xA5 ∷ record_body r in
     let f = record_fields r typed in
-    same_record _ r
+    fields_same page r.digest r (digest_read page r.digest typed.digest (size_at _ _ _ _ _ _ _ _ _ f) f.digest_is)
+    (same_record (fields_with page r.digest) r
     (ap number_at f.generation_is ∙ number_read r.generation typed.generation)
     (ap number_at f.sequence_is ∙ number_read r.sequence typed.sequence)
-    (bank_at 0xA5 r.bank 32 (number_bytes r.generation) (number_bytes r.sequence) (number_bytes r.length) r.digest.bytes zeros r.active f)
+    (bank_at _ _ _ _ _ _ _ _ _ f)
     (ap number_at f.length_is ∙ number_read r.length typed.size)
-    f.digest_is f.active_is
+    refl
+    f.active_is)
 
 -- the page of a record is read as that record
-pub page_read : (frame : Frame) (config page : List ℕ) (r : Record) → IsRecordPage frame config page r → fields_at page ≡ r
+pub page_read : (frame : Frame) (config page : List ℕ) (r : Record) → IsRecordPage frame config page r → fields_at page ≡ Some r
 page_read frame config page r is = ap fields_at is.bytes ∙ body_read r is.typed
 
-pub beside_read : (frame : Frame) (slots page : List ℕ) (r : Record) → IsPageBeside frame slots page r → fields_at page ≡ r
+pub beside_read : (frame : Frame) (slots page : List ℕ) (r : Record) → IsPageBeside frame slots page r → fields_at page ≡ Some r
 beside_read frame slots page r is = ap fields_at is.bytes ∙ body_read r is.typed
+
+pub some_same : (a b : Record) → ◌≡◌ {A = Option Record} (Some a) (Some b) → a ≡ b
+some_same a b e = cc
+
+pub some_never : {P : Type 0} (r : Record) → ◌≡◌ {A = Option Record} None (Some r) → P
+some_never r e = absurd cc
 
 -- a page holds one record at most
 pub one_record : (frame : Frame) (config page : List ℕ) (r s : Record) → IsRecordPage frame config page r → IsRecordPage frame config page s → r ≡ s
-one_record frame config page r s is so = sym (page_read frame config page r is) ∙ page_read frame config page s so
+one_record frame config page r s is so = some_same r s (sym (page_read frame config page r is) ∙ page_read frame config page s so)

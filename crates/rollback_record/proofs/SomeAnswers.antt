@@ -1,15 +1,17 @@
 -- The head of an image has a record, or none.
-use Rattle.std.proofs.Common.{◌≡◌, ◌⊎◌, ⊎_elim, inl, inr, ◌<◌, ◌≤◌, ℕ, zero, suc, List, ◌∷◌, length, get_or, Option, Some, None, refl, sym, subst, arith}
+use Rattle.std.proofs.Common.{◌≡◌, ◌⊎◌, ⊎_elim, inl, inr, ◌<◌, ◌≤◌, ℕ, zero, suc, List, ◌∷◌, length, get_or, Option, Some, None, refl, sym, subst, ◌∙◌, arith}
 use Rattle.std.proofs.lemmas.Bool.{cases_Bool, cases_eq, cases_lt}
 use Rattle.std.proofs.lemmas.Bool.Decides.{not_from_Decides}
 use Rattle.std.proofs.lemmas.Slice.Eq.{bytes_eq-Decides}
+use Rattle.suit_params.specs.DigestBytes.{digest_bytes, digest_kind}
+use Rattle.suit_params.specs.DigestKinds.{size_of}
 use Rattle.flash_layout.specs.declared.frame.Frame.{Frame}
 use Rattle.flash_layout.specs.declared.slot.Record.{Record}
 use Rattle.flash_layout.specs.Frames.{config_page_of}
 use Rattle.rollback_record.specs.HeadRecord.{record_bytes, Counts, IsBelow, RecordOf}
 use Rattle.rollback_record.specs.RecordLaws.{SomeAnswer}
 use Rattle.rollback_record.specs.RecordPage.{IsActiveSlot, IsInRange, IsRecordPage, IsTypedRecord, fields_at, record_body}
-use Rattle.rollback_record.proofs.Fields.{one_record, page_read}
+use Rattle.rollback_record.proofs.Fields.{one_record, page_read, some_never, some_same}
 
 -- ---- decided
 
@@ -56,7 +58,7 @@ typed r =
     like _ _
     (λ t. record { generation = t.0; sequence = t.1.0; size = t.1.1.0; digest = t.1.1.1.0; active = t.1.1.1.1 })
     (λ t. (t.generation, (t.sequence, (t.size, (t.digest, t.active)))))
-    (both _ _ (less r.generation _) (both _ _ (less r.sequence _) (both _ _ (less r.length _) (both _ _ (cases_eq (length r.digest.bytes) 32) (cases_eq (length r.active) 8)))))
+    (both _ _ (less r.generation _) (both _ _ (less r.sequence _) (both _ _ (less r.length _) (both _ _ (cases_eq (length (digest_bytes r.digest)) (size_of (digest_kind r.digest))) (cases_eq (length r.active) 8)))))
 
 active : (config : List ℕ) (i slot : ℕ) → Decided (IsActiveSlot config i slot)
 active config i slot = either _ _ (cases_eq slot 0) (both _ _ (cases_eq slot 1) (both _ _ (less i _) (cases_eq _ 2)))
@@ -78,10 +80,14 @@ module _ (frame : Frame) (config page : List ℕ) where
 
   -- whether it counts
   counted : Decided ((r : Record) × IsRecordPage frame config page r)
-  counted =
-      like (IsRecordPage frame config page (fields_at page)) _ (λ is. (fields_at page, is))
-      (λ some. subst (IsRecordPage frame config page) (sym (page_read frame config page some.0 some.1)) some.1)
-      (page_of (fields_at page))
+  counted = by_fields (fields_at page) refl
+    where
+      by_fields : (o : Option Record) → fields_at page ≡ o → Decided ((r : Record) × IsRecordPage frame config page r)
+      by_fields None e = inr (λ some. some_never some.0 (sym e ∙ page_read frame config page some.0 some.1))
+      by_fields (Some r) e =
+          like (IsRecordPage frame config page r) _ (λ is. (r, is))
+          (λ some. subst (IsRecordPage frame config page) (some_same some.0 r (sym (page_read frame config page some.0 some.1) ∙ e)) some.1)
+          (page_of r)
 
 -- ---- a head
 

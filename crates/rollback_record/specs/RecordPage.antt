@@ -1,5 +1,8 @@
 -- A record page of the flash: a gate, and a record behind it. All numbers are big-endian.
-use Rattle.std.specs.Prelude.{◌≡◌, ◌↔◌, ◌⊎◌, ◌<◌, ◌≤◌, ◌+◌, ◌*◌, ◌^◌, ℕ, List, ◌∷◌, ◌++◌, length, slice_index, slice_range}
+use Rattle.std.specs.Prelude.{◌≡◌, ◌↔◌, ◌⊎◌, ◌<◌, ◌≤◌, ◌+◌, ◌*◌, ◌^◌, ℕ, List, ◌∷◌, ◌++◌, Option, option_map, length, slice_index, slice_range}
+use Rattle.suit_params.specs.declared.digest.Digest.{Digest}
+use Rattle.suit_params.specs.DigestBytes.{digest_bytes, digest_by, IsLong}
+use Rattle.suit_params.specs.DigestKinds.{size_of, kind_of_length}
 use Rattle.suit_edge.specs.declared.page.TheConstants.{OPEN}
 use Rattle.flash_layout.specs.declared.frame.Frame.{Frame}
 use Rattle.flash_layout.specs.declared.frame.TheConstants.{ENTRY_SIZE, FRONT_SIZE}
@@ -24,7 +27,7 @@ pub record IsTypedRecord (r : Record) : Type 0 where
   pub generation : r.generation < 2 ^ 64
   pub sequence : r.sequence < 2 ^ 64
   pub size : r.length < 2 ^ 64
-  pub digest : length r.digest.bytes ≡ 32
+  pub digest : IsLong r.digest
   pub active : length r.active ≡ 8
 
 -- fields in range, on a flash with that configuration page
@@ -42,12 +45,12 @@ abbrev pub bank_field : Record → List ℕ
 bank_field r = r.bank ∷ number_bytes r.length
 
 -- the digest's length, and the digest with zeros after it
-abbrev pub digest_field : List ℕ → List ℕ
-digest_field digest = 32 ∷ padded 64 digest
+abbrev pub digest_field : Digest → List ℕ
+digest_field digest = length (digest_bytes digest) ∷ padded 64 (digest_bytes digest)
 
 -- the bytes behind the gate
 unfoldable pub record_body : Record → List ℕ
-record_body r = numbers_field r ++ (bank_field r ++ (digest_field r.digest.bytes ++ r.active))
+record_body r = numbers_field r ++ (bank_field r ++ (digest_field r.digest ++ r.active))
 
 -- The page counts, and holds the record: its gate is open, and the fields are in range.
 pub record IsRecordPage (frame : Frame) (config page : List ℕ) (r : Record) : Type 0 where
@@ -80,13 +83,22 @@ pub record IsPageBeside (frame : Frame) (slots page : List ℕ) (r : Record) : T
 
 -- ---- reading
 
--- the fields at their places, without a judgement
-abbrev pub fields_at : List ℕ → Record
-fields_at page = record {
+-- the digest behind its length, where that is the length of one
+abbrev pub digest_at : List ℕ → Option Digest
+digest_at page =
+    option_map (λ kind. digest_by kind (slice_range page 27 (27 + size_of kind)))
+    (kind_of_length (slice_index page 26))
+
+-- the other fields at their places, without a judgement
+abbrev pub fields_with : List ℕ → Digest → Record
+fields_with page digest = record {
   generation = number_at (slice_range page 1 9);
   sequence = number_at (slice_range page 9 17);
   bank = slice_index page 17;
   length = number_at (slice_range page 18 26);
-  digest = record { bytes = slice_range page 27 59 };
+  digest = digest;
   active = slice_range page 91 99;
 }
+
+abbrev pub fields_at : List ℕ → Option Record
+fields_at page = option_map (fields_with page) (digest_at page)

@@ -1,5 +1,7 @@
 -- Where the fields of a record page stand, by their places in it. All numbers are big-endian.
-use Rattle.std.specs.Prelude.{◌≡◌, ℕ, List, length, replicate, slice_index, slice_range}
+use Rattle.std.specs.Prelude.{◌≡◌, ◌+◌, ◌-◌, ℕ, List, length, replicate, slice_index, slice_range}
+use Rattle.suit_params.specs.DigestBytes.{digest_bytes, digest_kind}
+use Rattle.suit_params.specs.DigestKinds.{size_of}
 use Rattle.flash_layout.specs.declared.frame.Frame.{Frame}
 use Rattle.flash_layout.specs.declared.slot.Record.{Record}
 use Rattle.flash_layout.specs.PagePlaces.{IsNumberField}
@@ -12,9 +14,10 @@ pub record HasRecordPlaces (r : Record) (page : List ℕ) : Type 0 where
   pub sequence : IsNumberField r.sequence (slice_range page 9 17)
   pub bank : slice_index page 17 ≡ r.bank
   pub size : IsNumberField r.length (slice_range page 18 26)
-  pub digest_size : slice_index page 26 ≡ 32
-  pub digest : slice_range page 27 59 ≡ r.digest.bytes
-  pub rest : slice_range page 59 91 ≡ replicate 32 0
+  pub digest_size : slice_index page 26 ≡ size_of (digest_kind r.digest)
+  pub digest : slice_range page 27 (27 + size_of (digest_kind r.digest)) ≡ digest_bytes r.digest
+  pub rest : slice_range page (27 + size_of (digest_kind r.digest)) 91
+      ≡ replicate (64 - size_of (digest_kind r.digest)) 0
   pub active : slice_range page 91 99 ≡ r.active
 
 -- each record page has its fields there

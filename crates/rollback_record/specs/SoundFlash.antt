@@ -7,7 +7,7 @@ use Rattle.suit_params.specs.Refusing.{SaysWhole}
 use Rattle.suit_commands.specs.Numbers.{width_number}
 use Rattle.suit_edge.specs.Flash.{Flash, Now}
 use Rattle.suit_envelope.specs.Authentic.{IsAuthentic}
-use Rattle.suit_envelope.specs.Members.{string_digest}
+use Rattle.suit_envelope.specs.Members.{string_like}
 use Rattle.suit_envelope.specs.Trimmed.{trimmed, trimmed_says, IsTrimmed}
 use Rattle.suit_manifest.specs.declared.manifest.Manifest.{Manifest}
 use Rattle.suit_manifest.specs.Manifests.{IsManifest}
@@ -49,7 +49,7 @@ pub record IsInstalled (layout : List Entry) (key : Key) (bytes : List ℕ) (r :
   pub says : SaysWhole IsManifest (trimmed_says wrapper manifest).manifest_place manifest said
   pub authentic : IsAuthentic wrapper manifest (key_bytes key)
   pub number : r.sequence ≡ said.sequence
-  pub digest : r.digest.bytes ≡ string_digest manifest
+  pub digest : r.digest ≡ string_like r.digest manifest
   pub components : HasEach layout said.components
   pub safe : Safe (invocation_tree said)
   pub narrow : width_number (invocation_tree said) ≤ widest

@@ -1,12 +1,12 @@
 //! The bytes of a record page, and how they are read and put together without memory.
 
-ghost use Rattle.rollback_record.specs.RecordPage.{FitsSlots, HasSlot, IsPageBeside, bank_field, digest_field, fields_at, numbers_field, record_body};
+ghost use Rattle.rollback_record.specs.RecordPage.{FitsSlots, HasSlot, IsPageBeside, bank_field, digest_at, digest_field, fields_at, fields_with, numbers_field, record_body};
 ghost use Rattle.std.specs.Prelude.{◌≡◌, ◌↔◌, ◌≤◌, ◌<◌, ◌+◌, ℕ, ◌∷◌, ◌++◌, Some, IfSome, IsTrue, length, slice_index};
 
 use crate::typing::typed;
 use flash_layout::{Page, Record, VERSION_1, read_number};
 use suit_edge::OPEN;
-use suit_params::Digest;
+use suit_params::{Digest, kind_of_length};
 
 /// The bytes of a record page that are read: the gate, and the record behind it.
 pub const RECORD_BYTES: usize = 99;
@@ -31,15 +31,14 @@ fn put_bank(page: &mut Page<RECORD_BYTES>, installed: &Record)
     page.put_number(installed.length);
 }
 
-// Adds the digest.
-fn put_digest(page: &mut Page<RECORD_BYTES>, digest: &[u8; 32])
+// Adds how many bytes the digest has, and the digest with zeros behind it.
+fn put_digest(page: &mut Page<RECORD_BYTES>, digest: &Digest)
     requires { length page.old + 65 ≤ RECORD_BYTES }
     ensures bytes { page.new ≡ page.old ++ digest_field digest.now }
     ensures long { length page.new ≡ length page.old + 65 }
 {
-    page.put(&[32]);
-    page.put(digest);
-    page.put(&[0; 32]);
+    page.put(&[digest.bytes().len() as u8]);
+    page.put(&digest.padded());
 }
 
 /// The page of a record, with its gate open.
@@ -52,18 +51,27 @@ pub(crate) fn spell(installed: &Record) -> Page<RECORD_BYTES>
     page.put(&[OPEN]);
     put_numbers(&mut page, installed);
     put_bank(&mut page, installed);
-    put_digest(&mut page, &installed.digest.bytes);
+    put_digest(&mut page, &installed.digest);
     page.put(&installed.active);
     page
 }
 
-// The fields, without a judgement.
-fn read_fields(page: &[u8]) -> Record
+// The digest behind its length, where that is the length of one.
+fn read_digest(page: &[u8]) -> Option<Digest>
     requires { length page.now ≡ RECORD_BYTES }
-    ensures { result ≡ fields_at page.now }
+    ensures { result ≡ digest_at page.now }
 {
-    let mut digest = Digest { bytes: [0; 32] };
-    digest.bytes.copy_from_slice(&page[27..59]);
+    match kind_of_length(page[26] as usize) {
+        Some(kind) => Some(Digest::new(kind, &page[27..27 + kind.size()])),
+        None => None,
+    }
+}
+
+// The other fields, without a judgement.
+fn read_with(page: &[u8], digest: Digest) -> Record
+    requires { length page.now ≡ RECORD_BYTES }
+    ensures { result ≡ fields_with page.now digest }
+{
     let mut active = [0; 8];
     active.copy_from_slice(&page[91..99]);
     Record {
@@ -73,6 +81,17 @@ fn read_fields(page: &[u8]) -> Record
         length: read_number(&page[18..26]),
         digest,
         active,
+    }
+}
+
+// The fields, without a judgement.
+fn read_fields(page: &[u8]) -> Option<Record>
+    requires { length page.now ≡ RECORD_BYTES }
+    ensures { result ≡ fields_at page.now }
+{
+    match read_digest(page) {
+        Some(digest) => Some(read_with(page, digest)),
+        None => None,
     }
 }
 
@@ -112,19 +131,28 @@ pub(crate) fn is_page_of(page: &[u8], installed: &Record) -> bool
     spell(installed).as_slice() == page
 }
 
+// The record, where the page counts and holds it.
+fn judged(slots: &[u8; 8], page: &[u8], installed: Record) -> Option<Record>
+    ensures some { IfSome result (λ r. IsPageBeside VERSION_1 slots.now page.now r) }
+    ensures every { IsPageBeside VERSION_1 slots.now page.now installed
+        → result ≡ Some installed }
+{
+    typed(&installed);
+    if is_in_range(slots, &installed) && is_page_of(page, &installed) {
+        Some(installed)
+    } else {
+        None
+    }
+}
+
 /// The record of a page that counts, where each component has so many slots, or `None` where the page does not count.
 pub(crate) fn decode(slots: &[u8; 8], page: &[u8]) -> Option<Record>
     requires { length page.now ≡ RECORD_BYTES }
     ensures some { IfSome result (λ r. IsPageBeside VERSION_1 slots.now page.now r) }
     ensures every { (r : Record) → IsPageBeside VERSION_1 slots.now page.now r → result ≡ Some r }
 {
-    let installed = read_fields(page);
-    typed(&installed);
-    if !is_in_range(slots, &installed) {
-        return None;
+    match read_fields(page) {
+        Some(installed) => judged(slots, page, installed),
+        None => None,
     }
-    if !is_page_of(page, &installed) {
-        return None;
-    }
-    Some(installed)
 }

@@ -1,12 +1,13 @@
 -- The result of an invoke for a component, as plays have it.
-use Rattle.std.specs.Prelude.{◌≡◌, ◌≤◌, ℕ, List, [], ◌∷◌, ◌++◌, true, Option, Result, Ok, Err, option_map}
+use Rattle.std.specs.Prelude.{◌≡◌, ◌≤◌, ℕ, List, [], ◌∷◌, ◌++◌, true, Result, Ok, Err}
+use Rattle.std.specs.Option.{option_and_then}
 use Rattle.suit_edge.specs.declared.launch.Launch.{Launch}
 use Rattle.suit_edge.specs.declared.launcher.Image.{Image}
 use Rattle.suit_edge.specs.declared.launcher.Launched.{Launched as Answer}
 use Rattle.suit_edge.specs.declared.launcher.Launched.TheVariants as answers
 use Rattle.suit_edge.specs.Faults.{Faulted}
 use Rattle.suit_edge.specs.Launch.{AreImage}
-use Rattle.suit_params.specs.declared.digest.Digest.{Digest}
+use Rattle.suit_params.specs.DigestBytes.{as_digest}
 use Rattle.suit_params.specs.InForce.{Parameters}
 use Rattle.suit_commands.specs.declared.kinds.ActKind.TheVariants as acts
 use Rattle.path_model.specs.declared.cause.Cause.{Cause}
@@ -21,10 +22,6 @@ use Rattle.step_machine.specs.Directives.{StopsSo}
 abbrev pub IsImageOf : List ℕ → List ℕ → Image → Type 0
 IsImageOf reads content image = (bytes : List ℕ) → AreImage image true reads bytes → bytes ≡ content
 
--- the bytes of a digest, if there is one
-abbrev pub digest_bytes : Option Digest → Option (List ℕ)
-digest_bytes digest = option_map (λ d. d.bytes) digest
-
 -- an answer of a launcher as the outcome of an invoke
 abbrev pub result_of : Answer → Result (Unit {0}) Cause
 result_of answers.Done = Ok tt
@@ -36,7 +33,7 @@ abbrev pub launched_as : Launch → Launched
 launched_as launch = record {
   component = launch.component;
   bytes = launch.bytes;
-  digest = option_map (λ bytes. record { bytes = bytes }) launch.digest;
+  digest = option_and_then as_digest launch.digest;
   size = launch.size;
   args = launch.args;
 }

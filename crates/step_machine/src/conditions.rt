@@ -8,6 +8,7 @@ ghost use Rattle.step_machine.specs.Conditions.{CutsPlay, PassesAs};
 ghost use Rattle.step_machine.specs.Holding.{Looks, holds};
 ghost use Rattle.step_machine.specs.Spots.{IsSpot, content_of};
 ghost use Rattle.suit_edge.specs.Flash.{Grows, IsSame};
+ghost use Rattle.suit_params.specs.DigestBytes.{digest_bytes};
 
 use crate::contents::{digest_at, length_at, same_at};
 use crate::outside::Steps;
@@ -41,10 +42,10 @@ fn is_slot(wanted: Option<u64>, own: u64) -> bool
     }
 }
 
-fn is_digest(found: &[u8; 32], digest: &Digest) -> bool
-    ensures { result ≡ bytes_eq found.now digest.now.bytes }
+fn is_digest(found: &Digest, digest: &Digest) -> bool
+    ensures { result ≡ bytes_eq (digest_bytes found.now) (digest_bytes digest.now) }
 {
-    *found == digest.bytes
+    found.bytes() == digest.bytes()
 }
 
 // Whether a content of so many bytes has the size, where there is one.
@@ -77,7 +78,7 @@ fn has_image<D: Disk>(
     if !has_size(count, size) {
         return Ok(false);
     }
-    let found = digest_at(disk, ram, spot, count, room)?;
+    let found = digest_at(disk, ram, spot, count, digest.kind(), room)?;
     Ok(is_digest(&found, &digest))
 }
 

@@ -1,48 +1,41 @@
 //! Reading contents in parts, wherever they stand.
 
 ghost use Rattle.flash_slots.specs.Contents.{ResultCounts};
-ghost use Rattle.sha2.specs.Sha256.{sha256};
 ghost use Rattle.std.specs.Prelude.{◌≡◌, ◌<◌, ◌≤◌, IfOk, IsTrue, length, take};
 ghost use Rattle.std.specs.Str.{bytes_eq};
 ghost use Rattle.step_machine.specs.Areas.{area_at, size_at};
 ghost use Rattle.step_machine.specs.Spots.{IsSpot, content_of, room_at};
+ghost use Rattle.suit_params.specs.Hashes.{hash};
 
 use crate::Spot;
 use crate::outside::Steps;
 use flash_layout::FlashFault;
 use flash_slots::{Ram, digest_some, length, same_content};
 use lane_bytes::same;
-use sha2::{Digest as _, Sha256};
 use suit_edge::Disk;
+use suit_params::{Digest, DigestKind, hash};
 
-fn digest_of(bytes: &[u8]) -> [u8; 32]
-    ensures { result ≡ sha256 bytes.now }
-{
-    let mut hasher = Sha256::new();
-    hasher.update(bytes);
-    hasher.finalize()
-}
-
-// The SHA-256 of so many of the first bytes of a room.
+// The digest of so many of the first bytes of a room.
 pub(crate) fn digest_at<D: Disk>(
     disk: &mut D,
     ram: &Ram,
     spot: Spot,
     size: u64,
+    kind: DigestKind,
     room: &mut [u8],
-) -> Result<[u8; 32], FlashFault>
+) -> Result<Digest, FlashFault>
     requires spot { IsSpot (D.extent disk.old) ram.now spot }
     requires area { size ≤ size_at spot ram.now }
     requires room { 0 < length room.old }
     ensures read { ⟦<D as Steps>⟧.only_reads (ResultCounts result) disk.old disk.new }
     ensures exact { IsTrue D.told → IfOk result
-        (λ d. d ≡ sha256 (take size (area_at spot ram.now (D.flash disk.old).reads))) }
+        (λ d. d ≡ hash kind (take size (area_at spot ram.now (D.flash disk.old).reads))) }
 {
     match spot {
-        Spot::Flash(slot) => digest_some(disk, slot, size, room),
+        Spot::Flash(slot) => digest_some(disk, slot, size, kind, room),
         Spot::Ram(component) => {
             let content = ram.content(component);
-            Ok(digest_of(&content[..size as usize]))
+            Ok(hash(kind, &content[..size as usize]))
         }
     }
 }

@@ -3,11 +3,12 @@
 ghost use Rattle.flash_layout.specs.Slots.{extent_of, slot_content};
 ghost use Rattle.flash_slots.specs.Contents.{ResultCounts};
 ghost use Rattle.std.specs.Option.{option_copied};
-ghost use Rattle.std.specs.Prelude.{◌≡◌, ◌<◌, ◌≤◌, ◌+◌, IfOk, IsTrue};
-ghost use Rattle.step_machine.specs.Invoking.{InvokeCounts, InvokesAs, IsImageOf, digest_bytes, result_of};
+ghost use Rattle.std.specs.Prelude.{◌≡◌, ◌<◌, ◌≤◌, ◌+◌, IfOk, IfSome, IsTrue, option_map};
+ghost use Rattle.step_machine.specs.Invoking.{InvokeCounts, InvokesAs, IsImageOf, result_of};
 ghost use Rattle.step_machine.specs.Spots.{IsSpot, content_of};
 ghost use Rattle.suit_edge.specs.Flash.{Grows, IsSame};
 ghost use Rattle.suit_edge.specs.Launch.{LiesWithin};
+ghost use Rattle.suit_params.specs.DigestBytes.{IsLong, digest_bytes};
 ghost use Rattle.suit_params.specs.InForce.{bytes_of, digest_in, in_force, size_in};
 ghost use Rattle.suit_params.specs.declared.param.ParamKey.TheVariants as keys;
 
@@ -67,10 +68,11 @@ fn digest_for(params: &SliceParams<'_>, component: u32) -> Option<Digest>
 }
 
 fn digest_bytes(digest: &Option<Digest>) -> Option<&[u8]>
-    ensures { option_copied result ≡ digest_bytes digest.now }
+    ensures is { option_copied result ≡ option_map digest_bytes digest.now }
+    ensures long { IfSome digest.now IsLong }
 {
     match digest {
-        Some(digest) => Some(&digest.bytes[..]),
+        Some(digest) => Some(digest.bytes()),
         None => None,
     }
 }

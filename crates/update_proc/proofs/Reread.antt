@@ -1,5 +1,5 @@
 -- An update whose record was read first: what holds since the read holds since before it.
-use Rattle.std.proofs.Common.{◌≡◌, ◌⊎◌, inl, inr, ℕ, List, [], Bor, length, Option, Some, None, option_map, sym, ap, subst}
+use Rattle.std.proofs.Common.{◌≡◌, ◌⊎◌, inl, inr, ℕ, List, [], Bor, length, Option, Some, None, option_map, sym, subst}
 use Rattle.std.specs.Option.{option_copied}
 use Rattle.suit_commands.specs.Tree.{PlanTree}
 use Rattle.suit_edge.specs.Flash.{Flash, IsFlash, IsSame, IsSettled, Now, Passes}
@@ -34,10 +34,7 @@ use Rattle.update_proc.proofs.WholeUpdate.{listed, settled_head, settled_slots}
 none : Entry
 none = record { identifier = []; memory = memory.Ram; slots = 0; starts = []; capacity = 0; vendor = None; class = None; device = None }
 
--- ---- one record and one digest
-
-digest_as : (a b : Digest) → a.bytes ≡ b.bytes → a ≡ b
-digest_as a b same = ap (λ (l : List ℕ). record { bytes = l }) same
+-- ---- one record
 
 as_loaded : (o : Option (Bor Record)) (loaded : Option Record) → option_copied o ≡ loaded → option_map (λ r. r.now) o ≡ loaded
 as_loaded None loaded same = same
@@ -55,11 +52,11 @@ spare_as head o pages same is = subst (λ (p : Option Record). HasSpare VERSION_
 
 -- a property of the record that was read and the digest that was stated holds of each such
 pub for_offer : (one : OneAnswer) (image wrapper : List ℕ) (P : Option Record → Digest → Type 0) (held : Option Record) (stated : Digest)
-    → RecordOf VERSION_1 (head_of VERSION_1 image) held → ((digest : List ℕ) (blocks : List (List ℕ)) → WrapperSays wrapper digest blocks → stated.bytes ≡ digest)
+    → RecordOf VERSION_1 (head_of VERSION_1 image) held → ((digest : Digest) (blocks : List (List ℕ)) → WrapperSays wrapper digest blocks → stated ≡ digest)
     → P held stated → ForOffer image wrapper P
 for_offer one image wrapper P held stated is says p other digest blocks there said =
     subst (λ (o : Option Record). P o digest) (one VERSION_1 (head_of VERSION_1 image) held other is there)
-    (subst (λ (d : Digest). P held d) (digest_as stated digest (says digest.bytes blocks said)) p)
+    (subst (λ (d : Digest). P held d) (says digest blocks said) p)
 
 -- ---- what was kept
 

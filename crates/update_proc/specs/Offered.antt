@@ -13,4 +13,4 @@ abbrev pub ForOffer : List ℕ → List ℕ → (Option Record → Digest → Ty
 ForOffer image wrapper P =
     (held : Option Record) (digest : Digest) (blocks : List (List ℕ))
     → RecordOf VERSION_1 (head_of VERSION_1 image) held
-    → WrapperSays wrapper digest.bytes blocks → P held digest
+    → WrapperSays wrapper digest blocks → P held digest

@@ -35,6 +35,14 @@ pub(crate) struct Device {
     pub(crate) launcher: MemoryLauncher,
 }
 
+fn identifier_of(alloc: Global, byte: u8) -> Result<Identifier, AllocError> {
+    let mut part = Bytes::new(alloc);
+    part.push(byte)?;
+    let mut identifier = Identifier::new(alloc);
+    identifier.push(part)?;
+    Ok(identifier)
+}
+
 // A component that has the identifier of this one byte.
 fn component(
     alloc: Global,
@@ -43,12 +51,8 @@ fn component(
     start: u64,
     capacity: u64,
 ) -> Result<Entry, AllocError> {
-    let mut part = Bytes::new(alloc);
-    part.push(byte)?;
-    let mut identifier = Identifier::new(alloc);
-    identifier.push(part)?;
     Ok(Entry {
-        identifier,
+        identifier: identifier_of(alloc, byte)?,
         memory,
         slots: 1,
         starts: [start, 0],
@@ -67,20 +71,27 @@ fn layout_of_three(alloc: Global) -> Result<Layout, AllocError> {
     Ok(layout)
 }
 
+// The one file is named as its URI.
+fn uris_of_one(alloc: Global) -> Result<Uris, AllocError> {
+    let uri = Text::from_str(alloc, FILE.0)?;
+    let mut uris = Uris::new(alloc);
+    uris.push((uri, Text::from_str(alloc, FILE.0)?))?;
+    Ok(uris)
+}
+
+fn host_of_one(alloc: Global) -> Result<MemoryHost, AllocError> {
+    let mut host = MemoryHost::new(alloc, &[])?;
+    host.add(FILE.0, FILE.1)?;
+    Ok(host)
+}
+
 impl Device {
     /// A device without contents. The calls of its disk with these numbers fail, counted from 0.
     pub(crate) fn new(alloc: Global, fails: &[u64]) -> Result<Device, AllocError> {
-        let mut uris = Uris::new(alloc);
-        uris.push((
-            Text::from_str(alloc, FILE.0)?,
-            Text::from_str(alloc, FILE.0)?,
-        ))?;
-        let mut host = MemoryHost::new(alloc, &[])?;
-        host.add(FILE.0, FILE.1)?;
         Ok(Device {
             layout: layout_of_three(alloc)?,
-            uris,
-            host,
+            uris: uris_of_one(alloc)?,
+            host: host_of_one(alloc)?,
             disk: MemoryDisk::new(alloc, SIZE, fails)?,
             launcher: MemoryLauncher::new(alloc, &[])?,
         })

@@ -3,10 +3,11 @@
 use crate::tests::device::{Device, has};
 use crate::tests::drawing::{Draws, drawn_member, drawn_shared};
 use crate::tests::player::{COUNT, Stage, Stop, play};
-use crate::tests::spelled::Spelled;
+use crate::tests::spelled::{Spelled, Trees};
 use flash_layout::NoTrail;
 use std::alloc::{AllocError, Global};
 use step_machine::PlanEnd;
+use suit_edge::{Launch, MemoryDisk};
 
 // The end of a procedure that the player ended so.
 fn end_of(ended: Result<(), Stop>) -> PlanEnd {
@@ -17,14 +18,16 @@ fn end_of(ended: Result<(), Stop>) -> PlanEnd {
     }
 }
 
-// The end of a procedure on an empty device, where it, the contents and the launches are those of the player.
-fn beside(alloc: Global, spelled: &Spelled<'_>) -> Result<Option<PlanEnd>, AllocError> {
-    let mut device = Device::new(alloc, &[])?;
-    let end = device.run(alloc, spelled.program(), &mut NoTrail)?;
-    let trees = spelled.trees(alloc)?;
+// Whether the player comes to the same end, contents and launches.
+fn is_played<'a>(
+    disk: &mut MemoryDisk,
+    launches: &'a [Launch],
+    trees: &'a Trees,
+    end: PlanEnd,
+) -> bool {
     let mut stage = Stage {
         contents: [&[]; COUNT],
-        launches: device.launcher.launches().as_slice(),
+        launches,
         alike: true,
     };
     let ended = play(
@@ -34,8 +37,16 @@ fn beside(alloc: Global, spelled: &Spelled<'_>) -> Result<Option<PlanEnd>, Alloc
     );
     let alike = stage.alike && stage.launches.is_empty();
     let [one, other, _] = stage.contents;
-    let contents = has(&mut device.disk, 0, one) && has(&mut device.disk, 1, other);
-    if alike && contents && end_of(ended) == end {
+    alike && end_of(ended) == end && has(disk, 0, one) && has(disk, 1, other)
+}
+
+// The end of a procedure on an empty device, where it, the contents and the launches are those of the player.
+fn beside(alloc: Global, spelled: &Spelled<'_>) -> Result<Option<PlanEnd>, AllocError> {
+    let trees = spelled.trees(alloc)?;
+    let mut device = Device::new(alloc, &[])?;
+    let end = device.run(alloc, spelled.program(), &mut NoTrail)?;
+    let launches = device.launcher.launches().as_slice();
+    if is_played(&mut device.disk, launches, &trees, end) {
         Ok(Some(end))
     } else {
         Ok(None)

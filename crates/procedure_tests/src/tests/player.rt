@@ -3,10 +3,10 @@
 ghost use Rattle.std.specs.Prelude.{◌<◌};
 
 use path_model::Cause;
-use sha2::{Digest, Sha256};
+use sha2::{Digest as _, Sha256, Sha384, Sha512};
 use suit_commands::{ActKind, Branches, Command, Selection, Sequence, Step, TestKind};
 use suit_edge::Launch;
-use suit_params::{Param, ParamKey, Params};
+use suit_params::{Digest, Param, ParamKey, Params};
 
 /// How many components there are.
 pub(crate) const COUNT: usize = 3;
@@ -124,6 +124,14 @@ impl<'a> Stage<'a> {
 
 // ---- conditions
 
+fn has_digest(content: &[u8], digest: &Digest) -> bool {
+    match digest {
+        Digest::Sha256(bytes) => Sha256::digest(content) == *bytes,
+        Digest::Sha384(bytes) => Sha384::digest(content) == *bytes,
+        Digest::Sha512(bytes) => Sha512::digest(content) == *bytes,
+    }
+}
+
 fn is_image(frame: &Frame<'_>, component: u32, content: &[u8]) -> bool {
     let Some(Param::Digest(digest)) = frame.get(component, ParamKey::Digest) else {
         return false;
@@ -132,7 +140,7 @@ fn is_image(frame: &Frame<'_>, component: u32, content: &[u8]) -> bool {
         Some(size) => content.len() as u64 == size,
         None => true,
     };
-    sized && Sha256::digest(content).as_slice() == &digest.bytes[..]
+    sized && has_digest(content, digest)
 }
 
 fn passes(stage: &Stage<'_>, frame: &Frame<'_>, component: u32, kind: TestKind) -> bool {
@@ -207,7 +215,7 @@ fn swap<'a>(stage: &mut Stage<'a>, frame: &Frame<'a>, component: u32) -> Result<
 fn is_launch(launch: &Launch, stage: &Stage<'_>, frame: &Frame<'_>, component: u32) -> bool {
     let digest = match frame.get(component, ParamKey::Digest) {
         Some(Param::Digest(digest)) => match &launch.digest {
-            Some(told) => told.as_slice() == &digest.bytes[..],
+            Some(told) => told.as_slice() == digest.bytes(),
             None => false,
         },
         _ => launch.digest.is_none(),

@@ -1,11 +1,19 @@
-use Rattle.std.proofs.Common.{◌≡◌, ◌<◌, ℕ, get_or, ◌∙◌, sym, subst}
+use Rattle.std.proofs.Common.{◌≡◌, ◌<◌, ℕ, Option, IfSome, get_or, ◌∙◌, sym, subst}
 use Rattle.suit_edge.specs.Gate.{IsGate}
 use Rattle.flash_layout.specs.declared.frame.TheConstants.{VERSION_1}
+use Rattle.flash_layout.specs.declared.slot.Record.{Record}
 use Rattle.flash_layout.specs.Frames.{config_page_of, record_from}
-use Rattle.rollback_record.proofs.Loads.{beside_two, first_gate, pages, second_gate}
+use Rattle.rollback_record.specs.HeadRecord.{IsLoadable}
+use Rattle.rollback_record.proofs.Loads.{beside_two, first_gate, higher_loadable, pages, second_gate}
 use Rattle.rollback_record.proofs.SlotCounts.{every_page, some_page}
 use Rattle.rollback_record.proofs.load.judge_pages.Goals as goal
 use Rattle.rollback_record.proofs.load.judge_pages.Goals.{then-which-eq0, else-which-eq0}
+
+pub returns-clause-loadable : goal.returns-clause-loadable
+returns-clause-loadable c =
+    subst (λ (o : Option Record). IfSome o (IsLoadable VERSION_1)) (sym c.higher_of-held.ensures.record)
+    (higher_loadable c.args.slots.now c.args.first.now c.args.second.now c.decode.result c.decode-2.result
+    c.decode.ensures.some c.decode-2.ensures.some)
 
 pub returns-clause-exact : goal.returns-clause-exact
 returns-clause-exact c head whole read counts =

@@ -1,7 +1,10 @@
-use Rattle.std.proofs.Common.{Result, ℕ, refl, sym, ap, subst, ◌∙◌, arith}
+use Rattle.std.proofs.Common.{Result, ℕ, Option, option_map, refl, sym, ap, subst, ◌∙◌, arith}
+use Rattle.std.specs.Prelude.{IfSome}
 use Rattle.path_model.specs.declared.cause.Cause.{Cause}
+use Rattle.suit_params.specs.declared.digest.Digest.{Digest}
+use Rattle.suit_params.specs.DigestBytes.{digest_bytes, IsLong}
 use Rattle.suit_edge.specs.FlashLaws.{grows_then, same_flash_then}
-use Rattle.step_machine.specs.Invoking.{InvokeCounts, InvokesAs, digest_bytes, result_of}
+use Rattle.step_machine.specs.Invoking.{InvokeCounts, InvokesAs, result_of}
 use Rattle.step_machine.specs.Spots.{content_of}
 use Rattle.step_machine.proofs.Launching.{counts_as, invoke_cut, invokes_as}
 use Rattle.step_machine.proofs.invoking.invoke.Goals as goal
@@ -33,7 +36,7 @@ returns-clause-invokes g c t u =
     let new = g.L.Launcher.launches c.launch-launched.new.self in
     subst (λ (r : Result (Unit {0}) Cause). InvokesAs standing.component c.args.params.now content old new r) (sym c.outcome_of.ensures)
     (invokes_as standing.component c.args.params.now content reads _ old new c.in-Ok.image g.D.Disk.told _ _ _ c.launch-launched.result
-    t (c.image_at.ensures.read.same t).reads (c.in-Ok.ensures.image t) (c.digest_bytes-digest.ensures ∙ ap digest_bytes c.digest_for-in_force.ensures) c.size_for-size.ensures c.args_for-args.ensures (c.launch-launched.ensures.launches u))
+    t (c.image_at.ensures.read.same t).reads (c.in-Ok.ensures.image t) (c.digest_bytes-digest.ensures.is ∙ ap (option_map digest_bytes) c.digest_for-in_force.ensures) (subst (λ (d : Option Digest). IfSome d IsLong) c.digest_for-in_force.ensures c.digest_bytes-digest.ensures.long) c.size_for-size.ensures c.args_for-args.ensures (c.launch-launched.ensures.launches u))
 
 pub returns-clause-same : goal.returns-clause-same
 returns-clause-same g c t = same_flash_then _ _ _ _ (g.met.D.Disk.obeys c.image_at.new.disk t) (c.image_at.ensures.read.same t) (c.launch-launched.ensures.same t)
