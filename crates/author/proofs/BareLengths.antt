@@ -10,8 +10,13 @@ use Rattle.hmac_mac0.specs.Hmac.{hmac_of, hmac512_of}
 use Rattle.hmac_mac0.specs.Mac0.{kid_pairs, made_header, tag_of}
 use Rattle.hmac_mac0.specs.declared.mac_kind.MacKind.{MacKind}
 use Rattle.hmac_mac0.specs.declared.mac_kind.MacKind.TheVariants as macs
-use Rattle.suit_params.specs.Digests.{digest_item, sha_256}
+use Rattle.suit_params.specs.declared.digest.Digest.{Digest}
+use Rattle.suit_params.specs.DigestBytes.{digest_bytes, digest_kind}
+use Rattle.suit_params.specs.DigestKinds.{algorithm_item, size_of as digest_size}
+use Rattle.suit_params.specs.Digests.{digest_item}
 use Rattle.suit_commands.specs.SequenceMaking.{sequence_item}
+use Rattle.suit_params.specs.declared.digest_kind.DigestKind.{DigestKind}
+use Rattle.suit_params.specs.DigestLaws.{hash_kind, hash_long}
 use Rattle.suit_envelope.specs.Authentic.{payload_of}
 use Rattle.suit_envelope.specs.Members.{string_digest}
 use Rattle.suit_envelope.specs.Trimmed.{trimmed}
@@ -36,11 +41,22 @@ same_string a b e = same_append (head_bytes 2 (length a)) (head_bytes 2 (length 
 
 -- ---- digests
 
-digests : (a b : List ℕ) → length (string_digest a) ≡ length (string_digest b)
-digests a b = length-sha256 (spell (ByteString a)) ∙ sym (length-sha256 (spell (ByteString b)))
+-- by the same hash function, and as long
+abbrev AreAlike : Digest → Digest → Type 0
+AreAlike a b = (digest_kind a ≡ digest_kind b) × (length (digest_bytes a) ≡ length (digest_bytes b))
 
-same_digest : (a b : List ℕ) → length a ≡ length b → length (spell (digest_item a)) ≡ length (spell (digest_item b))
-same_digest a b e = behind (head_bytes 4 2) _ _ (behind (spell sha_256) _ _ (same_append (spell (ByteString a)) (spell (ByteString b)) [] [] (same_string a b e) refl))
+digests : (kind : DigestKind) (a b : List ℕ) → AreAlike (string_digest kind a) (string_digest kind b)
+digests kind a b =
+    let x = spell (ByteString a) in
+    let y = spell (ByteString b) in
+    let same = hash_kind kind x ∙ sym (hash_kind kind y) in
+    (same, hash_long kind x ∙ ap digest_size same ∙ sym (hash_long kind y))
+
+same_digest : (a b : Digest) → AreAlike a b → length (spell (digest_item a)) ≡ length (spell (digest_item b))
+same_digest a b alike =
+    behind (head_bytes 4 2) _ _
+    (same_append (spell (algorithm_item (digest_kind a))) (spell (algorithm_item (digest_kind b))) _ _ (ap (λ (k : DigestKind). length (spell (algorithm_item k))) alike.0)
+    (same_append (spell (ByteString (digest_bytes a))) (spell (ByteString (digest_bytes b))) [] [] (same_string (digest_bytes a) (digest_bytes b) alike.1) refl))
 
 -- ---- the manifest
 
@@ -66,11 +82,11 @@ row_then key (Some x) None ps qs h same = absurd h
 same_map : (ps qs : DataPairs) → SamePairs ps qs → length (spell (MapOf ps)) ≡ length (spell (MapOf qs))
 same_map ps qs same = same_append (head_bytes 5 (pair_count ps)) (head_bytes 5 (pair_count qs)) (spell_pairs ps) (spell_pairs qs) (ap (λ n. length (head_bytes 5 n)) same.0) same.1
 
-member_row : (b : Bool) (m : Member) → SameRow (severed_item (apart_member b (bare_member b m))) (severed_item (apart_member b m))
-member_row true members.Empty = tt
-member_row true (members.Here s) = same_digest (string_digest []) (string_digest (spell (sequence_item s))) (digests [] (spell (sequence_item s)))
-member_row true (members.Apart digest) = refl
-member_row false m = one_row (severed_item m)
+member_row : (b : Bool) (kind : DigestKind) (m : Member) → SameRow (severed_item (apart_member b kind (bare_member b kind m))) (severed_item (apart_member b kind m))
+member_row true kind members.Empty = tt
+member_row true kind (members.Here s) = same_digest (string_digest kind []) (string_digest kind (spell (sequence_item s))) (digests kind [] (spell (sequence_item s)))
+member_row true kind (members.Apart digest) = refl
+member_row false kind m = one_row (severed_item m)
 
 abbrev SameRows : List Row → List Row → Type 0
 SameRows [] [] = Unit {0}
@@ -111,7 +127,7 @@ manifest_same p =
                 (
                   refl,
                   one_row (held_item m.invoke),
-                  (refl, member_row p.severed.payload_fetch p.manifest.payload_fetch, (refl, member_row p.severed.install p.manifest.install, (refl, one_row (text_member_item m.text), tt))),
+                  (refl, member_row p.severed.payload_fetch p.severed.kinds.payload_fetch p.manifest.payload_fetch, (refl, member_row p.severed.install p.severed.kinds.install p.manifest.install, (refl, one_row (text_member_item m.text), tt))),
                 ),
               ),
             ),
@@ -127,21 +143,21 @@ unfolding tag_of hmac_of hmac512_of
 tag_long macs.Hmac256 key protected payload = length-sha256 _
 tag_long macs.Hmac512 key protected payload = length-sha512 _
 
-block_same : (key : List ℕ) (kid : Option (List ℕ)) (a b : List ℕ) → length (made_block key kid a) ≡ length (made_block key kid b)
-block_same key kid a b =
-    let header = made_header macs.Hmac256 in
-    let s = tag_of macs.Hmac256 key header (payload_of a) in
-    let t = tag_of macs.Hmac256 key header (payload_of b) in
+block_same : (mac : MacKind) (key : List ℕ) (kid : Option (List ℕ)) (a b : Digest) → length (made_block mac key kid a) ≡ length (made_block mac key kid b)
+block_same mac key kid a b =
+    let header = made_header mac in
+    let s = tag_of mac key header (payload_of a) in
+    let t = tag_of mac key header (payload_of b) in
     behind (head_bytes 6 17) _ _ (behind (head_bytes 4 4) _ _ (behind (spell (ByteString header)) _ _ (behind (spell (MapOf (kid_pairs kid))) _ _ (behind (spell NullItem) _ _
-    (same_append (spell (ByteString s)) (spell (ByteString t)) [] [] (same_string s t (tag_long macs.Hmac256 key header (payload_of a) ∙ sym (tag_long macs.Hmac256 key header (payload_of b)))) refl)))))
+    (same_append (spell (ByteString s)) (spell (ByteString t)) [] [] (same_string s t (tag_long mac key header (payload_of a) ∙ sym (tag_long mac key header (payload_of b)))) refl)))))
 
-wrapper_same : (key : List ℕ) (kid : Option (List ℕ)) (a b : List ℕ) → length a ≡ length b → length (made_wrapper key kid a) ≡ length (made_wrapper key kid b)
-wrapper_same key kid a b e =
-    let x = made_block key kid a in
-    let y = made_block key kid b in
+wrapper_same : (mac : MacKind) (key : List ℕ) (kid : Option (List ℕ)) (a b : Digest) → AreAlike a b → length (made_wrapper mac key kid a) ≡ length (made_wrapper mac key kid b)
+wrapper_same mac key kid a b e =
+    let x = made_block mac key kid a in
+    let y = made_block mac key kid b in
     behind (head_bytes 4 2) _ _
     (same_append (spell (ByteString (spell (digest_item a)))) (spell (ByteString (spell (digest_item b)))) _ _ (same_string _ _ (same_digest a b e))
-    (same_append (spell (ByteString x)) (spell (ByteString y)) [] [] (same_string x y (block_same key kid a b)) refl))
+    (same_append (spell (ByteString x)) (spell (ByteString y)) [] [] (same_string x y (block_same mac key kid a b)) refl))
 
 -- ---- the trimmed envelope
 
@@ -155,4 +171,4 @@ pub bare_trimmed : (key : List ℕ) (p : Described) → length (trimmed_bytes (m
 bare_trimmed key p =
     let m = spell (manifest_item (made_manifest (bare p.severed p))) in
     let n = spell (manifest_item (made_manifest p)) in
-    trimmed_same _ _ m n (wrapper_same key p.kid (string_digest m) (string_digest n) (digests m n)) (manifest_same p)
+    trimmed_same _ _ m n (wrapper_same p.mac key p.kid (string_digest p.algorithm m) (string_digest p.algorithm n) (digests p.algorithm m n)) (manifest_same p)

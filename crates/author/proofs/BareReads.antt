@@ -11,6 +11,9 @@ use Rattle.json_fields.specs.Flaws.{under}
 use Rattle.json_fields.specs.Objects.{members_of, required}
 use Rattle.json_fields.specs.Pointers.{key_token}
 use Rattle.json_fields.specs.Values.{text_of, hex_of}
+use Rattle.suit_params.specs.declared.digest.Digest.{Digest}
+use Rattle.suit_params.specs.declared.digest_kind.DigestKind.{DigestKind}
+use Rattle.author.specs.declared.severing.MemberKinds.{MemberKinds}
 use Rattle.suit_commands.specs.Tree.{SequenceTree}
 use Rattle.suit_manifest.specs.declared.manifest.Member.TheVariants as members
 use Rattle.author.specs.declared.bare.BareFields.{BareFields}
@@ -20,6 +23,8 @@ use Rattle.author.specs.declared.severing.Severed.{Severed}
 use Rattle.author.specs.Bare.{no_content, bare_member, bare, takes_bare, described_bare}
 use Rattle.author.specs.Descriptions.{no_fields, scope_of, field_sequence, takes_field, whole, finished, described}
 use Rattle.author.specs.Identifiers.{identifiers_of}
+use Rattle.author.specs.AlgorithmNames.{algorithm_of}
+use Rattle.author.specs.MacNames.{mac_kind_of}
 use Rattle.author.specs.Members.{left_out, member_sequence, text_member_of}
 use Rattle.author.specs.ParamValues.{number_of}
 use Rattle.author.specs.Payloads.{payloads_of}
@@ -33,7 +38,7 @@ abbrev at : Severed → Fields → BareFields
 at s f = record { fields = f; severed = s }
 
 abbrev bare_fields : Severed → Fields → Fields
-bare_fields s t = record t { payload_fetch = bare_member s.payload_fetch t.payload_fetch; install = bare_member s.install t.install }
+bare_fields s t = record t { payload_fetch = bare_member s.payload_fetch s.kinds.payload_fetch t.payload_fetch; install = bare_member s.install s.kinds.install t.install }
 
 -- the bare reading comes to the same fields
 abbrev Same : Severed → Result BareFields Flaw → Fields → Type 0
@@ -47,31 +52,31 @@ other_step s true (Ok a) g h e = WasRead (g a) (ap (λ f. Ok (at s f)) (e a))
 other_step s false (Ok a) g h e = WasRead (g a) (ap (λ f. Ok (at s f)) (e a))
 other_step s b (Err f) g h e = WasFlawed f
 
-fetch_step : (t : Fields) (c e x b : Bool) (digest : Result (List ℕ) Flaw) (commands : Result SequenceTree Flaw)
-    → let s : Severed = record { payload_fetch = c; install = e; text = x } in
+fetch_step : (t : Fields) (c e x : Bool) (ks : MemberKinds) (b : Bool) (digest : Result Digest Flaw) (commands : Result SequenceTree Flaw)
+    → let s : Severed = record { payload_fetch = c; install = e; text = x; kinds = ks } in
     let u : Fields = bare_fields s t in
-    let m = cond b (digest >>= λ y. Ok (members.Apart (record { bytes = y }))) (commands >>= λ w. Ok (members.Here w)) in
+    let m = cond b (digest >>= λ y. Ok (members.Apart y)) (commands >>= λ w. Ok (members.Here w)) in
     let as_read : Result BareFields Flaw = (m >>= λ y. Ok (record u { payload_fetch = y })) >>= λ f. Ok (at s f) in
-    Holds (Same s (cond b as_read (cond c (Ok (at s (record u { payload_fetch = no_content }))) as_read))) (m >>= λ y. Ok (record t { payload_fetch = y }))
-fetch_step t true e x true (Ok y) commands = WasRead (record t { payload_fetch = members.Apart (record { bytes = y }) }) refl
-fetch_step t false e x true (Ok y) commands = WasRead (record t { payload_fetch = members.Apart (record { bytes = y }) }) refl
-fetch_step t c e x true (Err f) commands = WasFlawed f
-fetch_step t true e x false digest (Ok w) = WasRead (record t { payload_fetch = members.Here w }) refl
-fetch_step t false e x false digest (Ok w) = WasRead (record t { payload_fetch = members.Here w }) refl
-fetch_step t c e x false digest (Err f) = WasFlawed f
+    Holds (Same s (cond b as_read (cond c (Ok (at s (record u { payload_fetch = no_content ks.payload_fetch }))) as_read))) (m >>= λ y. Ok (record t { payload_fetch = y }))
+fetch_step t true e x ks true (Ok y) commands = WasRead (record t { payload_fetch = members.Apart y }) refl
+fetch_step t false e x ks true (Ok y) commands = WasRead (record t { payload_fetch = members.Apart y }) refl
+fetch_step t c e x ks true (Err f) commands = WasFlawed f
+fetch_step t true e x ks false digest (Ok w) = WasRead (record t { payload_fetch = members.Here w }) refl
+fetch_step t false e x ks false digest (Ok w) = WasRead (record t { payload_fetch = members.Here w }) refl
+fetch_step t c e x ks false digest (Err f) = WasFlawed f
 
-install_step : (t : Fields) (c e x b : Bool) (digest : Result (List ℕ) Flaw) (commands : Result SequenceTree Flaw)
-    → let s : Severed = record { payload_fetch = c; install = e; text = x } in
+install_step : (t : Fields) (c e x : Bool) (ks : MemberKinds) (b : Bool) (digest : Result Digest Flaw) (commands : Result SequenceTree Flaw)
+    → let s : Severed = record { payload_fetch = c; install = e; text = x; kinds = ks } in
     let u : Fields = bare_fields s t in
-    let m = cond b (digest >>= λ y. Ok (members.Apart (record { bytes = y }))) (commands >>= λ w. Ok (members.Here w)) in
+    let m = cond b (digest >>= λ y. Ok (members.Apart y)) (commands >>= λ w. Ok (members.Here w)) in
     let as_read : Result BareFields Flaw = (m >>= λ y. Ok (record u { install = y })) >>= λ f. Ok (at s f) in
-    Holds (Same s (cond b as_read (cond e (Ok (at s (record u { install = no_content }))) as_read))) (m >>= λ y. Ok (record t { install = y }))
-install_step t c true x true (Ok y) commands = WasRead (record t { install = members.Apart (record { bytes = y }) }) refl
-install_step t c false x true (Ok y) commands = WasRead (record t { install = members.Apart (record { bytes = y }) }) refl
-install_step t c e x true (Err f) commands = WasFlawed f
-install_step t c true x false digest (Ok w) = WasRead (record t { install = members.Here w }) refl
-install_step t c false x false digest (Ok w) = WasRead (record t { install = members.Here w }) refl
-install_step t c e x false digest (Err f) = WasFlawed f
+    Holds (Same s (cond b as_read (cond e (Ok (at s (record u { install = no_content ks.install }))) as_read))) (m >>= λ y. Ok (record t { install = y }))
+install_step t c true x ks true (Ok y) commands = WasRead (record t { install = members.Apart y }) refl
+install_step t c false x ks true (Ok y) commands = WasRead (record t { install = members.Apart y }) refl
+install_step t c e x ks true (Err f) commands = WasFlawed f
+install_step t c true x ks false digest (Ok w) = WasRead (record t { install = members.Here w }) refl
+install_step t c false x ks false digest (Ok w) = WasRead (record t { install = members.Here w }) refl
+install_step t c e x ks false digest (Err f) = WasFlawed f
 
 -- ---- all fields
 
@@ -94,13 +99,15 @@ module _ (s : Severed) (t : Fields) (d : Data) where
       holds_choice (Step k) (bytes_eq k (codes "load")) _ _ (λ e. at_key k (codes "load") _ e (other_step s b (field_sequence t false d) _ _ (λ x. refl))) (λ _.
       holds_choice (Step k) (bytes_eq k (codes "invoke")) _ _ (λ e. at_key k (codes "invoke") _ e (other_step s b (field_sequence t false d) _ _ (λ x. refl))) (λ _.
       holds_choice (Step k) (bytes_eq k (codes "payload-fetch")) _ _
-      (λ e. at_key k (codes "payload-fetch") _ e (fetch_step t s.payload_fetch s.install s.text b (left_out d) (member_sequence (scope_of t false) d))) (λ _.
+      (λ e. at_key k (codes "payload-fetch") _ e (fetch_step t s.payload_fetch s.install s.text s.kinds b (left_out d) (member_sequence (scope_of t false) d))) (λ _.
       holds_choice (Step k) (bytes_eq k (codes "install")) _ _
-      (λ e. at_key k (codes "install") _ e (install_step t s.payload_fetch s.install s.text b (left_out d) (member_sequence (scope_of t false) d))) (λ _.
+      (λ e. at_key k (codes "install") _ e (install_step t s.payload_fetch s.install s.text s.kinds b (left_out d) (member_sequence (scope_of t false) d))) (λ _.
       holds_choice (Step k) (bytes_eq k (codes "text")) _ _ (λ e. at_key k (codes "text") _ e (other_step s b (text_member_of d) _ _ (λ x. refl))) (λ _.
       holds_choice (Step k) (bytes_eq k (codes "sever")) _ _ (λ e. at_key k (codes "sever") _ e (other_step s b (severed_of t.source.given d) _ _ (λ x. refl))) (λ _.
       holds_choice (Step k) (bytes_eq k (codes "payloads")) _ _ (λ e. at_key k (codes "payloads") _ e (other_step s b (payloads_of t.source.scope.files d) _ _ (λ x. refl))) (λ _.
-      holds_choice (Step k) (bytes_eq k (codes "kid")) _ _ (λ e. at_key k (codes "kid") _ e (other_step s b (hex_of d) _ _ (λ x. refl))) (λ _. WasFlawed _)))))))))))))
+      holds_choice (Step k) (bytes_eq k (codes "kid")) _ _ (λ e. at_key k (codes "kid") _ e (other_step s b (hex_of d) _ _ (λ x. refl))) (λ _.
+      holds_choice (Step k) (bytes_eq k (codes "mac")) _ _ (λ e. at_key k (codes "mac") _ e (other_step s b (mac_kind_of d) _ _ (λ x. refl))) (λ _.
+      holds_choice (Step k) (bytes_eq k (codes "algorithm")) _ _ (λ e. at_key k (codes "algorithm") _ e (other_step s b (algorithm_of d) _ _ (λ x. refl))) (λ _. WasFlawed _)))))))))))))))
 
 walk : (s : Severed) (ms : Members) (t : Fields) → Holds (Same s (members_of takes_bare (at s (bare_fields s t)) ms)) (members_of takes_field t ms)
 walk s no_members t = WasRead t refl
@@ -117,15 +124,16 @@ both_there s t (Ok ids) (Ok n) = WasRead (whole t ids n) refl
 both_there s t (Ok ids) (Err f) = WasFlawed f
 both_there s t (Err f) q = WasFlawed f
 
-empty : (b : Bool) → bare_member b members.Empty ≡ members.Empty
-empty true = refl
-empty false = refl
+empty : (b : Bool) (kind : DigestKind) → bare_member b kind members.Empty ≡ members.Empty
+empty true kind = refl
+empty false kind = refl
 
 none_read : (s : Severed) (t : Fields) → t.payload_fetch ≡ members.Empty → t.install ≡ members.Empty → at s (bare_fields s t) ≡ at s t
 none_read s t p q =
-    let fetch : bare_member s.payload_fetch t.payload_fetch ≡ t.payload_fetch = ap (bare_member s.payload_fetch) p ∙ empty s.payload_fetch ∙ sym p in
-    let install : bare_member s.install t.install ≡ t.install = ap (bare_member s.install) q ∙ empty s.install ∙ sym q in
-    ap (λ m. at s (record t { payload_fetch = m; install = bare_member s.install t.install })) fetch ∙ ap (λ m. at s (record t { install = m })) install
+    let ks : MemberKinds = s.kinds in
+    let fetch : bare_member s.payload_fetch ks.payload_fetch t.payload_fetch ≡ t.payload_fetch = ap (bare_member s.payload_fetch ks.payload_fetch) p ∙ empty s.payload_fetch ks.payload_fetch ∙ sym p in
+    let install : bare_member s.install ks.install t.install ≡ t.install = ap (bare_member s.install ks.install) q ∙ empty s.install ks.install ∙ sym q in
+    ap (λ m. at s (record t { payload_fetch = m; install = bare_member s.install ks.install t.install })) fetch ∙ ap (λ m. at s (record t { install = m })) install
 
 bare_holds : (files : Files) (s : Severed) (d : Data) → Holds (λ p. described_bare files s d ≡ Ok (bare s p)) (described files d)
 bare_holds files s null = WasFlawed _

@@ -157,7 +157,7 @@ module _ (scope : Scope) where
   param_holds keys.Vendor d = holds_then (Taken keys.Vendor d) _ _ (λ x. WasRead _ (other_taken (params.Vendor x) tt))
   param_holds keys.Class d = holds_then (Taken keys.Class d) _ _ (λ x. WasRead _ (other_taken (params.Class x) tt))
   param_holds keys.Device d = holds_then (Taken keys.Device d) _ _ (λ x. WasRead _ (other_taken (params.Device x) tt))
-  param_holds keys.Digest d = holds_then (Taken keys.Digest d) _ _ (λ x. WasRead _ (other_taken (params.Digest (record { bytes = x })) tt))
+  param_holds keys.Digest d = holds_then (Taken keys.Digest d) _ _ (λ x. WasRead _ (other_taken (params.Digest x) tt))
   param_holds keys.Slot d = holds_then (Taken keys.Slot d) _ _ (λ x. WasRead _ (other_taken (params.Slot x) tt))
   param_holds keys.Strict d = holds_then (Taken keys.Strict d) _ _ (λ x. WasRead _ (other_taken (params.Strict x) tt))
   param_holds keys.Soft d = holds_then (Taken keys.Soft d) _ _ (λ x. WasRead _ (other_taken (params.Soft x) tt))

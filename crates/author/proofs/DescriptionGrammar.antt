@@ -17,6 +17,7 @@ use Rattle.serde_json.specs.Find.{get_member, as_object}
 use Rattle.json_fields.specs.Arrays.{each_from, array_of}
 use Rattle.json_fields.specs.Objects.{members_of, required}
 use Rattle.json_fields.specs.Pointers.{key_token, index_token}
+use Rattle.suit_params.specs.declared.digest_kind.DigestKind.{DigestKind}
 use Rattle.suit_commands.specs.Tree.{SequenceTree}
 use Rattle.suit_commands.specs.Allowed.{IsSequence, levels_allowed}
 use Rattle.suit_commands.specs.SequenceWriting.{StepsFit}
@@ -157,7 +158,9 @@ other_holds t k d ms other h a =
     holds_choice (KeptWith ms) (bytes_eq k (codes "text")) _ _ (λ _. holds_bind IsReadText (KeptWith ms) _ _ (text_holds d) (λ m g. WasRead _ ((h.0, h.1, h.2, h.3, h.4, h.5, h.6, g), a))) (λ _.
     holds_choice (KeptWith ms) (bytes_eq k (codes "sever")) _ _ (λ _. holds_then (KeptWith ms) _ _ (λ x. WasRead _ (h, a))) (λ _.
     holds_choice (KeptWith ms) (bytes_eq k (codes "payloads")) _ _ (λ _. holds_then (KeptWith ms) _ _ (λ x. WasRead _ (h, a))) (λ _.
-    holds_choice (KeptWith ms) (bytes_eq k (codes "kid")) _ _ (λ _. holds_then (KeptWith ms) _ _ (λ x. WasRead _ (h, a))) (λ _. WasFlawed _)))))))))))))
+    holds_choice (KeptWith ms) (bytes_eq k (codes "kid")) _ _ (λ _. holds_then (KeptWith ms) _ _ (λ x. WasRead _ (h, a))) (λ _.
+    holds_choice (KeptWith ms) (bytes_eq k (codes "mac")) _ _ (λ _. holds_then (KeptWith ms) _ _ (λ x. WasRead _ (h, a))) (λ _.
+    holds_choice (KeptWith ms) (bytes_eq k (codes "algorithm")) _ _ (λ _. holds_then (KeptWith ms) _ _ (λ x. WasRead _ (h, a))) (λ _. WasFlawed _)))))))))))))))
 
 first_read : (count : ℕ) (o : Option (List (List (List ℕ)))) (d : Data) (found : Option Data) (ids : List (List (List ℕ))) → IfSome o (AreListed count) → IfNone o (count ≡ listed found)
     → found ≡ Some d → AreIdentifiers d ids → AreListed count (unwrap_or o ids)
@@ -228,21 +231,21 @@ held_holds : (shared : Bool) (count : ℕ) (o : Option SequenceTree) → IfSome 
 held_holds shared count None h fits = tt
 held_holds shared count (Some s) h fits = h fits.2.1
 
-severed_holds : (count : ℕ) (b : Bool) (m : Member) → IsRead count m → SeveredFits (apart_member b m) → IsSevered count (apart_member b m)
-severed_holds count true members.Empty h fits = tt
-severed_holds count true (members.Here s) h fits = tt
-severed_holds count true (members.Apart digest) h fits = tt
-severed_holds count false members.Empty h fits = tt
-severed_holds count false (members.Here s) h fits = h fits.2.1
-severed_holds count false (members.Apart digest) h fits = tt
+severed_holds : (count : ℕ) (b : Bool) (kind : DigestKind) (m : Member) → IsRead count m → SeveredFits (apart_member b kind m) → IsSevered count (apart_member b kind m)
+severed_holds count true kind members.Empty h fits = tt
+severed_holds count true kind (members.Here s) h fits = tt
+severed_holds count true kind (members.Apart digest) h fits = tt
+severed_holds count false kind members.Empty h fits = tt
+severed_holds count false kind (members.Here s) h fits = h fits.2.1
+severed_holds count false kind (members.Apart digest) h fits = tt
 
-text_is : ItemSplitting → (b : Bool) (t : TextMember) → IsReadText t → TextFits (apart_text b t) → IsTextMember (apart_text b t)
-text_is law true texts.Empty h fits = tt
-text_is law true (texts.Here content) h fits = tt
-text_is law true (texts.Apart digest) h fits = tt
-text_is law false texts.Empty h fits = tt
-text_is law false (texts.Here content) h fits = one_item_spelled law content fits.1 h
-text_is law false (texts.Apart digest) h fits = tt
+text_is : ItemSplitting → (b : Bool) (kind : DigestKind) (t : TextMember) → IsReadText t → TextFits (apart_text b kind t) → IsTextMember (apart_text b kind t)
+text_is law true kind texts.Empty h fits = tt
+text_is law true kind (texts.Here content) h fits = tt
+text_is law true kind (texts.Apart digest) h fits = tt
+text_is law false kind texts.Empty h fits = tt
+text_is law false kind (texts.Here content) h fits = one_item_spelled law content fits.1 h
+text_is law false kind (texts.Apart digest) h fits = tt
 
 pub grammatical : ItemSplitting → (d : Data) (files : Files) (p : Described) → AreFewAndApart p.manifest.components → described files d ≡ Ok p → ManifestFits (made_manifest p) → IsGrammatical (made_manifest p)
 grammatical law d files p components is fits =
@@ -259,9 +262,9 @@ grammatical law d files p components is fits =
       validate = held_holds false n p.manifest.validate (subst (λ (k : ℕ). IfSome p.manifest.validate (Sequence false k)) counted h.3) fits.validate;
       load = held_holds false n p.manifest.load (subst (λ (k : ℕ). IfSome p.manifest.load (Sequence false k)) counted h.4) fits.load;
       invoke = held_holds false n p.manifest.invoke (subst (λ (k : ℕ). IfSome p.manifest.invoke (Sequence false k)) counted h.5) fits.invoke;
-      payload_fetch = severed_holds n p.severed.payload_fetch p.manifest.payload_fetch (subst (λ (k : ℕ). IsRead k p.manifest.payload_fetch) counted h.6) fits.payload_fetch;
-      install = severed_holds n p.severed.install p.manifest.install (subst (λ (k : ℕ). IsRead k p.manifest.install) counted h.7) fits.install;
-      text = text_is law p.severed.text p.manifest.text h.8 fits.text;
+      payload_fetch = severed_holds n p.severed.payload_fetch p.severed.kinds.payload_fetch p.manifest.payload_fetch (subst (λ (k : ℕ). IsRead k p.manifest.payload_fetch) counted h.6) fits.payload_fetch;
+      install = severed_holds n p.severed.install p.severed.kinds.install p.manifest.install (subst (λ (k : ℕ). IsRead k p.manifest.install) counted h.7) fits.install;
+      text = text_is law p.severed.text p.severed.kinds.text p.manifest.text h.8 fits.text;
     }
 
 -- ---- the members that may be severed

@@ -1,7 +1,7 @@
 -- An envelope is longer than the contents that stand in it.
 use Rattle.std.proofs.Common.{◌≡◌, ℕ, ◌+◌, ◌-◌, ◌<◌, ◌≤◌, ◌^◌, List, [], ◌∷◌, ◌++◌, length, min, drop, Option, Some, None, ap, arith}
 use Rattle.std.proofs.lemmas.List.{drop_all, length-append}
-use Rattle.det_cbor.specs.DataItem.{UnsignedInteger, ByteString, TextString, MapOf, DataPairs, pair_count, spell, spell_pairs}
+use Rattle.det_cbor.specs.DataItem.{UnsignedInteger, ByteString, TextString, DataPairs, pair_count, spell, spell_pairs}
 use Rattle.det_cbor.specs.Heads.{head_bytes}
 use Rattle.suit_envelope.specs.Making.{member_then, payload_pairs, pairs_made}
 use Rattle.suit_envelope.specs.declared.parts.EnvelopeParts.{EnvelopeParts}
@@ -53,11 +53,11 @@ envelope_longer parts =
       length-append (head_bytes 6 107) (head ++ pairs),
     )
 
-pub trimmed_exceeds : (parts : EnvelopeParts) (n : ℕ) → n ≡ min (length (trimmed_bytes parts)) (2 ^ 64 - 1) → 16384 < n → ExceedsLimit parts 16384
+pub trimmed_exceeds : (parts : EnvelopeParts) (n : ℕ) → n ≡ min (length (trimmed_bytes parts)) (2 ^ 64 - 1) → 65536 < n → ExceedsLimit parts 65536
 trimmed_exceeds parts n counted long = Trimmed (omega (arith, counted, long))
 
-pub trimmed_fits : (parts : EnvelopeParts) (n : ℕ) → n ≡ min (length (trimmed_bytes parts)) (2 ^ 64 - 1) → n ≤ 16384 → length (trimmed_bytes parts) ≤ 16384
+pub trimmed_fits : (parts : EnvelopeParts) (n : ℕ) → n ≡ min (length (trimmed_bytes parts)) (2 ^ 64 - 1) → n ≤ 65536 → length (trimmed_bytes parts) ≤ 65536
 trimmed_fits parts n counted short = omega (arith, counted, short)
 
-pub contents_exceed : (parts : EnvelopeParts) (n : ℕ) → length (trimmed_bytes parts) ≤ 16384 → n ≡ min (contents_length parts) (2 ^ 64 - 1) → 1048576 < n → ExceedsLimit parts 1048576
+pub contents_exceed : (parts : EnvelopeParts) (n : ℕ) → length (trimmed_bytes parts) ≤ 65536 → n ≡ min (contents_length parts) (2 ^ 64 - 1) → 1048576 < n → ExceedsLimit parts 1048576
 contents_exceed parts n short counted long = Whole short (omega (arith, counted, long, envelope_longer parts))

@@ -1,12 +1,16 @@
 -- The fields of a description are read of the values that are found in it.
-use Rattle.std.proofs.Common.{◌≡◌, ℕ, List, [], Bool, true, false, Option, Some, None, Result, Ok, refl, ap, sym, subst, ◌∙◌}
+use Rattle.std.proofs.Common.{◌≡◌, ℕ, List, [], Bool, true, false, cond, Option, Some, None, Result, Ok, refl, ap, sym, subst, ◌∙◌}
 use Rattle.std.specs.Prelude.{codes, option_and_then}
 use Rattle.std.specs.Str.{bytes_eq}
 use Rattle.std.proofs.lemmas.Slice.Eq.{bytes_eq-Decides}
 use Rattle.det_cbor.specs.HeadReading.{◌>>=◌}
 use Rattle.serde_json.specs.Data.{Data, null, boolean, number, string, array, object, Members, no_members, member}
 use Rattle.serde_json.specs.Find.{get_member, as_str}
+use Rattle.hmac_mac0.specs.declared.mac_kind.MacKind.TheVariants as macs
+use Rattle.suit_params.specs.declared.digest_kind.DigestKind.TheVariants as kinds
 use Rattle.json_fields.specs.declared.flaw.Flaw.{Flaw}
+use Rattle.json_fields.specs.declared.flaw.FlawKind.TheVariants.{Field}
+use Rattle.json_fields.specs.Flaws.{found_or}
 use Rattle.json_fields.specs.Objects.{members_of, required}
 use Rattle.json_fields.specs.Pointers.{key_token}
 use Rattle.json_fields.specs.Values.{hex_of}
@@ -17,8 +21,10 @@ use Rattle.suit_manifest.specs.declared.manifest.TextMember.TheVariants as texts
 use Rattle.author.specs.declared.fields.Described.{Described}
 use Rattle.author.specs.declared.fields.Fields.{Fields}
 use Rattle.author.specs.Descriptions.{no_fields, scope_of, takes_field, whole, described}
-use Rattle.author.specs.GivenParts.{bytes_spelled, IsMemberOf, IsTextOf, IsHere, IsTextHere}
+use Rattle.author.specs.GivenParts.{bytes_spelled, IsMemberOf, IsTextOf, IsAlgorithmOf, IsMacOf, IsHere, IsTextHere}
 use Rattle.author.specs.KeysOnce.{HasKeysOnce, AreKeysOnce}
+use Rattle.author.specs.AlgorithmNames.{algorithm_of}
+use Rattle.author.specs.MacNames.{mac_kind_of}
 use Rattle.author.specs.Members.{described_member, text_member_of}
 use Rattle.author.specs.Payloads.{payloads_of}
 use Rattle.author.specs.Scope.{Scope}
@@ -39,9 +45,11 @@ pub record Values : Type 0 where
   pub install : Option Data
   pub text : Option Data
   pub kid : Option Data
+  pub mac : Option Data
+  pub algorithm : Option Data
 
 abbrev pub no_values : Values
-no_values = record { payloads = None; sever = None; payload_fetch = None; install = None; text = None; kid = None }
+no_values = record { payloads = None; sever = None; payload_fetch = None; install = None; text = None; kid = None; mac = None; algorithm = None }
 
 abbrev pub noted : Values → List ℕ → Data → Values
 noted o k d = record {
@@ -51,6 +59,8 @@ noted o k d = record {
   install = pick k (codes "install") d o.install;
   text = pick k (codes "text") d o.text;
   kid = pick k (codes "kid") d o.kid;
+  mac = pick k (codes "mac") d o.mac;
+  algorithm = pick k (codes "algorithm") d o.algorithm;
 }
 
 abbrev pub noted_all : Values → Members → Values
@@ -80,6 +90,8 @@ module _ (files : Files) (d : Data) where
       (t.source ≡ (no_fields files d).source) × (read_or [] (payloads_of files) o.payloads ≡ Ok t.payloads) × (read_or none_severed (severed_of (given_in d)) o.sever ≡ Ok t.severed)
       × (read_or members.Empty (described_member scope) o.payload_fetch ≡ Ok t.payload_fetch) × (read_or members.Empty (described_member scope) o.install ≡ Ok t.install)
       × (read_or texts.Empty text_member_of o.text ≡ Ok t.text) × (read_or None kid_of o.kid ≡ Ok t.kid)
+      × (read_or macs.Hmac256 mac_kind_of o.mac ≡ Ok t.mac)
+      × (read_or kinds.Sha256 algorithm_of o.algorithm ≡ Ok t.algorithm)
 
   -- at the key that stands there
   at_key : (o : Values) (k key : List ℕ) (x : Data) (r : Result Fields Flaw) → bytes_eq k key ≡ true → Holds (Follows (noted o key x)) r → Holds (Follows (noted o k x)) r
@@ -104,12 +116,14 @@ module _ (files : Files) (d : Data) where
       holds_choice P (bytes_eq k (codes "validate")) _ _ (λ e. at_key o k (codes "validate") x _ e (holds_then (Follows o) _ _ (λ y. WasRead _ h))) (λ _.
       holds_choice P (bytes_eq k (codes "load")) _ _ (λ e. at_key o k (codes "load") x _ e (holds_then (Follows o) _ _ (λ y. WasRead _ h))) (λ _.
       holds_choice P (bytes_eq k (codes "invoke")) _ _ (λ e. at_key o k (codes "invoke") x _ e (holds_then (Follows o) _ _ (λ y. WasRead _ h))) (λ _.
-      holds_choice P (bytes_eq k (codes "payload-fetch")) _ _ (λ e. at_key o k (codes "payload-fetch") x _ e (holds_bind (λ m. described_member scope x ≡ Ok m) (Follows (noted o (codes "payload-fetch") x)) _ _ (read_member t x h.0) (λ m g. WasRead _ (h.0, h.1, h.2, g, h.4, h.5, h.6)))) (λ _.
-      holds_choice P (bytes_eq k (codes "install")) _ _ (λ e. at_key o k (codes "install") x _ e (holds_bind (λ m. described_member scope x ≡ Ok m) (Follows (noted o (codes "install") x)) _ _ (read_member t x h.0) (λ m g. WasRead _ (h.0, h.1, h.2, h.3, g, h.5, h.6)))) (λ _.
-      holds_choice P (bytes_eq k (codes "text")) _ _ (λ e. at_key o k (codes "text") x _ e (holds_bind (λ m. text_member_of x ≡ Ok m) (Follows (noted o (codes "text") x)) _ _ (same_read (text_member_of x)) (λ m g. WasRead _ (h.0, h.1, h.2, h.3, h.4, g, h.6)))) (λ _.
-      holds_choice P (bytes_eq k (codes "sever")) _ _ (λ e. at_key o k (codes "sever") x _ e (holds_bind (λ s. severed_of (given_in d) x ≡ Ok s) (Follows (noted o (codes "sever") x)) _ _ (read_severed t x h.0) (λ s g. WasRead _ (h.0, h.1, g, h.3, h.4, h.5, h.6)))) (λ _.
-      holds_choice P (bytes_eq k (codes "payloads")) _ _ (λ e. at_key o k (codes "payloads") x _ e (holds_bind (λ ps. payloads_of files x ≡ Ok ps) (Follows (noted o (codes "payloads") x)) _ _ (read_payloads t x h.0) (λ ps g. WasRead _ (h.0, g, h.2, h.3, h.4, h.5, h.6)))) (λ _.
-      holds_choice P (bytes_eq k (codes "kid")) _ _ (λ e. at_key o k (codes "kid") x _ e (holds_bind (λ kid. hex_of x ≡ Ok kid) (Follows (noted o (codes "kid") x)) _ _ (same_read (hex_of x)) (λ kid g. WasRead _ (h.0, h.1, h.2, h.3, h.4, h.5, ap (λ (r : Result (List ℕ) Flaw). r >>= λ y. Ok (Some y)) g)))) (λ _. WasFlawed _)))))))))))))
+      holds_choice P (bytes_eq k (codes "payload-fetch")) _ _ (λ e. at_key o k (codes "payload-fetch") x _ e (holds_bind (λ m. described_member scope x ≡ Ok m) (Follows (noted o (codes "payload-fetch") x)) _ _ (read_member t x h.0) (λ m g. WasRead _ (h.0, h.1, h.2, g, h.4, h.5, h.6, h.7, h.8)))) (λ _.
+      holds_choice P (bytes_eq k (codes "install")) _ _ (λ e. at_key o k (codes "install") x _ e (holds_bind (λ m. described_member scope x ≡ Ok m) (Follows (noted o (codes "install") x)) _ _ (read_member t x h.0) (λ m g. WasRead _ (h.0, h.1, h.2, h.3, g, h.5, h.6, h.7, h.8)))) (λ _.
+      holds_choice P (bytes_eq k (codes "text")) _ _ (λ e. at_key o k (codes "text") x _ e (holds_bind (λ m. text_member_of x ≡ Ok m) (Follows (noted o (codes "text") x)) _ _ (same_read (text_member_of x)) (λ m g. WasRead _ (h.0, h.1, h.2, h.3, h.4, g, h.6, h.7, h.8)))) (λ _.
+      holds_choice P (bytes_eq k (codes "sever")) _ _ (λ e. at_key o k (codes "sever") x _ e (holds_bind (λ s. severed_of (given_in d) x ≡ Ok s) (Follows (noted o (codes "sever") x)) _ _ (read_severed t x h.0) (λ s g. WasRead _ (h.0, h.1, g, h.3, h.4, h.5, h.6, h.7, h.8)))) (λ _.
+      holds_choice P (bytes_eq k (codes "payloads")) _ _ (λ e. at_key o k (codes "payloads") x _ e (holds_bind (λ ps. payloads_of files x ≡ Ok ps) (Follows (noted o (codes "payloads") x)) _ _ (read_payloads t x h.0) (λ ps g. WasRead _ (h.0, g, h.2, h.3, h.4, h.5, h.6, h.7, h.8)))) (λ _.
+      holds_choice P (bytes_eq k (codes "kid")) _ _ (λ e. at_key o k (codes "kid") x _ e (holds_bind (λ kid. hex_of x ≡ Ok kid) (Follows (noted o (codes "kid") x)) _ _ (same_read (hex_of x)) (λ kid g. WasRead _ (h.0, h.1, h.2, h.3, h.4, h.5, ap (λ (r : Result (List ℕ) Flaw). r >>= λ y. Ok (Some y)) g, h.7, h.8)))) (λ _.
+      holds_choice P (bytes_eq k (codes "mac")) _ _ (λ e. at_key o k (codes "mac") x _ e (holds_bind (λ m. mac_kind_of x ≡ Ok m) (Follows (noted o (codes "mac") x)) _ _ (same_read (mac_kind_of x)) (λ m g. WasRead _ (h.0, h.1, h.2, h.3, h.4, h.5, h.6, g, h.8)))) (λ _.
+      holds_choice P (bytes_eq k (codes "algorithm")) _ _ (λ e. at_key o k (codes "algorithm") x _ e (holds_bind (λ m. algorithm_of x ≡ Ok m) (Follows (noted o (codes "algorithm") x)) _ _ (same_read (algorithm_of x)) (λ m g. WasRead _ (h.0, h.1, h.2, h.3, h.4, h.5, h.6, h.7, g)))) (λ _. WasFlawed _)))))))))))))))
 
   walk : (ms : Members) (o : Values) (t : Fields) → Follows o t → Holds (Follows (noted_all o ms)) (members_of takes_field t ms)
   walk no_members o t h = WasRead t h
@@ -125,11 +139,13 @@ module _ (files : Files) (d : Data) where
     pub install : read_or members.Empty (described_member scope) o.install ≡ Ok p.manifest.install
     pub text : read_or texts.Empty text_member_of o.text ≡ Ok p.manifest.text
     pub kid : read_or None kid_of o.kid ≡ Ok p.kid
+    pub mac : read_or macs.Hmac256 mac_kind_of o.mac ≡ Ok p.mac
+    pub algorithm : read_or kinds.Sha256 algorithm_of o.algorithm ≡ Ok p.algorithm
 
   finish : (o : Values) (t : Fields) → Follows o t → Holds (IsReadOf o) (required (codes "components") t.components >>= λ ids. required (codes "sequence") t.sequence >>= λ n. Ok (whole t ids n))
   finish o t h =
       holds_then (IsReadOf o) (required (codes "components") t.components) _ (λ ids. holds_then (IsReadOf o) (required (codes "sequence") t.sequence) _ (λ n.
-      WasRead (whole t ids n) (record { payloads = h.1; severed = h.2; payload_fetch = h.3; install = h.4; text = h.5; kid = h.6 })))
+      WasRead (whole t ids n) (record { payloads = h.1; severed = h.2; payload_fetch = h.3; install = h.4; text = h.5; kid = h.6; mac = h.7; algorithm = h.8 })))
 
 -- ---- the values that are found
 
@@ -153,6 +169,37 @@ module _ {A : Type 0} (empty : A) (form : Data → Result A Flaw) (P : Option Da
 
 pub is_kid : (d : Data) → Holds (λ kid. kid ≡ option_and_then bytes_spelled (as_str d)) (kid_of d)
 is_kid d = holds_bind (Spelled d) (λ kid. kid ≡ option_and_then bytes_spelled (as_str d)) _ _ (hex_spelled d) (λ bytes h. WasRead (Some bytes) (sym h))
+
+named : (name : List ℕ) (b c : Bool) → bytes_eq name (codes "hmac256") ≡ b → bytes_eq name (codes "hmac512") ≡ c
+    → Holds (IsMacOf (Some (string name))) (found_or Field (cond b (Some macs.Hmac256) (cond c (Some macs.Hmac512) None)))
+named name true c e f = WasRead macs.Hmac256 ((bytes_eq-Decides name (codes "hmac256")).0 e)
+named name false true e f = WasRead macs.Hmac512 ((bytes_eq-Decides name (codes "hmac512")).0 f)
+named name false false e f = WasFlawed _
+
+pub is_mac : (d : Data) → Holds (IsMacOf (Some d)) (mac_kind_of d)
+is_mac (string name) = named name (bytes_eq name (codes "hmac256")) (bytes_eq name (codes "hmac512")) refl refl
+is_mac null = WasFlawed _
+is_mac (boolean b) = WasFlawed _
+is_mac (number n) = WasFlawed _
+is_mac (array ds) = WasFlawed _
+is_mac (object ms) = WasFlawed _
+
+-- ---- and a hash function
+
+algorithm_by : (name : List ℕ) (b c e : Bool) → bytes_eq name (codes "sha256") ≡ b → bytes_eq name (codes "sha384") ≡ c → bytes_eq name (codes "sha512") ≡ e
+    → Holds (IsAlgorithmOf (Some (string name))) (found_or Field (cond b (Some kinds.Sha256) (cond c (Some kinds.Sha384) (cond e (Some kinds.Sha512) None))))
+algorithm_by name true c e f g h = WasRead kinds.Sha256 ((bytes_eq-Decides name (codes "sha256")).0 f)
+algorithm_by name false true e f g h = WasRead kinds.Sha384 ((bytes_eq-Decides name (codes "sha384")).0 g)
+algorithm_by name false false true f g h = WasRead kinds.Sha512 ((bytes_eq-Decides name (codes "sha512")).0 h)
+algorithm_by name false false false f g h = WasFlawed _
+
+pub is_algorithm : (d : Data) → Holds (IsAlgorithmOf (Some d)) (algorithm_of d)
+is_algorithm (string name) = algorithm_by name (bytes_eq name (codes "sha256")) (bytes_eq name (codes "sha384")) (bytes_eq name (codes "sha512")) refl refl refl
+is_algorithm null = WasFlawed _
+is_algorithm (boolean b) = WasFlawed _
+is_algorithm (number n) = WasFlawed _
+is_algorithm (array ds) = WasFlawed _
+is_algorithm (object ms) = WasFlawed _
 
 pub here_given : (o : Option Data) (m : Member) → is_content o ≡ true → IsMemberOf o m → IsHere m
 here_given o (members.Here s) e h = tt
@@ -194,7 +241,7 @@ pub fields_read : (files : Files) (ms : Members) (p : Described) → described f
 fields_read files ms p e =
     let d : Data = object ms in
     held (IsReadOf files d (noted_all no_values ms)) (described files d) p
-    (holds_bind (Follows files d (noted_all no_values ms)) (IsReadOf files d (noted_all no_values ms)) _ _ (walk files d ms no_values (no_fields files d) (refl, refl, refl, refl, refl, refl, refl)) (λ t h. finish files d (noted_all no_values ms) t h)) e
+    (holds_bind (Follows files d (noted_all no_values ms)) (IsReadOf files d (noted_all no_values ms)) _ _ (walk files d ms no_values (no_fields files d) (refl, refl, refl, refl, refl, refl, refl, refl, refl)) (λ t h. finish files d (noted_all no_values ms) t h)) e
 
 -- each is read of the value that is found
 pub record IsFound (files : Files) (ms : Members) (p : Described) : Type 0 where
@@ -204,6 +251,8 @@ pub record IsFound (files : Files) (ms : Members) (p : Described) : Type 0 where
   pub install : read_or members.Empty (described_member (scope files (object ms))) (get_member (codes "install") ms) ≡ Ok p.manifest.install
   pub text : read_or texts.Empty text_member_of (get_member (codes "text") ms) ≡ Ok p.manifest.text
   pub kid : read_or None kid_of (get_member (codes "kid") ms) ≡ Ok p.kid
+  pub mac : read_or macs.Hmac256 mac_kind_of (get_member (codes "mac") ms) ≡ Ok p.mac
+  pub algorithm : read_or kinds.Sha256 algorithm_of (get_member (codes "algorithm") ms) ≡ Ok p.algorithm
 
 pub is_found : (files : Files) (ms : Members) (p : Described) → AreKeysOnce ms → described files (object ms) ≡ Ok p → IsFound files ms p
 is_found files ms p once e =
@@ -215,4 +264,6 @@ is_found files ms p once e =
       install = ap (read_or members.Empty (described_member (scope files (object ms)))) (sym (noted_found (λ o. o.install) (codes "install") (λ o k d. refl) refl ms once)) ∙ h.install;
       text = ap (read_or texts.Empty text_member_of) (sym (noted_found (λ o. o.text) (codes "text") (λ o k d. refl) refl ms once)) ∙ h.text;
       kid = ap (read_or None kid_of) (sym (noted_found (λ o. o.kid) (codes "kid") (λ o k d. refl) refl ms once)) ∙ h.kid;
+      mac = ap (read_or macs.Hmac256 mac_kind_of) (sym (noted_found (λ o. o.mac) (codes "mac") (λ o k d. refl) refl ms once)) ∙ h.mac;
+      algorithm = ap (read_or kinds.Sha256 algorithm_of) (sym (noted_found (λ o. o.algorithm) (codes "algorithm") (λ o k d. refl) refl ms once)) ∙ h.algorithm;
     }

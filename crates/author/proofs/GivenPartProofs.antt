@@ -1,8 +1,11 @@
 -- A description has the parts that stand in its JSON value.
 use Rattle.std.proofs.Common.{◌≡◌, ℕ, List, [], true, Option, Some, None, Ok, inl, inr, refl, ap, sym, ◌∙◌}
-use Rattle.std.specs.Prelude.{◌↔◌, codes, IsTrue, option_and_then}
+use Rattle.std.specs.Prelude.{codes, IsTrue, option_and_then}
 use Rattle.serde_json.specs.Data.{Data, null, boolean, number, string, array, object, Items, Members}
 use Rattle.serde_json.specs.Find.{get_member, get, get_item, as_str}
+use Rattle.hmac_mac0.specs.declared.mac_kind.MacKind.TheVariants as macs
+use Rattle.suit_params.specs.declared.digest_kind.DigestKind.{DigestKind}
+use Rattle.suit_params.specs.declared.digest_kind.DigestKind.TheVariants as kinds
 use Rattle.suit_envelope.specs.Payloads.{payload_under}
 use Rattle.suit_envelope.specs.declared.severed.MemberName.{MemberName}
 use Rattle.suit_envelope.specs.declared.severed.MemberName.TheVariants as names
@@ -12,15 +15,17 @@ use Rattle.suit_manifest.specs.declared.manifest.TextMember.TheVariants as texts
 use Rattle.author.specs.declared.fields.Described.{Described}
 use Rattle.author.specs.declared.severing.Severed.{Severed}
 use Rattle.author.specs.Descriptions.{described}
-use Rattle.author.specs.GivenParts.{bytes_spelled, bytes_under, payload_given, payload_at, IsMemberOf, IsTextOf, Severs, HasPartsOf}
+use Rattle.author.specs.GivenParts.{bytes_spelled, bytes_under, payload_given, payload_at, IsMemberOf, IsTextOf, IsAlgorithmOf, IsMacOf, IsSeveredOf, SeversBy, HasPartsOf}
 use Rattle.author.specs.KeysOnce.{HasKeysOnce, AreKeysOnce}
+use Rattle.author.specs.AlgorithmNames.{algorithm_of}
+use Rattle.author.specs.MacNames.{mac_kind_of}
 use Rattle.author.specs.Members.{described_member, text_member_of}
 use Rattle.author.specs.Payloads.{payloads_of}
-use Rattle.author.specs.Severing.{is_in, none_severed, given_in, severed_of}
-use Rattle.author.proofs.GivenFields.{IsFound, scope, read_or, kid_of, is_found, once_inside, read_found, is_kid, here_given, text_here}
+use Rattle.author.specs.Severing.{is_in, kind_in, none_severed, given_in, severed_of}
+use Rattle.author.proofs.GivenFields.{IsFound, scope, read_or, kid_of, is_found, once_inside, read_found, is_algorithm, is_kid, is_mac, here_given, text_here}
 use Rattle.author.proofs.GivenMembers.{member_given, text_given}
 use Rattle.author.proofs.GivenPayloadProofs.{PayloadIs, under_key}
-use Rattle.author.proofs.GivenSevered.{name_text, NamedBy, severed_named}
+use Rattle.author.proofs.GivenSevered.{IsIn, name_text, NamedBy, severed_named}
 use Rattle.author.proofs.Keeps.{held}
 
 abbrev Files : Type 0
@@ -39,28 +44,33 @@ none_in names.Install e = absurd cc
 none_in names.Text e = absurd cc
 
 module _ (ms : Members) (s : Severed) where
-  abbrev severs : MemberName → Type 0
-  severs n = Severs (object ms) (name_text n)
+  abbrev severs : MemberName → DigestKind → Type 0
+  severs n kind = SeversBy (object ms) (name_text n) kind
 
-  named_there : (given : Severed) (o : Option Data) (n : MemberName) → get_member (codes "sever") ms ≡ o → NamesAre given o s → is_in s n ≡ true → severs n × (is_in given n ≡ true)
+  named_there : (given : Severed) (o : Option Data) (n : MemberName) → get_member (codes "sever") ms ≡ o → NamesAre given o s → is_in s n ≡ true → severs n (kind_in s.kinds n) × (is_in given n ≡ true)
   named_there given None n is h e = absurd (none_in n (ap (λ (x : Severed). is_in x n) (sym h) ∙ e))
-  named_there given (Some d) n is h e = elim ((h.added n).back e) [
-    | inl before ↦ absurd (none_in n before)
-    | inr there ↦ (record { names = h.names; i = there.0.i; array = is ∙ ap Some h.array; at = there.0.at }, there.1)
+  named_there given (Some d) n is h e = elim ((h.added n (kind_in s.kinds n)).back (e, refl)) [
+    | inl before ↦ absurd (none_in n before.0)
+    | inr there ↦
+        let entry = there.0 in
+        (record { entries = h.entries; i = entry.i; array = is ∙ ap Some h.array; entry = entry.entry; at = entry.at; is = entry.is }, there.1)
   ]
 
-  there_named : (given : Severed) (o : Option Data) (n : MemberName) → get_member (codes "sever") ms ≡ o → NamesAre given o s → severs n → is_in s n ≡ true
-  there_named given None n is h there = absurd (none_array there.names (sym is ∙ there.array))
+  there_named : (given : Severed) (o : Option Data) (n : MemberName) (kind : DigestKind) → get_member (codes "sever") ms ≡ o → NamesAre given o s → severs n kind → IsIn s n kind
+  there_named given None n kind is h there = absurd (none_array there.entries (sym is ∙ there.array))
     where
       none_array : (ds : Items) → None ≡ Some (array ds) → ⊥
       none_array ds e = absurd cc
-  there_named given (Some d) n is h there =
-      let both : Some (array h.names) ≡ Some (array there.names) = sym (is ∙ ap Some h.array) ∙ there.array in
-      let same : h.names ≡ there.names = cc in
-      (h.added n).listed (record { i = there.i; at = ap (get_item there.i) same ∙ there.at })
+  there_named given (Some d) n kind is h there =
+      let both : Some (array h.entries) ≡ Some (array there.entries) = sym (is ∙ ap Some h.array) ∙ there.array in
+      let same : h.entries ≡ there.entries = cc in
+      (h.added n kind).listed (record { i = there.i; entry = there.entry; at = ap (get_item there.i) same ∙ there.at; is = there.is })
 
-  severed_by : (given : Severed) (n : MemberName) → NamesAre given (get_member (codes "sever") ms) s → IsTrue (is_in s n) ↔ severs n
-  severed_by given n h = (λ e. (named_there given _ n refl h e).0, λ there. there_named given _ n refl h there)
+  severed_by : (given : Severed) (n : MemberName) → NamesAre given (get_member (codes "sever") ms) s → IsSeveredOf (object ms) (name_text n) (is_in s n) (kind_in s.kinds n)
+  severed_by given n h = record {
+    named = λ e. (named_there given _ n refl h e).0;
+    severs = λ other there. let is = there_named given _ n other refl h there in (is.0, sym is.1);
+  }
 
 -- ---- payloads
 
@@ -103,6 +113,12 @@ module _ (files : Files) (ms : Members) (p : Described) (once : AreKeysOnce ms) 
   kid_is =
       read_found None kid_of (λ o kid. kid ≡ option_and_then bytes_spelled (option_and_then as_str o)) refl (λ d o. is_kid d) (get_member (codes "kid") ms) p.kid (inside (codes "kid")) found.kid
 
+  mac_is : IsMacOf (get_member (codes "mac") ms) p.mac
+  mac_is = read_found macs.Hmac256 mac_kind_of IsMacOf tt (λ d o. is_mac d) (get_member (codes "mac") ms) p.mac (inside (codes "mac")) found.mac
+
+  algorithm_is : IsAlgorithmOf (get_member (codes "algorithm") ms) p.algorithm
+  algorithm_is = read_found kinds.Sha256 algorithm_of IsAlgorithmOf tt (λ d o. is_algorithm d) (get_member (codes "algorithm") ms) p.algorithm (inside (codes "algorithm")) found.algorithm
+
   payloads_are : PayloadsAre files (get_member (codes "payloads") ms) p.payloads
   payloads_are =
       payloads_by (get_member (codes "payloads") ms) p.payloads (inside (codes "payloads")) found.payloads
@@ -136,6 +152,8 @@ module _ (files : Files) (ms : Members) (p : Described) (once : AreKeysOnce ms) 
         install = install;
         text = is_text;
         kid = kid_is;
+        mac = mac_is;
+        algorithm = algorithm_is;
       }
 
 pub parts : (d : Data) (files : Files) (p : Described) → HasKeysOnce d → described files d ≡ Ok p → HasPartsOf d files p

@@ -1,19 +1,18 @@
 -- Texts and bytes that are read of values.
-use Rattle.std.proofs.Common.{◌≡◌, ℕ, List, Bool, true, false, cond, Option, Some, None, Result, Ok, Err, refl}
-use Rattle.std.specs.Prelude.{◌==◌, ◌%◌, ◌/◌, length, option_and_then}
-use Rattle.std.specs.Result.{result_ok}
+use Rattle.std.proofs.Common.{◌≡◌, ℕ, List, Option, Some, None, Result, Ok, Err, refl, ap, ◌∙◌}
+use Rattle.std.specs.Prelude.{option_and_then}
 use Rattle.serde_json.specs.Data.{Data, null, boolean, number, string, array, object}
 use Rattle.serde_json.specs.Find.{as_str}
-use Rattle.hex.specs.Hex.{decode_pairs}
-use Rattle.hex.specs.declared.FromHexError.{FromHexError}
-use Rattle.hex.specs.declared.FromHexError.TheVariants.{OddLength, InvalidStringLength}
 use Rattle.json_fields.specs.declared.flaw.Flaw.{Flaw}
 use Rattle.json_fields.specs.declared.flaw.FlawKind.{FlawKind}
 use Rattle.json_fields.specs.declared.flaw.FlawKind.TheVariants.{Hex}
 use Rattle.json_fields.specs.Flaws.{found_or}
-use Rattle.json_fields.specs.Values.{text_of, hex_of, sized_hex_of}
+use Rattle.json_fields.specs.Values.{text_of, hex_of}
+use Rattle.suit_params.specs.declared.digest.Digest.{Digest}
+use Rattle.suit_params.specs.DigestBytes.{as_digest}
+use Rattle.author.specs.DigestValues.{digest_spelled}
 use Rattle.author.specs.GivenParts.{bytes_spelled}
-use Rattle.author.proofs.Keeps.{Holds, WasRead, WasFlawed, held}
+use Rattle.author.proofs.Keeps.{Holds, WasRead, WasFlawed, held, holds_bind, holds_weaker}
 
 pub same_found : {A : Type 0} (kind : FlawKind) (o : Option A) → Holds (λ x. o ≡ Some x) (found_or kind o)
 same_found kind (Some x) = WasRead x refl
@@ -43,19 +42,14 @@ hex_spelled (number n) = WasFlawed _
 hex_spelled (array ds) = WasFlawed _
 hex_spelled (object ms) = WasFlawed _
 
-sized_by : (a b : Bool) (r : Result (List ℕ) FromHexError)
-    → Holds (λ bytes. result_ok (cond a (Err OddLength) r) ≡ Some bytes) (found_or Hex (result_ok (cond a (Err OddLength) (cond b r (Err InvalidStringLength)))))
-sized_by true b r = WasFlawed _
-sized_by false true r = same_found Hex (result_ok r)
-sized_by false false r = WasFlawed _
+-- and those of a digest
+abbrev pub SpelledDigest : Data → Digest → Type 0
+SpelledDigest d digest = option_and_then as_digest (option_and_then bytes_spelled (as_str d)) ≡ Some digest
 
-pub sized_spelled : (n : ℕ) (d : Data) → Holds (Spelled d) (sized_hex_of n d)
-sized_spelled n (string s) = sized_by (length s % 2 == 1) (length s / 2 == n) (decode_pairs 0 s)
-sized_spelled n null = WasFlawed _
-sized_spelled n (boolean b) = WasFlawed _
-sized_spelled n (number x) = WasFlawed _
-sized_spelled n (array ds) = WasFlawed _
-sized_spelled n (object ms) = WasFlawed _
+pub digest_given : (d : Data) → Holds (SpelledDigest d) (digest_spelled d)
+digest_given d =
+    holds_bind (Spelled d) (SpelledDigest d) (hex_of d) _ (hex_spelled d) (λ bytes h.
+    holds_weaker _ (SpelledDigest d) _ (same_found Hex (as_digest bytes)) (λ digest e. ap (option_and_then as_digest) h ∙ e))
 
 pub same_read : {A : Type 0} (r : Result A Flaw) → Holds (λ x. r ≡ Ok x) r
 same_read (Ok x) = WasRead x refl

@@ -3,6 +3,8 @@ use Rattle.std.proofs.Common.{◌≡◌, ℕ, Bool, true, false, Option, length,
 use Rattle.std.specs.Prelude.{IfOk, IfErr}
 use Rattle.serde_json.specs.Data.{Data}
 use Rattle.json_fields.specs.declared.flaw.Flaw.{Flaw}
+use Rattle.suit_params.specs.declared.digest_kind.DigestKind.{DigestKind}
+use Rattle.suit_params.specs.DigestLaws.{hash_again}
 use Rattle.suit_envelope.specs.Authentic.{IsAuthentic}
 use Rattle.suit_envelope.specs.Envelopes.{EnvelopeSays}
 use Rattle.suit_envelope.specs.Macs.{ThisVerifies}
@@ -23,7 +25,7 @@ use Rattle.suit_manifest.specs.declared.manifest.TextMember.TheVariants as texts
 use Rattle.suit_commands.specs.SequenceMaking.{sequence_item, step_items, placed}
 use Rattle.suit_commands.specs.Sequences.{elements_place}
 use Rattle.suit_commands.specs.Tree.{SequenceTree}
-use Rattle.det_cbor.specs.DataItem.{spell}
+use Rattle.det_cbor.specs.DataItem.{ByteString, spell}
 use Rattle.suit_envelope.specs.declared.parts.EnvelopeParts.{EnvelopeParts}
 use Rattle.author.specs.declared.fields.Described.{Described}
 use Rattle.author.specs.declared.making.Parted.{Parted}
@@ -105,10 +107,10 @@ module _ (d : Data) (files : List (List ℕ × List ℕ)) (key : List ℕ) (said
 
 block_of : (key wrapper manifest : List ℕ) → HasOneBlock key wrapper manifest → IsAuthentic wrapper manifest key
 block_of key wrapper manifest h = record {
-  digest = string_digest manifest;
+  digest = string_digest h.algorithm manifest;
   blocks = h.block ∷ [];
   says = h.says;
-  stated = refl;
+  stated = sym (hash_again h.algorithm (spell (ByteString manifest)));
   verifies = ThisVerifies h.block [] h.verifies;
 }
 
@@ -159,35 +161,35 @@ holds_manifest d files bytes described_as q said reads e envelope says_so = reco
 -- A severed member that is given with its content stands in the envelope, and its digest in the manifest. Nothing else stands there.
 pub record StandBeside : Type 0 where
   pub here :
-      (s : SequenceTree) → (severed_content true (members.Here s) ≡ Some (spell (sequence_item s))) × (apart_member true (members.Here s) ≡ members.Apart (record { bytes = string_digest (spell (sequence_item s)) }))
+      (kind : DigestKind) (s : SequenceTree) → (severed_content true (members.Here s) ≡ Some (spell (sequence_item s))) × (apart_member true kind (members.Here s) ≡ members.Apart (string_digest kind (spell (sequence_item s))))
   pub empty : severed_content true members.Empty ≡ None
   pub digest : (digest : Digest) → severed_content true (members.Apart digest) ≡ None
   pub own : (m : Member) → severed_content false m ≡ None
-  pub text : (content : List ℕ) → (severed_text true (texts.Here content) ≡ Some content) × (apart_text true (texts.Here content) ≡ texts.Apart (record { bytes = string_digest content }))
+  pub text : (kind : DigestKind) (content : List ℕ) → (severed_text true (texts.Here content) ≡ Some content) × (apart_text true kind (texts.Here content) ≡ texts.Apart (string_digest kind content))
   pub no_text : severed_text true texts.Empty ≡ None
   pub text_digest : (digest : Digest) → severed_text true (texts.Apart digest) ≡ None
   pub own_text : (t : TextMember) → severed_text false t ≡ None
 
 module _ (beside : StandBeside) where
-  holds_severed : (count : ℕ) (held : Option (List ℕ)) (place : ℕ) (b : Bool) (m : Member) → IsAllowedMember count m → IsWrittenApart b m → held ≡ severed_content b m
-      → HoldsSevered count held place b m (apart_member b m)
-  holds_severed count held place true members.Empty allowed written is = is ∙ beside.empty
-  holds_severed count held place true (members.Here s) allowed written is =
-      subst (λ (x : Member). HasMember count held place x (Some (placed (elements_place place (step_items s)) s))) (sym (beside.here s).1)
+  holds_severed : (count : ℕ) (held : Option (List ℕ)) (place : ℕ) (b : Bool) (kind : DigestKind) (m : Member) → IsAllowedMember count m → IsWrittenApart b m → held ≡ severed_content b m
+      → HoldsSevered count held place b m (apart_member b kind m)
+  holds_severed count held place true kind members.Empty allowed written is = is ∙ beside.empty
+  holds_severed count held place true kind (members.Here s) allowed written is =
+      subst (λ (x : Member). HasMember count held place x (Some (placed (elements_place place (step_items s)) s))) (sym (beside.here kind s).1)
       (record {
         content = spell (sequence_item s);
-        there = is ∙ (beside.here s).0;
-        matches = refl;
+        there = is ∙ (beside.here kind s).0;
+        matches = hash_again kind (spell (ByteString (spell (sequence_item s))));
         says_so = written.0.says false count place (allowed written.1);
       })
-  holds_severed count held place true (members.Apart digest) allowed written is = is ∙ beside.digest digest
-  holds_severed count held place false m allowed written is = is ∙ beside.own m
+  holds_severed count held place true kind (members.Apart digest) allowed written is = is ∙ beside.digest digest
+  holds_severed count held place false kind m allowed written is = is ∙ beside.own m
 
-  holds_text : (held : Option (List ℕ)) (b : Bool) (t : TextMember) → held ≡ severed_text b t → HoldsText held b t (apart_text b t)
-  holds_text held true texts.Empty is = is ∙ beside.no_text
-  holds_text held true (texts.Here content) is = (is ∙ (beside.text content).0, (beside.text content).1)
-  holds_text held true (texts.Apart digest) is = is ∙ beside.text_digest digest
-  holds_text held false t is = is ∙ beside.own_text t
+  holds_text : (held : Option (List ℕ)) (b : Bool) (kind : DigestKind) (t : TextMember) → held ≡ severed_text b t → HoldsText held b kind t (apart_text b kind t)
+  holds_text held true kind texts.Empty is = is ∙ beside.no_text
+  holds_text held true kind (texts.Here content) is = (is ∙ (beside.text kind content).0, (beside.text kind content).1)
+  holds_text held true kind (texts.Apart digest) is = is ∙ beside.text_digest digest
+  holds_text held false kind t is = is ∙ beside.own_text t
 
   -- the members of these parts
   pub severed_held : DescriptionLaws → (d : Data) (files : List (List ℕ × List ℕ)) (key : List ℕ) (described_as : Described) (p : EnvelopeParts) (q : Parted) (said : EnvelopeSays)
@@ -197,11 +199,11 @@ module _ (beside : StandBeside) where
       let allowed = law.members d files described_as (is_description d accepted) reads in
       let n : ℕ = length described_as.manifest.components in
       record {
-        payload_fetch = holds_severed n said.payload_fetch said.payload_fetch_place described_as.severed.payload_fetch described_as.manifest.payload_fetch allowed.0 written.0
+        payload_fetch = holds_severed n said.payload_fetch said.payload_fetch_place described_as.severed.payload_fetch described_as.severed.kinds.payload_fetch described_as.manifest.payload_fetch allowed.0 written.0
             (says.payload_fetch ∙ ap (λ (x : EnvelopeParts). x.payload_fetch) same);
-        install = holds_severed n said.install said.install_place described_as.severed.install described_as.manifest.install allowed.1 written.1
+        install = holds_severed n said.install said.install_place described_as.severed.install described_as.severed.kinds.install described_as.manifest.install allowed.1 written.1
             (says.install ∙ ap (λ (x : EnvelopeParts). x.install) same);
-        text = holds_text said.text described_as.severed.text described_as.manifest.text (says.text ∙ ap (λ (x : EnvelopeParts). x.text) same);
+        text = holds_text said.text described_as.severed.text described_as.severed.kinds.text described_as.manifest.text (says.text ∙ ap (λ (x : EnvelopeParts). x.text) same);
       }
 
 pub holds_members : (d : Data) (files : List (List ℕ × List ℕ)) (bytes : List ℕ) (described_as : Described) (said : EnvelopeSays) → described files d ≡ Ok described_as → EnvelopeOf bytes said → HoldsSeveredOf described_as said

@@ -12,6 +12,7 @@ use Rattle.serde_json.specs.Find.{as_object}
 use Rattle.json_fields.specs.declared.flaw.Flaw.{Flaw}
 use Rattle.json_fields.specs.Objects.{members_of, required}
 use Rattle.json_fields.specs.Pointers.{key_token}
+use Rattle.suit_params.specs.declared.digest_kind.DigestKind.{DigestKind}
 use Rattle.suit_commands.specs.Allowed.{levels_allowed}
 use Rattle.suit_commands.specs.SequenceMaking.{sequence_item, step_items}
 use Rattle.suit_commands.specs.Tree.{SequenceTree}
@@ -97,7 +98,9 @@ module _ (files : Files) (d : Data) where
       holds_choice (Follows (noted o k x)) (bytes_eq k (codes "text")) _ _ (λ e. at_key o k (codes "text") x _ e (holds_then (Follows o) _ _ (λ y. WasRead _ h))) (λ _.
       holds_choice (Follows (noted o k x)) (bytes_eq k (codes "sever")) _ _ (λ e. at_key o k (codes "sever") x _ e (holds_bind (λ s. severed_of (given_in d) x ≡ Ok s) (Follows (noted o (codes "sever") x)) _ _ (read_severed t x h.0) (λ s g. WasRead _ (h.0, h.1, h.2, h.3, h.4, h.5, h.6, g)))) (λ _.
       holds_choice (Follows (noted o k x)) (bytes_eq k (codes "payloads")) _ _ (λ e. at_key o k (codes "payloads") x _ e (holds_then (Follows o) _ _ (λ y. WasRead _ h))) (λ _.
-      holds_choice (Follows (noted o k x)) (bytes_eq k (codes "kid")) _ _ (λ e. at_key o k (codes "kid") x _ e (holds_then (Follows o) _ _ (λ y. WasRead _ h))) (λ _. WasFlawed _)))))))))))))
+      holds_choice (Follows (noted o k x)) (bytes_eq k (codes "kid")) _ _ (λ e. at_key o k (codes "kid") x _ e (holds_then (Follows o) _ _ (λ y. WasRead _ h))) (λ _.
+      holds_choice (Follows (noted o k x)) (bytes_eq k (codes "mac")) _ _ (λ e. at_key o k (codes "mac") x _ e (holds_then (Follows o) _ _ (λ y. WasRead _ h))) (λ _.
+      holds_choice (Follows (noted o k x)) (bytes_eq k (codes "algorithm")) _ _ (λ e. at_key o k (codes "algorithm") x _ e (holds_then (Follows o) _ _ (λ y. WasRead _ h))) (λ _. WasFlawed _)))))))))))))))
 
   walk : (ms : Members) (o : Outline) (t : Fields) → Follows o t → Holds (Follows (noted_all o ms)) (members_of takes_field t ms)
   walk no_members o t h = WasRead t h
@@ -166,11 +169,11 @@ abbrev left_size : Bool → Member → ℕ
 left_size true m = 0
 left_size false m = member_size m
 
-severed_longer : (b : Bool) (m : Member) → left_size b m ≤ row_size (severed_item (apart_member b m))
-severed_longer true m = omega arith
-severed_longer false members.Empty = omega arith
-severed_longer false (members.Here s) = held_longer (Some s)
-severed_longer false (members.Apart digest) = omega arith
+severed_longer : (b : Bool) (kind : DigestKind) (m : Member) → left_size b m ≤ row_size (severed_item (apart_member b kind m))
+severed_longer true kind m = omega arith
+severed_longer false kind members.Empty = omega arith
+severed_longer false kind (members.Here s) = held_longer (Some s)
+severed_longer false kind (members.Apart digest) = omega arith
 
 common_longer : (m : Manifest) → tree_size m.shared ≤ length (spell (ByteString (spell (common_item m))))
 common_longer m =
@@ -186,8 +189,8 @@ manifest_longer p =
       held_longer m.validate,
       held_longer m.load,
       held_longer m.invoke,
-      severed_longer p.severed.payload_fetch p.manifest.payload_fetch,
-      severed_longer p.severed.install p.manifest.install,
+      severed_longer p.severed.payload_fetch p.severed.kinds.payload_fetch p.manifest.payload_fetch,
+      severed_longer p.severed.install p.severed.kinds.install p.manifest.install,
       rows_longer (manifest_rows m),
       map_longer (row_pairs (manifest_rows m)),
     )

@@ -40,7 +40,9 @@ field_keeps law t k d h =
     holds_choice Kept (bytes_eq k (codes "text")) _ _ (λ _. holds_then Kept _ _ (λ x. WasRead _ h)) (λ _.
     holds_choice Kept (bytes_eq k (codes "sever")) _ _ (λ _. holds_then Kept _ _ (λ x. WasRead _ h)) (λ _.
     holds_choice Kept (bytes_eq k (codes "payloads")) _ _ (λ _. holds_bind (AreAscending None) Kept _ _ (payloads_ascend law t.source.scope.files d) (λ ps g. WasRead _ g)) (λ _.
-    holds_choice Kept (bytes_eq k (codes "kid")) _ _ (λ _. holds_then Kept _ _ (λ x. WasRead _ h)) (λ _. WasFlawed _)))))))))))))
+    holds_choice Kept (bytes_eq k (codes "kid")) _ _ (λ _. holds_then Kept _ _ (λ x. WasRead _ h)) (λ _.
+    holds_choice Kept (bytes_eq k (codes "mac")) _ _ (λ _. holds_then Kept _ _ (λ x. WasRead _ h)) (λ _.
+    holds_choice Kept (bytes_eq k (codes "algorithm")) _ _ (λ _. holds_then Kept _ _ (λ x. WasRead _ h)) (λ _. WasFlawed _)))))))))))))))
 
 described_ascend : PayloadOrderLaw → (files : Files) (d : Data) → Holds (λ (p : Described). AreAscending None p.payloads) (described files d)
 described_ascend law files d =

@@ -73,7 +73,9 @@ module _ (f g : Files) where
         like_if FieldsLike (bytes_eq k (codes "text")) _ _ _ _ (like_then FieldsLike _ _ _ (λ m. BothRead _ _ h)) (
         like_if FieldsLike (bytes_eq k (codes "sever")) _ _ _ _ (like_bind Any FieldsLike (severed_of t.source.given d) (severed_of u.source.given d) _ _ (rw (h.0, h.1) (like_any _)) (λ x y e. BothRead _ _ h)) (
         like_if FieldsLike (bytes_eq k (codes "payloads")) _ _ _ _ (like_bind Any FieldsLike (payloads_of t.source.scope.files d) (payloads_of u.source.scope.files d) _ _ (rw (h.0, h.1) (like_payloads d)) (λ x y e. BothRead _ _ h)) (
-        like_if FieldsLike (bytes_eq k (codes "kid")) _ _ _ _ (like_then FieldsLike _ _ _ (λ kid. BothRead _ _ h)) (BothFlawed _)))))))))))))
+        like_if FieldsLike (bytes_eq k (codes "kid")) _ _ _ _ (like_then FieldsLike _ _ _ (λ kid. BothRead _ _ h)) (
+        like_if FieldsLike (bytes_eq k (codes "mac")) _ _ _ _ (like_then FieldsLike _ _ _ (λ mac. BothRead _ _ h)) (
+        like_if FieldsLike (bytes_eq k (codes "algorithm")) _ _ _ _ (like_then FieldsLike _ _ _ (λ kind. BothRead _ _ h)) (BothFlawed _)))))))))))))))
 
 abbrev pub SameComponents : Described → Described → Type 0
 SameComponents p q = p.manifest.components ≡ q.manifest.components

@@ -73,14 +73,14 @@ never_severed d o flaw accepted is bad =
 
 -- ---- the first limit is passed
 
-exceeds_as : (d : Data) (files : Files) (key : List ℕ) (r : Result Described Flaw) → ∥ IsDescription d ∥₁ → described files d ≡ r → 16384 < manifest_contents files d → IsTooLong d files key 16384
+exceeds_as : (d : Data) (files : Files) (key : List ℕ) (r : Result Described Flaw) → ∥ IsDescription d ∥₁ → described files d ≡ r → 65536 < manifest_contents files d → IsTooLong d files key 65536
 exceeds_as d files key (Err flaw) accepted is h = absurd (never_flawed d files flaw accepted is)
 exceeds_as d files key (Ok said) accepted is h =
     let parts = made_parts key (parted said) in
     let same : manifest_contents files d ≡ manifest_length files (outline_of d) said.severed = ap (manifest_length files (outline_of d)) (severed_said files d said is) in
     record { said = said; reads = is; passes = Trimmed (omega (arith, h, same, contents_in files d said is, trimmed_longer parts.wrapper parts.manifest)) }
 
-pub exceeds : (d : Data) (files : Files) (key : List ℕ) → ∥ IsDescription d ∥₁ → 16384 < manifest_contents files d → IsTooLong d files key 16384
+pub exceeds : (d : Data) (files : Files) (key : List ℕ) → ∥ IsDescription d ∥₁ → 65536 < manifest_contents files d → IsTooLong d files key 65536
 exceeds d files key accepted h = exceeds_as d files key (described files d) accepted refl h
 
 -- ---- severed members that are too long
@@ -127,20 +127,20 @@ module _ (d : Data) (files : Files) (key : List ℕ) (accepted : ∥ IsDescripti
         let own : severed ≡ p.severed = e ∙ severed_said files d p is in
         ap (λ z. length (trimmed_bytes z)) (made ∙ ap (made_parts key) (are ∙ ap parted (one ∙ ap (λ s. bare s p) own))) ∙ bare_trimmed key p
 
-    first_as : (r : Result Described Flaw) → described files d ≡ r → 16384 < n → IsTooLong d files key 16384
+    first_as : (r : Result Described Flaw) → described files d ≡ r → 65536 < n → IsTooLong d files key 65536
     first_as (Ok p) is h = record { said = p; reads = is; passes = Trimmed (omega (arith, h, counted, as_long p is)) }
     first_as (Err flaw) is h = absurd (never_flawed d files flaw accepted is)
 
-    second_as : StandsWhole → (r : Result Described Flaw) → described files d ≡ r → n ≤ 16384 → IsTooLong d files key 1048576
+    second_as : StandsWhole → (r : Result Described Flaw) → described files d ≡ r → n ≤ 65536 → IsTooLong d files key 1048576
     second_as whole (Ok p) is h =
         let parts = made_parts key (parted p) in
         record { said = p; reads = is; passes = Whole (omega (arith, h, counted, as_long p is)) (omega (arith, long, severed_inside whole key files d p is, envelope_longer parts)) }
     second_as whole (Err flaw) is h = absurd (never_flawed d files flaw accepted is)
 
-    pub first_passed : 16384 < n → IsTooLong d files key 16384
+    pub first_passed : 65536 < n → IsTooLong d files key 65536
     first_passed h = first_as (described files d) refl h
 
-    pub second_passed : StandsWhole → n ≤ 16384 → IsTooLong d files key 1048576
+    pub second_passed : StandsWhole → n ≤ 65536 → IsTooLong d files key 1048576
     second_passed whole h = second_as whole (described files d) refl h
 
 -- ---- a limit that is told

@@ -7,6 +7,7 @@ use Rattle.serde_json.specs.Data.{Data}
 use Rattle.serde_json.specs.Find.{as_object}
 use Rattle.json_fields.specs.declared.flaw.Flaw.{Flaw}
 use Rattle.json_fields.specs.Objects.{Takes, object_of}
+use Rattle.suit_params.specs.declared.digest_kind.DigestKind.{DigestKind}
 use Rattle.suit_envelope.specs.Members.{string_digest}
 use Rattle.suit_manifest.specs.declared.manifest.Member.{Member}
 use Rattle.suit_manifest.specs.declared.manifest.Member.TheVariants as members
@@ -15,23 +16,24 @@ use Rattle.author.specs.declared.fields.Described.{Described}
 use Rattle.author.specs.declared.severing.Severed.{Severed}
 use Rattle.author.specs.Descriptions.{no_fields, takes_field, finished}
 
-abbrev pub no_content : Member
-no_content = members.Apart (record { bytes = string_digest [] })
+abbrev pub no_content : DigestKind → Member
+no_content kind = members.Apart (string_digest kind [])
 
 -- ---- of what was read
 
-abbrev pub bare_member : Bool → Member → Member
-bare_member true (members.Here s) = no_content
-bare_member true members.Empty = members.Empty
-bare_member true (members.Apart digest) = members.Apart digest
-bare_member false m = m
+abbrev pub bare_member : Bool → DigestKind → Member → Member
+bare_member true kind (members.Here s) = no_content kind
+bare_member true kind members.Empty = members.Empty
+bare_member true kind (members.Apart digest) = members.Apart digest
+bare_member false kind m = m
 
 abbrev pub bare : Severed → Described → Described
 bare severed p =
     record p {
       manifest = record p.manifest {
-        payload_fetch = bare_member severed.payload_fetch p.manifest.payload_fetch;
-        install = bare_member severed.install p.manifest.install;
+        payload_fetch =
+            bare_member severed.payload_fetch severed.kinds.payload_fetch p.manifest.payload_fetch;
+        install = bare_member severed.install severed.kinds.install p.manifest.install;
       };
     }
 
@@ -44,9 +46,15 @@ abbrev pub takes_bare : Takes BareFields
 takes_bare t key d =
     if is_some (as_object d) then takes_other t key d
     else if bytes_eq key (codes "payload-fetch") && t.severed.payload_fetch
-    then Ok (record t { fields = record t.fields { payload_fetch = no_content } })
+    then
+    Ok (record t {
+      fields = record t.fields { payload_fetch = no_content t.severed.kinds.payload_fetch };
+    })
     else if bytes_eq key (codes "install") && t.severed.install
-    then Ok (record t { fields = record t.fields { install = no_content } })
+    then
+    Ok (record t {
+      fields = record t.fields { install = no_content t.severed.kinds.install };
+    })
     else takes_other t key d
 
 abbrev pub described_bare : List (List ℕ × List ℕ) → Severed → Data → Result Described Flaw

@@ -2,6 +2,7 @@
 use Rattle.std.specs.Prelude.{ℕ, ◌^◌, ◌-◌, nat_lt, Bool, true, false, if◌then◌else◌, List, [], codes, Option, Some, None, unwrap_or, Result, Ok}
 use Rattle.std.specs.Str.{bytes_eq}
 use Rattle.det_cbor.specs.HeadReading.{◌>>=◌}
+use Rattle.hmac_mac0.specs.declared.mac_kind.MacKind.TheVariants as macs
 use Rattle.serde_json.specs.Data.{Data}
 use Rattle.serde_json.specs.Events.{items_len}
 use Rattle.serde_json.specs.Find.{get}
@@ -10,6 +11,7 @@ use Rattle.json_fields.specs.declared.flaw.FlawKind.TheVariants.{Field}
 use Rattle.json_fields.specs.Flaws.{flawed}
 use Rattle.json_fields.specs.Values.{text_of, hex_of}
 use Rattle.json_fields.specs.Objects.{Takes, object_of, required}
+use Rattle.suit_params.specs.declared.digest_kind.DigestKind.TheVariants as kinds
 use Rattle.suit_commands.specs.Tree.{SequenceTree}
 use Rattle.suit_manifest.specs.declared.manifest.Member.TheVariants as members
 use Rattle.suit_manifest.specs.declared.manifest.TextMember.TheVariants as texts
@@ -19,6 +21,8 @@ use Rattle.author.specs.Scope.{Scope}
 use Rattle.author.specs.Elements.{items_in}
 use Rattle.author.specs.ParamValues.{number_of}
 use Rattle.author.specs.Identifiers.{identifiers_of}
+use Rattle.author.specs.AlgorithmNames.{algorithm_of}
+use Rattle.author.specs.MacNames.{mac_kind_of}
 use Rattle.author.specs.Members.{member_sequence, described_member, text_member_of}
 use Rattle.author.specs.Severing.{none_severed, given_in, severed_of}
 use Rattle.author.specs.Payloads.{payloads_of}
@@ -55,6 +59,8 @@ no_fields files d = record {
   severed = none_severed;
   payloads = [];
   kid = None;
+  mac = macs.Hmac256;
+  algorithm = kinds.Sha256;
 }
 
 abbrev pub scope_of : Fields → Bool → Scope
@@ -92,6 +98,9 @@ takes_field t key d =
     else if bytes_eq key (codes "payloads")
     then (payloads_of t.source.scope.files d >>= λ ps. Ok (record t { payloads = ps }))
     else if bytes_eq key (codes "kid") then (hex_of d >>= λ kid. Ok (record t { kid = Some kid }))
+    else if bytes_eq key (codes "mac") then (mac_kind_of d >>= λ mac. Ok (record t { mac = mac }))
+    else if bytes_eq key (codes "algorithm")
+    then (algorithm_of d >>= λ kind. Ok (record t { algorithm = kind }))
     else flawed Field
 
 abbrev pub whole : Fields → List (List (List ℕ)) → ℕ → Described
@@ -111,6 +120,8 @@ whole t ids n = record {
   severed = t.severed;
   payloads = t.payloads;
   kid = t.kid;
+  mac = t.mac;
+  algorithm = t.algorithm;
 }
 
 abbrev pub finished : Fields → Result Described Flaw

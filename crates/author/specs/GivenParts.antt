@@ -1,15 +1,22 @@
--- A description's payloads, the members that may be severed and the key's identifier, by what is found in its JSON value.
-use Rattle.std.specs.Prelude.{◌≡◌, ◌↔◌, ℕ, IsTrue, List, codes, Option, Some, None, option_and_then}
+-- A description's payloads, the members that may be severed, the key's identifier, the block's algorithm and the hash function of the
+-- wrapper's digest, by what is found in its JSON value.
+use Rattle.std.specs.Prelude.{◌≡◌, ℕ, Bool, IsTrue, List, codes, Option, Some, None, option_and_then}
 use Rattle.std.specs.Result.{result_ok}
-use Rattle.serde_json.specs.Data.{Data, string, array, object, Items}
+use Rattle.serde_json.specs.Data.{Data, string, array, object, Items, no_items, item}
 use Rattle.serde_json.specs.Find.{get, get_item, as_str}
 use Rattle.hex.specs.Hex.{decode_of}
+use Rattle.hmac_mac0.specs.declared.mac_kind.MacKind.{MacKind}
+use Rattle.hmac_mac0.specs.declared.mac_kind.MacKind.TheVariants as macs
+use Rattle.suit_params.specs.DigestBytes.{as_digest}
+use Rattle.suit_params.specs.declared.digest_kind.DigestKind.{DigestKind}
+use Rattle.suit_params.specs.declared.digest_kind.DigestKind.TheVariants as kinds
 use Rattle.suit_envelope.specs.Payloads.{payload_under}
 use Rattle.suit_manifest.specs.declared.manifest.Member.{Member}
 use Rattle.suit_manifest.specs.declared.manifest.Member.TheVariants as members
 use Rattle.suit_manifest.specs.declared.manifest.TextMember.{TextMember}
 use Rattle.suit_manifest.specs.declared.manifest.TextMember.TheVariants as texts
 use Rattle.author.specs.declared.fields.Described.{Described}
+use Rattle.author.specs.AlgorithmNames.{algorithm_named}
 use Rattle.author.specs.Files.{bytes_of}
 use Rattle.author.specs.GivenCommands.{HasCommandsOf}
 
@@ -52,24 +59,36 @@ abbrev pub IsMemberOf : Option Data → Member → Type 0
 IsMemberOf None members.Empty = Unit {0}
 IsMemberOf (Some (array ds)) (members.Here s) = HasCommandsOf ds s
 IsMemberOf (Some (object ms)) (members.Apart digest) =
-    bytes_under (codes "digest") (object ms) ≡ Some digest.bytes
+    option_and_then as_digest (bytes_under (codes "digest") (object ms)) ≡ Some digest
 IsMemberOf _ _ = ⊥
 
 abbrev pub IsTextOf : Option Data → TextMember → Type 0
 IsTextOf None texts.Empty = Unit {0}
 IsTextOf (Some (string digits)) (texts.Here content) = bytes_spelled digits ≡ Some content
 IsTextOf (Some (object ms)) (texts.Apart digest) =
-    bytes_under (codes "digest") (object ms) ≡ Some digest.bytes
+    option_and_then as_digest (bytes_under (codes "digest") (object ms)) ≡ Some digest
 IsTextOf _ _ = ⊥
 
 -- ---- severed members
 
--- the name stands in the array under `sever`
-pub record Severs (d : Data) (name : List ℕ) : Type 0 where
-  pub names : Items
+-- a value gives a name: alone, for SHA-256, or before the name of a hash function
+abbrev pub IsEntry : List ℕ → DigestKind → Data → Type 0
+IsEntry name kind (string text) = (text ≡ name) × (kind ≡ kinds.Sha256)
+IsEntry name kind (array (item (string text) (item (string algorithm) no_items))) =
+    (text ≡ name) × (algorithm_named algorithm ≡ Some kind)
+IsEntry name kind _ = ⊥
+
+-- the name stands in the array under `sever`, for this hash function
+pub record SeversBy (d : Data) (name : List ℕ) (kind : DigestKind) : Type 0 where
+  pub entries : Items
   pub i : ℕ
-  pub array : get (codes "sever") d ≡ Some (array names)
-  pub at : get_item i names ≡ Some (string name)
+  pub array : get (codes "sever") d ≡ Some (array entries)
+  pub entry : Data
+  pub at : get_item i entries ≡ Some entry
+  pub is : IsEntry name kind entry
+
+abbrev pub Severs : Data → List ℕ → Type 0
+Severs d name = (kind : DigestKind) × SeversBy d name kind
 
 -- given with its content
 abbrev pub IsHere : Member → Type 0
@@ -80,14 +99,39 @@ abbrev pub IsTextHere : TextMember → Type 0
 IsTextHere (texts.Here content) = Unit {0}
 IsTextHere _ = ⊥
 
+-- it is severed where it is named, under the hash function that is named
+pub record IsSeveredOf (d : Data) (name : List ℕ) (severed : Bool) (kind : DigestKind)
+    : Type 0 where
+  pub named : IsTrue severed → SeversBy d name kind
+  pub severs : (other : DigestKind) → SeversBy d name other → IsTrue severed × (other ≡ kind)
+
 -- just the named members, each given with its content
 pub record AreSeveredOf (d : Data) (p : Described) : Type 0 where
-  pub payload_fetch : IsTrue p.severed.payload_fetch ↔ Severs d (codes "payload-fetch")
-  pub install : IsTrue p.severed.install ↔ Severs d (codes "install")
-  pub text : IsTrue p.severed.text ↔ Severs d (codes "text")
+  pub payload_fetch :
+      IsSeveredOf d (codes "payload-fetch") p.severed.payload_fetch
+      p.severed.kinds.payload_fetch
+  pub install : IsSeveredOf d (codes "install") p.severed.install p.severed.kinds.install
+  pub text : IsSeveredOf d (codes "text") p.severed.text p.severed.kinds.text
   pub payload_fetch_here : IsTrue p.severed.payload_fetch → IsHere p.manifest.payload_fetch
   pub install_here : IsTrue p.severed.install → IsHere p.manifest.install
   pub text_here : IsTrue p.severed.text → IsTextHere p.manifest.text
+
+-- ---- the algorithm of the block: HMAC 256/256 where none is named
+
+abbrev pub IsMacOf : Option Data → MacKind → Type 0
+IsMacOf None macs.Hmac256 = Unit {0}
+IsMacOf (Some (string name)) macs.Hmac256 = name ≡ codes "hmac256"
+IsMacOf (Some (string name)) macs.Hmac512 = name ≡ codes "hmac512"
+IsMacOf _ _ = ⊥
+
+-- ---- the hash function of the wrapper's digest: SHA-256 where none is named
+
+abbrev pub IsAlgorithmOf : Option Data → DigestKind → Type 0
+IsAlgorithmOf None kinds.Sha256 = Unit {0}
+IsAlgorithmOf (Some (string name)) kinds.Sha256 = name ≡ codes "sha256"
+IsAlgorithmOf (Some (string name)) kinds.Sha384 = name ≡ codes "sha384"
+IsAlgorithmOf (Some (string name)) kinds.Sha512 = name ≡ codes "sha512"
+IsAlgorithmOf _ _ = ⊥
 
 -- ---- together
 
@@ -98,3 +142,5 @@ pub record HasPartsOf (d : Data) (files : List (List ℕ × List ℕ)) (p : Desc
   pub install : IsMemberOf (get (codes "install") d) p.manifest.install
   pub text : IsTextOf (get (codes "text") d) p.manifest.text
   pub kid : p.kid ≡ bytes_under (codes "kid") d
+  pub mac : IsMacOf (get (codes "mac") d) p.mac
+  pub algorithm : IsAlgorithmOf (get (codes "algorithm") d) p.algorithm

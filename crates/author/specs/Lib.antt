@@ -1,4 +1,6 @@
 pub mod Files
+pub mod AlgorithmNames
+pub mod DigestValues
 pub mod FileValues
 pub mod ParamNames
 pub mod ParamValues
@@ -6,6 +8,7 @@ pub mod Scope
 pub mod Elements
 pub mod Selections
 pub mod CommandNames
+pub mod MacNames
 pub mod Contents
 pub mod Commands
 pub mod Identifiers

@@ -3,9 +3,11 @@
 use Rattle.std.specs.Prelude.{◌≡◌, ◌⊎◌, ◌<◌, ◌≤◌, ℕ, true, List, [], ◌∷◌, length, Option, Result, Ok, Err}
 use Rattle.det_cbor.specs.DataItem.{spell}
 use Rattle.serde_json.specs.Data.{Data}
-use Rattle.hmac_mac0.specs.Mac0.{made_item, Verifies}
-use Rattle.hmac_mac0.specs.declared.mac_kind.MacKind.TheVariants as macs
+use Rattle.hmac_mac0.specs.Mac0.{made_item, IsMac0, Verifies}
+use Rattle.hmac_mac0.specs.declared.mac_kind.MacKind.{MacKind}
+use Rattle.suit_params.specs.declared.digest.Digest.{Digest}
 use Rattle.suit_params.specs.Refusing.{SaysWhole}
+use Rattle.suit_params.specs.declared.digest_kind.DigestKind.{DigestKind}
 use Rattle.suit_envelope.specs.Authentic.{payload_of, IsAuthentic}
 use Rattle.suit_envelope.specs.Envelopes.{EnvelopeSays}
 use Rattle.suit_envelope.specs.Making.{envelope_made, SaysParts}
@@ -27,15 +29,16 @@ use Rattle.author.specs.Severances.{parted}
 
 -- ---- the parts
 
-abbrev pub made_block : List ℕ → Option (List ℕ) → List ℕ → List ℕ
-made_block key kid digest = spell (made_item macs.Hmac256 key kid (payload_of digest))
+abbrev pub made_block : MacKind → List ℕ → Option (List ℕ) → Digest → List ℕ
+made_block mac key kid digest = spell (made_item mac key kid (payload_of digest))
 
-abbrev pub made_wrapper : List ℕ → Option (List ℕ) → List ℕ → List ℕ
-made_wrapper key kid digest = spell (wrapper_item digest (made_block key kid digest ∷ []))
+abbrev pub made_wrapper : MacKind → List ℕ → Option (List ℕ) → Digest → List ℕ
+made_wrapper mac key kid digest =
+    spell (wrapper_item digest (made_block mac key kid digest ∷ []))
 
 abbrev pub parts_round : List ℕ → Parted → List ℕ → EnvelopeParts
 parts_round key p manifest = record {
-  wrapper = made_wrapper key p.kid (string_digest manifest);
+  wrapper = made_wrapper p.mac key p.kid (string_digest p.algorithm manifest);
   manifest = manifest;
   payload_fetch = p.payload_fetch;
   install = p.install;
@@ -54,14 +57,14 @@ made_bytes parts = spell (envelope_made parts)
 abbrev pub trimmed_bytes : EnvelopeParts → List ℕ
 trimmed_bytes parts = trimmed parts.wrapper parts.manifest
 
--- at most 16,384 bytes trimmed, and at most 1,048,576 whole
+-- at most 65,536 bytes trimmed, and at most 1,048,576 whole
 abbrev pub IsShort : EnvelopeParts → Type 0
-IsShort parts = (length (trimmed_bytes parts) ≤ 16384) × (length (made_bytes parts) ≤ 1048576)
+IsShort parts = (length (trimmed_bytes parts) ≤ 65536) × (length (made_bytes parts) ≤ 1048576)
 
 -- the first of the two limits that is passed
 pub data ExceedsLimit (parts : EnvelopeParts) : ℕ → Type 0 where
-  Trimmed : 16384 < length (trimmed_bytes parts) → ExceedsLimit parts 16384
-  Whole : length (trimmed_bytes parts) ≤ 16384 → 1048576 < length (made_bytes parts)
+  Trimmed : 65536 < length (trimmed_bytes parts) → ExceedsLimit parts 65536
+  Whole : length (trimmed_bytes parts) ≤ 65536 → 1048576 < length (made_bytes parts)
       → ExceedsLimit parts 1048576
 
 -- a fault by the limit that is passed, or because memory ran out
@@ -103,11 +106,25 @@ IsTooLongBy limit (Err fault) = (fault ≡ TooLong limit) ⊎ (fault ≡ NoMemor
 
 -- ---- the meaning of the bytes
 
--- the wrapper states the manifest's digest and has one block, which verifies under the key
+-- the wrapper states the manifest's digest under a hash function and has one block, which verifies under the key
 pub record HasOneBlock (key wrapper manifest : List ℕ) : Type 0 where
+  pub algorithm : DigestKind
   pub block : List ℕ
-  pub says : WrapperSays wrapper (string_digest manifest) (block ∷ [])
-  pub verifies : Verifies block key (payload_of (string_digest manifest))
+  pub says : WrapperSays wrapper (string_digest algorithm manifest) (block ∷ [])
+  pub verifies : Verifies block key (payload_of (string_digest algorithm manifest))
+
+-- a COSE_Mac0 block that names this algorithm
+pub record IsBlockBy (mac : MacKind) (block : List ℕ) : Type 0 where
+  pub protected : List ℕ
+  pub tag : List ℕ
+  pub is_block : IsMac0 block mac protected tag
+
+-- the wrapper states the manifest's digest under this hash function and has one block, which names this algorithm
+pub record HasBlockBy (mac : MacKind) (algorithm : DigestKind) (wrapper manifest : List ℕ)
+    : Type 0 where
+  pub block : List ℕ
+  pub says : WrapperSays wrapper (string_digest algorithm manifest) (block ∷ [])
+  pub by_mac : IsBlockBy mac block
 
 -- a tagged envelope that is authentic under the key, by one block
 pub record IsAuthenticUnder (key bytes : List ℕ) : Type 0 where

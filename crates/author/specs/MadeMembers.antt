@@ -6,6 +6,7 @@ use Rattle.suit_commands.specs.Allowed.{IsSequence, levels_allowed}
 use Rattle.suit_commands.specs.SequenceMaking.{sequence_item, step_items, placed}
 use Rattle.suit_commands.specs.SequenceWriting.{IsWrittenSequence, SequenceFits}
 use Rattle.suit_commands.specs.Sequences.{elements_place}
+use Rattle.suit_params.specs.declared.digest_kind.DigestKind.{DigestKind}
 use Rattle.suit_envelope.specs.Envelopes.{EnvelopeSays}
 use Rattle.suit_envelope.specs.Members.{string_digest}
 use Rattle.suit_envelope.specs.Said.{EnvelopeOf}
@@ -29,12 +30,12 @@ HoldsSevered count held place true members.Empty stated = held ≡ None
 HoldsSevered count held place true (members.Apart digest) stated = held ≡ None
 HoldsSevered count held place false given stated = held ≡ None
 
-abbrev pub HoldsText : Option (List ℕ) → Bool → TextMember → TextMember → Type 0
-HoldsText held true (texts.Here content) stated =
-    (held ≡ Some content) × (stated ≡ texts.Apart (record { bytes = string_digest content }))
-HoldsText held true texts.Empty stated = held ≡ None
-HoldsText held true (texts.Apart digest) stated = held ≡ None
-HoldsText held false given stated = held ≡ None
+abbrev pub HoldsText : Option (List ℕ) → Bool → DigestKind → TextMember → TextMember → Type 0
+HoldsText held true kind (texts.Here content) stated =
+    (held ≡ Some content) × (stated ≡ texts.Apart (string_digest kind content))
+HoldsText held true kind texts.Empty stated = held ≡ None
+HoldsText held true kind (texts.Apart digest) stated = held ≡ None
+HoldsText held false kind given stated = held ≡ None
 
 -- the members of what a description says, in an envelope
 pub record HoldsSeveredOf (p : Described) (said : EnvelopeSays) : Type 0 where
@@ -44,7 +45,9 @@ pub record HoldsSeveredOf (p : Described) (said : EnvelopeSays) : Type 0 where
   pub install :
       HoldsSevered (length p.manifest.components) said.install said.install_place
       p.severed.install p.manifest.install (made_manifest p).install
-  pub text : HoldsText said.text p.severed.text p.manifest.text (made_manifest p).text
+  pub text :
+      HoldsText said.text p.severed.text p.severed.kinds.text p.manifest.text
+      (made_manifest p).text
 
 -- an envelope that holds the severed members of the description
 pub record HoldsMembersOf (d : Data) (files : List (List ℕ × List ℕ)) (bytes : List ℕ)

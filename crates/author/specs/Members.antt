@@ -8,8 +8,9 @@ use Rattle.serde_json.specs.Find.{as_object}
 use Rattle.json_fields.specs.declared.flaw.Flaw.{Flaw}
 use Rattle.json_fields.specs.declared.flaw.FlawKind.TheVariants.{Field}
 use Rattle.json_fields.specs.Flaws.{flawed}
-use Rattle.json_fields.specs.Values.{hex_of, sized_hex_of}
+use Rattle.json_fields.specs.Values.{hex_of}
 use Rattle.json_fields.specs.Objects.{Takes, object_of, required}
+use Rattle.suit_params.specs.declared.digest.Digest.{Digest}
 use Rattle.suit_commands.specs.Tree.{SequenceTree}
 use Rattle.suit_commands.specs.Allowed.{levels_allowed}
 use Rattle.suit_manifest.specs.declared.manifest.Member.{Member}
@@ -19,6 +20,7 @@ use Rattle.suit_manifest.specs.declared.manifest.TextMember.TheVariants as texts
 use Rattle.author.specs.declared.member_fields.DigestField.{DigestField}
 use Rattle.author.specs.Scope.{Scope}
 use Rattle.author.specs.Commands.{sequence_of}
+use Rattle.author.specs.DigestValues.{digest_spelled}
 
 -- a member's sequence
 abbrev pub member_sequence : Scope → Data → Result SequenceTree Flaw
@@ -27,21 +29,18 @@ member_sequence scope d = sequence_of scope levels_allowed d
 abbrev pub takes_digest : Takes DigestField
 takes_digest t key d =
     if bytes_eq key (codes "digest")
-    then
-    (sized_hex_of 32 d
-    >>= λ digest. Ok (record t { digest = Some (record { bytes = digest }) }))
+    then (digest_spelled d >>= λ digest. Ok (record t { digest = Some digest }))
     else flawed Field
 
 -- `{"digest": HEX}`, for a member that is left out
-abbrev pub left_out : Data → Result (List ℕ) Flaw
+abbrev pub left_out : Data → Result Digest Flaw
 left_out d =
     object_of takes_digest (record { digest = None }) d >>= λ t. required (codes "digest") t.digest
-    >>= λ digest. Ok digest.bytes
 
 abbrev pub described_member : Scope → Data → Result Member Flaw
 described_member scope d =
     if is_some (as_object d)
-    then (left_out d >>= λ digest. Ok (members.Apart (record { bytes = digest })))
+    then (left_out d >>= λ digest. Ok (members.Apart digest))
     else (member_sequence scope d >>= λ s. Ok (members.Here s))
 
 abbrev pub ends_here : Option (List ℕ × Position) → Bool
@@ -58,5 +57,5 @@ one_item bytes = if is_one_item bytes then Ok (texts.Here bytes) else flawed Fie
 abbrev pub text_member_of : Data → Result TextMember Flaw
 text_member_of d =
     if is_some (as_object d)
-    then (left_out d >>= λ digest. Ok (texts.Apart (record { bytes = digest })))
+    then (left_out d >>= λ digest. Ok (texts.Apart digest))
     else (hex_of d >>= λ bytes. one_item bytes)

@@ -7,12 +7,12 @@ use Rattle.author.specs.Outlines.{severed_in, manifest_contents, severed_content
 
 abbrev pub ContentsFit : Data → List (List ℕ × List ℕ) → Type 0
 ContentsFit d files =
-    (manifest_contents files d ≤ 16384) × (severed_contents files d ≤ 1048576)
+    (manifest_contents files d ≤ 65536) × (severed_contents files d ≤ 1048576)
 
 -- those of the manifest are judged first
 abbrev pub AreJudged : Data → List (List ℕ × List ℕ) → Contents → Type 0
 AreJudged d files contents.Short = ContentsFit d files
-AreJudged d files contents.LongManifest = 16384 < manifest_contents files d
+AreJudged d files contents.LongManifest = 65536 < manifest_contents files d
 AreJudged d files (contents.LongMembers severed) =
-    (severed ≡ severed_in d) × (manifest_contents files d ≤ 16384)
+    (severed ≡ severed_in d) × (manifest_contents files d ≤ 65536)
     × (1048576 < severed_contents files d)

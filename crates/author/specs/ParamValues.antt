@@ -31,7 +31,7 @@ param_value scope keys.Vendor d = uuid_of d >>= λ id. Ok (params.Vendor id)
 param_value scope keys.Class d = uuid_of d >>= λ id. Ok (params.Class id)
 param_value scope keys.Device d = uuid_of d >>= λ id. Ok (params.Device id)
 param_value scope keys.Digest d =
-    digest_of scope.files d >>= λ digest. Ok (params.Digest (record { bytes = digest }))
+    digest_of scope.files d >>= λ digest. Ok (params.Digest digest)
 param_value scope keys.Slot d = number_of d >>= λ n. Ok (params.Slot n)
 param_value scope keys.Strict d = flag_of d >>= λ b. Ok (params.Strict b)
 param_value scope keys.Soft d = flag_of d >>= λ b. Ok (params.Soft b)

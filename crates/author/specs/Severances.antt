@@ -32,4 +32,6 @@ parted p = record {
   text = severed_text p.severed.text p.manifest.text;
   payloads = p.payloads;
   kid = p.kid;
+  mac = p.mac;
+  algorithm = p.algorithm;
 }

@@ -13,6 +13,7 @@ use serde_json::Value;
 use std::alloc::Global;
 use suit_envelope::string_digest;
 use suit_manifest::Member;
+use suit_params::DigestKind;
 
 /// The fields that were read, and which members are severed.
 #[derive(Drop)]
@@ -22,10 +23,10 @@ struct BareFields<'a> {
 }
 
 // The digest of nothing, in place of a member's content.
-fn no_content() -> Member
-    ensures { result ≡ no_content }
+fn no_content(kind: DigestKind) -> Member
+    ensures { result ≡ no_content kind }
 {
-    Member::Apart(string_digest(&[]))
+    Member::Apart(string_digest(kind, &[]))
 }
 
 impl Draft for BareFields<'_> {
@@ -37,10 +38,10 @@ impl Draft for BareFields<'_> {
         if value.is_object() {
             self.fields.take(alloc, key, value)
         } else if key == "payload-fetch" && self.severed.payload_fetch {
-            self.fields.payload_fetch = no_content();
+            self.fields.payload_fetch = no_content(self.severed.kinds.payload_fetch);
             Ok(())
         } else if key == "install" && self.severed.install {
-            self.fields.install = no_content();
+            self.fields.install = no_content(self.severed.kinds.install);
             Ok(())
         } else {
             self.fields.take(alloc, key, value)

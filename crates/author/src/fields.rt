@@ -6,15 +6,18 @@ ghost use Rattle.json_fields.specs.Answers.{Gives};
 ghost use Rattle.author.specs.Descriptions.{count_in, no_fields, scope_of, field_sequence, takes_field, finished, described};
 
 use crate::FileList;
+use crate::algorithm_name::algorithm;
 use crate::commands::sequence;
 use crate::elements::elements;
 use crate::identifiers::identifiers;
+use crate::mac_name::mac_kind;
 use crate::member_fields::{member, text_member};
 use crate::param_fields::whole;
 use crate::payload_fields::payloads;
 use crate::scope::{Scope, Source};
 use crate::severing::{Severed, given, severed_members};
 use det_cbor::{Bytes, Text};
+use hmac_mac0::MacKind;
 use json_fields::{Draft, FlawKind, JsonFault, flawed, hex, object, required, text};
 use serde_json::Value;
 use std::alloc::Global;
@@ -22,7 +25,7 @@ use std::mem;
 use suit_commands::{MAX_LEVELS, Sequence};
 use suit_envelope::PayloadList;
 use suit_manifest::{Manifest, Member, TextMember};
-use suit_params::Identifiers;
+use suit_params::{DigestKind, Identifiers};
 
 /// The fields that were read.
 #[derive(Drop)]
@@ -41,6 +44,8 @@ pub(crate) struct Fields<'a> {
     severed: Severed,
     payloads: PayloadList<'a>,
     kid: Option<Bytes>,
+    mac: MacKind,
+    algorithm: DigestKind,
 }
 
 impl<'a> Fields<'a> {
@@ -85,6 +90,8 @@ impl Draft for Fields<'_> {
                 let _none_yet = mem::replace(&mut self.payloads, list);
             }
             "kid" => self.kid = Some(hex(alloc, value)?),
+            "mac" => self.mac = mac_kind(alloc, value)?,
+            "algorithm" => self.algorithm = algorithm(alloc, value)?,
             _ => return flawed(alloc, FlawKind::Field),
         }
         Ok(())
@@ -119,6 +126,10 @@ pub(crate) struct Described<'a> {
     pub(crate) payloads: PayloadList<'a>,
     /// The name of the key.
     pub(crate) kid: Option<Bytes>,
+    /// The algorithm of the block.
+    pub(crate) mac: MacKind,
+    /// The hash function of the wrapper's digest.
+    pub(crate) algorithm: DigestKind,
 }
 
 /// A description of no fields.
@@ -147,6 +158,8 @@ pub(crate) fn no_fields<'a>(alloc: Global, description: &Value, files: &'a FileL
         severed: Severed::none(),
         payloads: PayloadList::new(alloc),
         kid: None,
+        mac: MacKind::Hmac256,
+        algorithm: DigestKind::Sha256,
     }
 }
 
@@ -173,6 +186,8 @@ impl<'a> Described<'a> {
             severed: fields.severed,
             payloads: fields.payloads,
             kid: fields.kid,
+            mac: fields.mac,
+            algorithm: fields.algorithm,
         })
     }
 

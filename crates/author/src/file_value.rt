@@ -1,20 +1,18 @@
 //! Values that may come from a file.
 
-ghost use Rattle.std.specs.Prelude.{◌≡◌};
 ghost use Rattle.serde_json.specs.View.{view};
 ghost use Rattle.json_fields.specs.Answers.{Gives};
-ghost use Rattle.author.specs.FileValues.{takes_file, file_named, digest_of, size_of, content_of};
+ghost use Rattle.author.specs.FileValues.{takes_file, file_named, takes_digest_file, digest_file, digest_of, size_of, content_of};
 
 use crate::FileList;
+use crate::algorithm_name::algorithm;
+use crate::digest_value::digest_spelled;
 use crate::file_list::bytes_of;
 use det_cbor::{Bytes, Text};
-use json_fields::{
-    Draft, FlawKind, JsonFault, flawed, hex, number, object, required, sized_hex, text,
-};
+use json_fields::{Draft, FlawKind, JsonFault, flawed, hex, number, object, required, text};
 use serde_json::Value;
-use sha2::{Digest as _, Sha256};
 use std::alloc::Global;
-use suit_params::Digest;
+use suit_params::{Digest, DigestKind, hash};
 
 /// A partly read `{"file": NAME}`.
 #[derive(Drop)]
@@ -44,17 +42,49 @@ pub(crate) fn file_named(alloc: Global, value: &Value) -> Result<Text, JsonFault
     required(alloc, "file", field.name)
 }
 
-/// A SHA-256, or that of a file.
+/// A partly read `{"file": NAME, "algorithm": NAME}`.
+#[derive(Drop)]
+pub(crate) struct DigestFile {
+    name: Option<Text>,
+    algorithm: DigestKind,
+}
+
+impl Draft for DigestFile {
+    ghost takes = { takes_digest_file };
+
+    fn take(&mut self, alloc: Global, key: &str, value: &Value) -> Result<(), JsonFault> {
+        match key {
+            "file" => self.name = Some(text(alloc, value)?),
+            "algorithm" => self.algorithm = algorithm(alloc, value)?,
+            _ => return flawed(alloc, FlawKind::Field),
+        }
+        Ok(())
+    }
+}
+
+// A file, and the hash function of its digest.
+fn digest_file(alloc: Global, value: &Value) -> Result<(Text, DigestKind), JsonFault>
+    ensures { Gives (λ file. (file.0, file.1)) result (digest_file (view value.now)) }
+{
+    let mut field = DigestFile {
+        name: None,
+        algorithm: DigestKind::Sha256,
+    };
+    object(alloc, value, &mut field)?;
+    let algorithm = field.algorithm;
+    let name = required(alloc, "file", field.name)?;
+    Ok((name, algorithm))
+}
+
+/// A digest, or that of a file.
 pub(crate) fn digest(alloc: Global, value: &Value, files: &FileList) -> Result<Digest, JsonFault>
-    ensures { Gives (λ digest. digest.bytes) result (digest_of files.now (view value.now)) }
+    ensures { Gives (λ digest. digest) result (digest_of files.now (view value.now)) }
 {
     if value.is_object() {
-        let name = file_named(alloc, value)?;
-        let bytes = Sha256::digest(bytes_of(files, name.as_str()));
-        Ok(Digest { bytes })
+        let (name, algorithm) = digest_file(alloc, value)?;
+        Ok(hash(algorithm, bytes_of(files, name.as_str())))
     } else {
-        let bytes = sized_hex::<32>(alloc, value)?;
-        Ok(Digest { bytes })
+        digest_spelled(alloc, value)
     }
 }
 

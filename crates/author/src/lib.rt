@@ -1,11 +1,13 @@
 //! Descriptions of envelopes in JSON, and the envelopes that are made of them.
 #![tactic(auto)]
 
+mod algorithm_name;
 mod bare;
 mod command_name;
 mod commands;
 mod contents;
 mod describing;
+mod digest_value;
 mod elements;
 mod fault;
 mod fields;
@@ -16,6 +18,7 @@ mod held;
 mod identifiers;
 mod index_argument;
 mod law;
+mod mac_name;
 mod made_envelope;
 mod made_wrapper;
 mod make_fault;
@@ -40,4 +43,4 @@ pub use made_envelope::make;
 pub use make_fault::MakeFault;
 pub use making::manifest_of;
 pub use member_fields::is_one_item;
-pub use severing::Severed;
+pub use severing::{MemberKinds, Severed};

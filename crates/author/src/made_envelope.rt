@@ -11,7 +11,7 @@ ghost use Rattle.author.specs.MadeMembers.{HoldsMembersOf};
 ghost use Rattle.author.specs.MadePayloads.{HoldsPayloadsOf};
 ghost use Rattle.author.specs.Outlines.{severed_in, severed_contents};
 ghost use Rattle.author.specs.Overlong.{ContentsFit};
-ghost use Rattle.author.specs.MadeEnvelopes.{made_parts, HasOneBlock, IsMadeOf, IsTooLong, IsMakeFaultOf, IsMadeAs, IsTooLongBy, IsAuthenticUnder, HoldsPartsOf, HoldsManifestOf};
+ghost use Rattle.author.specs.MadeEnvelopes.{made_parts, HasOneBlock, HasBlockBy, IsMadeOf, IsTooLong, IsMakeFaultOf, IsMadeAs, IsTooLongBy, IsAuthenticUnder, HoldsPartsOf, HoldsManifestOf};
 
 use crate::made_wrapper::made_wrapper;
 use crate::making::{Parted, part};
@@ -33,17 +33,20 @@ fn made_parts<'a>(
 ) -> Result<EnvelopeParts<'a>, AllocError>
     ensures is { IfOk result (λ parts. parts ≡ made_parts key.now parted.entry) }
     ensures one_block { IfOk result (λ parts. HasOneBlock key.now parts.wrapper parts.manifest) }
+    ensures by_mac { IfOk result
+        (λ parts. HasBlockBy parted.entry.mac parted.entry.algorithm parts.wrapper
+        parts.manifest) }
     ensures written { IfOk result
         (λ parts. IsWrittenManifest parted.entry.manifest parts.manifest) }
     ensures fits { IfOk result (λ _. ManifestFits parted.entry.manifest) }
 {
     let manifest = encode_manifest(alloc, &parted.manifest)?;
-    let digest = string_digest(manifest.as_slice());
+    let digest = string_digest(parted.algorithm, manifest.as_slice());
     let kid = match &parted.kid {
         Some(kid) => Some(kid.as_slice()),
         None => None,
     };
-    let wrapper = made_wrapper(alloc, key, kid, &digest)?;
+    let wrapper = made_wrapper(alloc, parted.mac, key, kid, &digest)?;
     Ok(EnvelopeParts {
         wrapper,
         manifest,
@@ -108,7 +111,7 @@ fn certain_limit(
 /// Where no object of the description has a key twice, what the bytes hold is told by the description's JSON alone: a
 /// member that `sever` names stands in the envelope, with its digest in the manifest, and each payload under its key.
 ///
-/// Refuses an envelope whose wrapper and manifest alone take more than 16,384 bytes, and then one of more than
+/// Refuses an envelope whose wrapper and manifest alone take more than 65,536 bytes, and then one of more than
 /// 1,048,576.
 pub fn make(
     alloc: Global,

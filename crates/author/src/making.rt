@@ -12,10 +12,12 @@ use crate::fields::Described;
 use crate::parts::parts_of;
 use crate::{Description, FileList};
 use det_cbor::Bytes;
+use hmac_mac0::MacKind;
 use std::alloc::{AllocError, Global};
 use suit_commands::encode_sequence;
 use suit_envelope::{PayloadList, string_digest};
 use suit_manifest::{Manifest, Member, TextMember};
+use suit_params::DigestKind;
 
 /// A description's parts, with its severed members beside the manifest.
 #[derive(Drop)]
@@ -30,35 +32,40 @@ pub(crate) struct Parted<'a> {
     pub(crate) payloads: PayloadList<'a>,
     /// The name of the key.
     pub(crate) kid: Option<Bytes>,
+    /// The algorithm of the block.
+    pub(crate) mac: MacKind,
+    /// The hash function of the wrapper's digest.
+    pub(crate) algorithm: DigestKind,
 }
 
 // A member as it stands in the manifest, and its content where that stands beside it.
 fn part_member(
     alloc: Global,
     severed: bool,
+    kind: DigestKind,
     member: Member,
 ) -> Result<(Member, Option<Bytes>), AllocError>
-    ensures member { IfOk result (λ m. m.0 ≡ apart_member severed member) }
+    ensures member { IfOk result (λ m. m.0 ≡ apart_member severed kind member) }
     ensures content { IfOk result (λ m. m.1 ≡ severed_content severed member) }
     ensures written { IfOk result (λ _. IsWrittenApart severed member) }
 {
     match member {
         Member::Here(sequence) if severed => {
             let content = encode_sequence(alloc, &sequence)?;
-            let digest = string_digest(content.as_slice());
+            let digest = string_digest(kind, content.as_slice());
             Ok((Member::Apart(digest), Some(content)))
         }
         _ => Ok((member, None)),
     }
 }
 
-fn part_text(severed: bool, text: TextMember) -> (TextMember, Option<Bytes>)
-    ensures member { result.0 ≡ apart_text severed text }
+fn part_text(severed: bool, kind: DigestKind, text: TextMember) -> (TextMember, Option<Bytes>)
+    ensures member { result.0 ≡ apart_text severed kind text }
     ensures content { result.1 ≡ severed_text severed text }
 {
     match text {
         TextMember::Here(content) if severed => {
-            let digest = string_digest(content.as_slice());
+            let digest = string_digest(kind, content.as_slice());
             (TextMember::Apart(digest), Some(content))
         }
         _ => (text, None),
@@ -75,12 +82,18 @@ pub(crate) fn part<'a>(alloc: Global, parts: Described<'a>) -> Result<Parted<'a>
     let (member, payload_fetch) = part_member(
         alloc,
         severed.payload_fetch,
+        severed.kinds.payload_fetch,
         manifest.payload_fetch,
     )?;
     manifest.payload_fetch = member;
-    let (member, install) = part_member(alloc, severed.install, manifest.install)?;
+    let (member, install) = part_member(
+        alloc,
+        severed.install,
+        severed.kinds.install,
+        manifest.install,
+    )?;
     manifest.install = member;
-    let (member, text) = part_text(severed.text, manifest.text);
+    let (member, text) = part_text(severed.text, severed.kinds.text, manifest.text);
     manifest.text = member;
     Ok(Parted {
         manifest,
@@ -89,11 +102,13 @@ pub(crate) fn part<'a>(alloc: Global, parts: Described<'a>) -> Result<Parted<'a>
         text,
         payloads: parts.payloads,
         kid: parts.kid,
+        mac: parts.mac,
+        algorithm: parts.algorithm,
     })
 }
 
-/// The manifest of a description, where its files have these bytes. A severed member stands in it as the SHA-256
-/// of its whole byte string.
+/// The manifest of a description, where its files have these bytes. A severed member stands in it as the digest
+/// of its whole byte string, under the hash function that is named for it.
 pub fn manifest_of(
     alloc: Global,
     description: &Description,

@@ -6,9 +6,10 @@ ghost use Rattle.json_fields.specs.Answers.{Gives};
 ghost use Rattle.author.specs.Members.{left_out, described_member, is_one_item, text_member_of};
 
 use crate::commands::sequence;
+use crate::digest_value::digest_spelled;
 use crate::scope::Scope;
 use det_cbor::Cursor;
-use json_fields::{Draft, FlawKind, JsonFault, flawed, hex, object, required, sized_hex};
+use json_fields::{Draft, FlawKind, JsonFault, flawed, hex, object, required};
 use serde_json::Value;
 use std::alloc::Global;
 use suit_commands::MAX_LEVELS;
@@ -28,8 +29,7 @@ impl Draft for DigestField {
 
     fn take(&mut self, alloc: Global, key: &str, value: &Value) -> Result<(), JsonFault> {
         if key == "digest" {
-            let bytes = sized_hex::<32>(alloc, value)?;
-            self.digest = Some(Digest { bytes });
+            self.digest = Some(digest_spelled(alloc, value)?);
             Ok(())
         } else {
             flawed(alloc, FlawKind::Field)
@@ -39,12 +39,11 @@ impl Draft for DigestField {
 
 // The digest of a member that is left out.
 fn left_out(alloc: Global, value: &Value) -> Result<Digest, JsonFault>
-    ensures { Gives (λ digest. digest.bytes) result (left_out (view value.now)) }
+    ensures { Gives (λ digest. digest) result (left_out (view value.now)) }
 {
     let mut field = DigestField { digest: None };
     object(alloc, value, &mut field)?;
-    let digest = required(alloc, "digest", field.digest)?;
-    Ok(digest)
+    required(alloc, "digest", field.digest)
 }
 
 /// The commands of a member, or the digest of one that is left out.

@@ -1,15 +1,39 @@
 //! Which members of a description are severed.
 
-ghost use Rattle.std.specs.Prelude.{◌≡◌, option_map, Some, None};
+ghost use Rattle.std.specs.Prelude.{◌≡◌, Some, None};
 ghost use Rattle.serde_json.specs.Find.{get};
 ghost use Rattle.serde_json.specs.View.{view};
 ghost use Rattle.json_fields.specs.Answers.{Gives};
-ghost use Rattle.author.specs.Severing.{member_named, is_in, with_name, none_severed, given_in, is_content, one_severed, severed_of};
+ghost use Rattle.author.specs.Severing.{member_named, is_in, with_name, plain_kinds, none_severed, given_in, is_content, one_name, entry_of, one_severed, severed_of};
 
+use crate::algorithm_name::algorithm;
+use crate::elements::pair;
 use json_fields::{FlawKind, JsonFault, at_index, flawed};
 use serde_json::Value;
 use std::alloc::Global;
 use suit_envelope::MemberName;
+use suit_params::DigestKind;
+
+/// A hash function for each of the members that may be severed from the manifest.
+#[derive(Clone, Copy, Debug, PartialEq, Eq)]
+pub struct MemberKinds {
+    pub payload_fetch: DigestKind,
+    pub install: DigestKind,
+    pub text: DigestKind,
+}
+
+impl MemberKinds {
+    /// SHA-256 for each of them.
+    pub fn plain() -> MemberKinds
+        ensures { result ≡ plain_kinds }
+    {
+        MemberKinds {
+            payload_fetch: DigestKind::Sha256,
+            install: DigestKind::Sha256,
+            text: DigestKind::Sha256,
+        }
+    }
+}
 
 /// A set of the members that may be severed from the manifest.
 #[derive(Clone, Copy, Debug, PartialEq, Eq)]
@@ -17,6 +41,8 @@ pub struct Severed {
     pub payload_fetch: bool,
     pub install: bool,
     pub text: bool,
+    /// The hash functions of their digests. Of a member that is not severed it is SHA-256.
+    pub kinds: MemberKinds,
 }
 
 impl Severed {
@@ -28,6 +54,7 @@ impl Severed {
             payload_fetch: false,
             install: false,
             text: false,
+            kinds: MemberKinds::plain(),
         }
     }
 
@@ -41,13 +68,22 @@ impl Severed {
         }
     }
 
-    fn with(mut self, name: MemberName) -> Severed
-        ensures { result ≡ with_name self name }
+    fn with(mut self, name: MemberName, kind: DigestKind) -> Severed
+        ensures { result ≡ with_name self name kind }
     {
         match name {
-            MemberName::PayloadFetch => self.payload_fetch = true,
-            MemberName::Install => self.install = true,
-            MemberName::Text => self.text = true,
+            MemberName::PayloadFetch => {
+                self.payload_fetch = true;
+                self.kinds.payload_fetch = kind;
+            }
+            MemberName::Install => {
+                self.install = true;
+                self.kinds.install = kind;
+            }
+            MemberName::Text => {
+                self.text = true;
+                self.kinds.text = kind;
+            }
         }
         self
     }
@@ -82,17 +118,18 @@ pub(crate) fn given(description: &Value) -> Severed
         payload_fetch: is_content(description, "payload-fetch"),
         install: is_content(description, "install"),
         text: is_content(description, "text"),
+        kinds: MemberKinds::plain(),
     }
 }
 
-// Adds a name, one of the members that are given.
-fn one_severed(
+// A name, one of the members that are given and are not named yet.
+fn one_name(
     alloc: Global,
     value: &Value,
     given: Severed,
     so_far: Severed,
-) -> Result<Severed, JsonFault>
-    ensures { Gives (λ s. s) result (one_severed given so_far (view value.now)) }
+) -> Result<MemberName, JsonFault>
+    ensures { Gives (λ name. name) result (one_name given so_far (view value.now)) }
 {
     let Some(text) = value.as_str() else {
         return flawed(alloc, FlawKind::Field);
@@ -100,7 +137,7 @@ fn one_severed(
     match member_named(text) {
         Some(name) => {
             if given.contains(name) && !so_far.contains(name) {
-                Ok(so_far.with(name))
+                Ok(name)
             } else {
                 flawed(alloc, FlawKind::Field)
             }
@@ -109,7 +146,39 @@ fn one_severed(
     }
 }
 
-/// An array of distinct names of the members that are given.
+// A name, for SHA-256, or a name and a hash function.
+fn entry(
+    alloc: Global,
+    value: &Value,
+    given: Severed,
+    so_far: Severed,
+) -> Result<(MemberName, DigestKind), JsonFault>
+    ensures { Gives (λ e. e) result (entry_of given so_far (view value.now)) }
+{
+    match pair(value) {
+        Some((first, second)) => {
+            let name = at_index(alloc, 0, one_name(alloc, first, given, so_far))?;
+            let kind = at_index(alloc, 1, algorithm(alloc, second))?;
+            Ok((name, kind))
+        }
+        None => Ok((one_name(alloc, value, given, so_far)?, DigestKind::Sha256)),
+    }
+}
+
+// Adds an entry.
+fn one_severed(
+    alloc: Global,
+    value: &Value,
+    given: Severed,
+    so_far: Severed,
+) -> Result<Severed, JsonFault>
+    ensures { Gives (λ s. s) result (one_severed given so_far (view value.now)) }
+{
+    let (name, kind) = entry(alloc, value, given, so_far)?;
+    Ok(so_far.with(name, kind))
+}
+
+/// An array of entries of distinct names, of the members that are given.
 pub(crate) fn severed_members(
     alloc: Global,
     value: &Value,

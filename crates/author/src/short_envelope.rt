@@ -14,7 +14,7 @@ use std::alloc::Global;
 use suit_envelope::{Envelope, EnvelopeParts, PayloadList, encode_envelope, trimmed_length};
 
 /// The longest trimmed envelope, in bytes.
-pub(crate) const MAX_TRIMMED: u64 = 16_384;
+pub(crate) const MAX_TRIMMED: u64 = 65_536;
 
 /// The longest envelope, in bytes.
 pub(crate) const MAX_WHOLE: u64 = 1_048_576;

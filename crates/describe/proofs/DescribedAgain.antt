@@ -2,17 +2,15 @@
 use Rattle.std.proofs.Common.{◌≡◌, ℕ, Bool, true, false, ◌&&◌, cond, List, [], Option, Some, None, Result, Ok, unwrap_or, refl, sym, ap, ◌∙◌}
 use Rattle.std.specs.Prelude.{is_some, IfSome}
 use Rattle.std.specs.Result.{result_ok}
-use Rattle.std.specs.Str.{bytes_eq}
-use Rattle.std.proofs.lemmas.Slice.Eq.{bytes_eq-Decides}
 use Rattle.std.specs.List.{AllByRecursion}
-use Rattle.det_cbor.specs.DataItem.{IsByte, IsString, spell}
+use Rattle.det_cbor.specs.DataItem.{ByteString, IsByte, IsString, spell}
 use Rattle.suit_commands.specs.Allowed.{levels_allowed}
 use Rattle.suit_commands.specs.SequenceLaws.{SequenceLaws}
 use Rattle.suit_commands.specs.SequenceMaking.{sequence_item, unplaced, unplaced_command, unplaced_branches}
 use Rattle.suit_commands.specs.Tree.{CommandTree, Test, Act, Index, Override, TryEach, RunSequence, SequenceTree, NoSteps, StepThen, BranchesTree, NoBranches, BranchThen, NullThen}
 use Rattle.suit_envelope.specs.EnvelopeLaws.{EnvelopeLaws}
 use Rattle.suit_envelope.specs.Envelopes.{EnvelopeSays}
-use Rattle.suit_envelope.specs.Members.{string_digest}
+use Rattle.suit_envelope.specs.Members.{string_like}
 use Rattle.suit_manifest.specs.declared.manifest.Manifest.{Manifest}
 use Rattle.suit_manifest.specs.declared.manifest.Member.{Member}
 use Rattle.suit_manifest.specs.declared.manifest.Member.TheVariants as members
@@ -25,12 +23,14 @@ use Rattle.suit_manifest.specs.ManifestWriting.{IsGrammatical, IsSevered}
 use Rattle.suit_manifest.specs.Manifests.{count_said}
 use Rattle.suit_manifest.specs.MembersApart.{HasMember, HasMembers}
 use Rattle.suit_params.specs.declared.digest.Digest.{Digest}
-use Rattle.suit_params.specs.Digests.{IsDigestBytes}
+use Rattle.suit_params.specs.DigestBytes.{IsDigestBytes}
+use Rattle.suit_params.specs.DigestLaws.{has_decides}
+use Rattle.suit_params.specs.Hashes.{has_digest}
 use Rattle.json_fields.specs.declared.flaw.Flaw.{Flaw}
 use Rattle.author.specs.Making.{apart_member, apart_text as made_text, made_manifest}
 use Rattle.author.specs.Members.{is_one_item}
 use Rattle.describe.specs.Again.{IsThere, AreThere, MadeAgain}
-use Rattle.describe.specs.MemberData.{is_severed, apart_text}
+use Rattle.describe.specs.MemberData.{is_severed, member_kind, apart_text, text_kind}
 use Rattle.describe.specs.Describing.{text_there}
 use Rattle.describe.proofs.DescriptionReads.{AreReadable, made, reads}
 use Rattle.describe.proofs.FieldsTaken.{read_member, MemberReads, read_text, TextReads}
@@ -73,15 +73,15 @@ manifest_twice m =
 -- ---- members
 
 module _ (laws : SequenceLaws) (count : ℕ) (held : Option (List ℕ)) (place : ℕ) where
-  member_again : (x : Member) (apart : Option SequenceTree) → IsThere count held place x apart → apart_member (is_severed x apart) (read_member x apart) ≡ unplaced_severed x
+  member_again : (x : Member) (apart : Option SequenceTree) → IsThere count held place x apart → apart_member (is_severed x apart) (member_kind x apart) (read_member x apart) ≡ unplaced_severed x
   member_again members.Empty apart there = refl
   member_again (members.Here s) apart there = refl
   member_again (members.Apart digest) None there = refl
   member_again (members.Apart digest) (Some s) there =
       let content : there.content ≡ spell (sequence_item s) = laws.again false count levels_allowed place there.content s there.says_so in
       let item : sequence_item (unplaced s) ≡ sequence_item s = laws.one_item (unplaced s) s (sequence_twice s) in
-      let same : string_digest (spell (sequence_item (unplaced s))) ≡ digest.bytes = ap (λ x. string_digest (spell x)) item ∙ ap string_digest (sym content) ∙ there.matches in
-      ap (λ (b : List ℕ). members.Apart (record { bytes = b })) same
+      let same : string_like digest (spell (sequence_item (unplaced s))) ≡ digest = ap (λ x. string_like digest (spell x)) item ∙ ap (string_like digest) (sym content) ∙ there.matches in
+      ap members.Apart same
 
   member_reads : (x : Member) (apart : Option SequenceTree) → IsThere count held place x apart → IsSevered count x → IsStated x → MemberReads count x apart
   member_reads members.Empty apart there allowed is = tt
@@ -107,7 +107,7 @@ are_there said m apart h = record {
 -- ---- the text
 
 abbrev TextAgain : TextMember → Option (List ℕ) → Type 0
-TextAgain x apart = (made_text (is_some apart) (read_text x apart) ≡ x) × TextReads x apart
+TextAgain x apart = (made_text (is_some apart) (text_kind x apart) (read_text x apart) ≡ x) × TextReads x apart
 
 both_true : (a b : Bool) → (a && b) ≡ true → (a ≡ true) × (b ≡ true)
 both_true true true h = (refl, refl)
@@ -117,18 +117,18 @@ both_true false b h = absurd cc
 abbrev HoldsBytes : Option (List ℕ) → Type 0
 HoldsBytes held = IfSome held (λ content. AllByRecursion IsByte content)
 
-text_by : (digest : Digest) (content : List ℕ) (t : Bool) → AllByRecursion IsByte content → IsDigestBytes digest.bytes
-    → bytes_eq (string_digest content) digest.bytes && is_one_item content ≡ t → TextAgain (texts.Apart digest) (cond t (Some content) None)
+text_by : (digest : Digest) (content : List ℕ) (t : Bool) → AllByRecursion IsByte content → IsDigestBytes digest
+    → has_digest digest (spell (ByteString content)) && is_one_item content ≡ t → TextAgain (texts.Apart digest) (cond t (Some content) None)
 text_by digest content true bytes is e =
-    let both = both_true (bytes_eq (string_digest content) digest.bytes) (is_one_item content) e in
-    (ap (λ (b : List ℕ). texts.Apart (record { bytes = b })) ((bytes_eq-Decides (string_digest content) digest.bytes).0 both.0), (bytes, both.1))
+    let both = both_true (has_digest digest (spell (ByteString content))) (is_one_item content) e in
+    (ap texts.Apart ((has_decides digest (spell (ByteString content))).0 both.0), (bytes, both.1))
 text_by digest content false bytes is e = (refl, is)
 
 text_again : (x : TextMember) (held : Option (List ℕ)) → HoldsBytes held → IsText x → TextAgain x (apart_text x held)
 text_again texts.Empty held bytes is = (refl, tt)
 text_again (texts.Here content) held bytes is = (refl, is)
 text_again (texts.Apart digest) None bytes is = (refl, is)
-text_again (texts.Apart digest) (Some content) bytes is = text_by digest content (bytes_eq (string_digest content) digest.bytes && is_one_item content) bytes is refl
+text_again (texts.Apart digest) (Some content) bytes is = text_by digest content (has_digest digest (spell (ByteString content)) && is_one_item content) bytes is refl
 
 string_bytes_of : (held : Option (List ℕ)) → IfSome held IsString → HoldsBytes held
 string_bytes_of None h = tt
@@ -169,8 +169,8 @@ module _ (splits : Splits) (envelopes : EnvelopeLaws) (sequences : SequenceLaws)
       let read = reads said payloads m apart readable files in
       let fetch = member_again sequences (count_said m) said.payload_fetch said.payload_fetch_place m.payload_fetch apart.payload_fetch there.payload_fetch in
       let install = member_again sequences (count_said m) said.install said.install_place m.install apart.install there.install in
-      let made_install = apart_member (is_severed m.install apart.install) (read_member m.install apart.install) in
-      let made_content = made_text (is_some (text_there said m)) (read_text m.text (text_there said m)) in
+      let made_install = apart_member (is_severed m.install apart.install) (member_kind m.install apart.install) (read_member m.install apart.install) in
+      let made_content = made_text (is_some (text_there said m)) (text_kind m.text (text_there said m)) (read_text m.text (text_there said m)) in
       let same : made_manifest (made said payloads m apart readable files read.0) ≡ unplaced_manifest m =
       ap (λ (x : Member). with_members m x made_install made_content) fetch ∙ ap (λ (x : Member). with_members m (unplaced_severed m.payload_fetch) x made_content) install
       ∙ ap (λ (x : TextMember). with_members m (unplaced_severed m.payload_fetch) (unplaced_severed m.install) x) text.0 in

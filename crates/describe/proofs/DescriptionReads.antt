@@ -4,6 +4,7 @@ use Rattle.std.specs.Prelude.{IfSome, is_some}
 use Rattle.std.specs.List.{AllByRecursion}
 use Rattle.serde_json.specs.Data.{Data}
 use Rattle.json_fields.specs.Objects.{members_of}
+use Rattle.suit_params.specs.declared.digest_kind.DigestKind.TheVariants.{Sha256}
 use Rattle.suit_commands.specs.Allowed.{IsSequence, levels_allowed}
 use Rattle.suit_commands.specs.Tree.{SequenceTree}
 use Rattle.suit_envelope.specs.Envelopes.{EnvelopeSays}
@@ -17,7 +18,7 @@ use Rattle.suit_manifest.specs.ManifestMaking.{unplaced_held}
 use Rattle.suit_manifest.specs.Manifests.{count_said}
 use Rattle.author.specs.Descriptions.{no_fields, takes_field, whole, described}
 use Rattle.author.specs.Severing.{is_content}
-use Rattle.describe.specs.MemberData.{member_data, is_severed, text_data}
+use Rattle.describe.specs.MemberData.{member_data, is_severed, member_kind, text_data, text_kind}
 use Rattle.describe.specs.Describing.{text_there, severed_in, described_members, described_by}
 use Rattle.describe.proofs.FieldsInOrder.{in_order, members_in_order, payload_fetch_field, install_field, text_field, count_read}
 use Rattle.describe.proofs.FieldsTaken.{ReadsTo, reads_to, components_taken, number_taken, reference_taken, shared_taken, validate_taken, load_taken, invoke_taken, read_member, MemberReads, install_taken, payload_fetch_taken, read_text, TextReads, text_taken, sever_taken, payloads_taken}
@@ -33,6 +34,20 @@ given_member members.Empty apart h = absurd cc
 given_member (members.Here s) apart h = refl
 given_member (members.Apart digest) (Some s) h = refl
 given_member (members.Apart digest) None h = absurd cc
+
+-- another one has no hash function of its own
+
+plain_member : (x : Member) (apart : Option SequenceTree) → is_severed x apart ≡ false → member_kind x apart ≡ Sha256
+plain_member members.Empty apart h = refl
+plain_member (members.Here s) apart h = refl
+plain_member (members.Apart digest) (Some s) h = absurd cc
+plain_member (members.Apart digest) None h = refl
+
+plain_text : (x : TextMember) (apart : Option (List ℕ)) → is_some apart ≡ false → text_kind x apart ≡ Sha256
+plain_text texts.Empty apart h = refl
+plain_text (texts.Here content) apart h = refl
+plain_text (texts.Apart digest) (Some content) h = absurd cc
+plain_text (texts.Apart digest) None h = refl
 
 not_some : (a : Option (List ℕ)) → a ≡ None → is_some a ≡ true → ⊥
 not_some None e h = absurd cc
@@ -121,6 +136,9 @@ module _ (said : EnvelopeSays) (payloads : List (List ℕ × List ℕ)) (m : Man
     payload_fetch = λ e. ap is_content (payload_fetch_field said payloads m apart) ∙ given_member m.payload_fetch apart.payload_fetch e;
     install = λ e. ap is_content (install_field said payloads m apart) ∙ given_member m.install apart.install e;
     text = λ e. ap is_content (text_field said payloads m apart) ∙ given_text m.text (text_there said m) (λ empty. rw empty refl) e;
+    payload_fetch_plain = plain_member m.payload_fetch apart.payload_fetch;
+    install_plain = plain_member m.install apart.install;
+    text_plain = plain_text m.text (text_there said m);
   }
 
   payloads_listed : (list : List (List ℕ × List ℕ)) × ReadsTo t0 (in_order said payloads m apart) (t12 list)

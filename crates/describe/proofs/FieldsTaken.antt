@@ -16,7 +16,7 @@ use Rattle.suit_manifest.specs.declared.manifest.Member.TheVariants as members
 use Rattle.suit_manifest.specs.declared.manifest.TextMember.{TextMember}
 use Rattle.suit_manifest.specs.declared.manifest.TextMember.TheVariants as texts
 use Rattle.suit_manifest.specs.ManifestMaking.{unplaced_held}
-use Rattle.suit_params.specs.Digests.{IsDigestBytes}
+use Rattle.suit_params.specs.DigestBytes.{IsDigestBytes}
 use Rattle.author.specs.Descriptions.{scope_of, field_sequence, takes_field}
 use Rattle.author.specs.Members.{described_member, is_one_item}
 use Rattle.author.specs.Severing.{none_severed, severed_from}
@@ -111,7 +111,7 @@ abbrev pub MemberReads : ℕ → Member → Option SequenceTree → Type 0
 MemberReads count members.Empty apart = Unit {0}
 MemberReads count (members.Here s) apart = IsSequence false count levels_allowed s
 MemberReads count (members.Apart digest) (Some s) = IsSequence false count levels_allowed s
-MemberReads count (members.Apart digest) None = IsDigestBytes digest.bytes
+MemberReads count (members.Apart digest) None = IsDigestBytes digest
 
 -- a member's field, by how it is set
 abbrev TakesMember : List ℕ → (Fields → Member → Fields) → Type 0
@@ -122,7 +122,7 @@ member_taken : (key : List ℕ) (set : Fields → Member → Fields) → ((t : F
 member_taken key set takes t members.Empty apart empty small h = empty
 member_taken key set takes t (members.Here s) apart empty small h = takes t (sequence_data s) ∙ rw (here_read (scope_of t false) s small h) refl
 member_taken key set takes t (members.Apart digest) (Some s) empty small h = takes t (sequence_data s) ∙ rw (here_read (scope_of t false) s small h) refl
-member_taken key set takes t (members.Apart digest) None empty small h = takes t (digest_data digest.bytes) ∙ rw (apart_read (scope_of t false) digest.bytes h.0 h.1) refl
+member_taken key set takes t (members.Apart digest) None empty small h = takes t (digest_data digest) ∙ rw (apart_read (scope_of t false) digest h) refl
 
 pub install_taken : TakesMember (codes "install") (λ t m. record t { install = m })
 install_taken = member_taken (codes "install") (λ t m. record t { install = m }) (λ t d. refl)
@@ -143,14 +143,14 @@ abbrev pub TextReads : TextMember → Option (List ℕ) → Type 0
 TextReads texts.Empty apart = Unit {0}
 TextReads (texts.Here content) apart = IsTextItem content
 TextReads (texts.Apart digest) (Some content) = IsTextItem content
-TextReads (texts.Apart digest) None = IsDigestBytes digest.bytes
+TextReads (texts.Apart digest) None = IsDigestBytes digest
 
 pub text_taken : (t : Fields) (x : TextMember) (apart : Option (List ℕ)) → t.text ≡ texts.Empty → TextReads x apart
     → TakesIf t (codes "text") (text_data x apart) (record t { text = read_text x apart })
 text_taken t texts.Empty apart empty h = ap (λ x. record t { text = x }) empty
 text_taken t (texts.Here content) apart empty h = rw (text_read content h.0 h.1) refl
 text_taken t (texts.Apart digest) (Some content) empty h = rw (text_read content h.0 h.1) refl
-text_taken t (texts.Apart digest) None empty h = rw (apart_text_read digest.bytes h.0 h.1) refl
+text_taken t (texts.Apart digest) None empty h = rw (apart_text_read digest h) refl
 
 -- ---- names of severed members
 

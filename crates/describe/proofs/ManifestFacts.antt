@@ -5,7 +5,9 @@ use Rattle.std.specs.List.{AllByRecursion}
 use Rattle.det_cbor.specs.DataItem.{DataItem, MapOf, DataPairs, NoPairs, PairThen, spell, Spells, IsByte, IsValid, IsValidWithin, AreValidWithin, ArePairsWithin}
 use Rattle.det_cbor.specs.ItemSkipping.{item_split}
 use Rattle.det_cbor.specs.OneReading.{StartsWithItem}
-use Rattle.suit_params.specs.Digests.{IsDigest, IsDigestBytes}
+use Rattle.suit_params.specs.declared.digest.Digest.{Digest}
+use Rattle.suit_params.specs.DigestBytes.{IsDigestBytes}
+use Rattle.suit_params.specs.Digests.{IsDigest}
 use Rattle.suit_params.specs.Params.{pairs_place}
 use Rattle.suit_envelope.specs.Envelopes.{Entry, entries, is_number}
 use Rattle.suit_manifest.specs.declared.manifest.Manifest.{Manifest}
@@ -49,8 +51,8 @@ one_item splits x content h =
     let starts : StartsWithItem content x (length content) = record { spells = record { valid = h.valid; is = whole ∙ h.is }; within = omega arith } in
     rw (splits content x (length content) starts, drop_all (length content) content (omega arith)) refl
 
-pub digest_bytes : (levels place : ℕ) (x : DataItem) (digest : List ℕ) → IsValidWithin levels x → IsDigest place x digest → IsDigestBytes digest
-digest_bytes levels place x digest valid is = (is.long, (subst (IsValidWithin levels) is.is valid).2.1.0.1)
+pub digest_fits : (levels place : ℕ) (x : DataItem) (digest : Digest) → IsValidWithin levels x → IsDigest place x digest → IsDigestBytes digest
+digest_fits levels place x digest valid is = (is.long, (subst (IsValidWithin levels) is.is valid).2.1.0.1)
 
 -- ---- components
 
@@ -79,11 +81,11 @@ module _ (place : ℕ) (x : DataItem) (m : Manifest) (valid : IsValid x) (is : I
 abbrev pub IsStated : Member → Type 0
 IsStated members.Empty = Unit {0}
 IsStated (members.Here s) = Unit {0}
-IsStated (members.Apart digest) = IsDigestBytes digest.bytes
+IsStated (members.Apart digest) = IsDigestBytes digest
 
 stated_by : (count place : ℕ) (x : DataItem) (m : Member) → IsValidWithin 1 x → SaysSevered count place x m → IsStated m
 stated_by count place x m valid (SaysHere s h) = tt
-stated_by count place x m valid (SaysApart bytes h) = digest_bytes 1 place x bytes valid h
+stated_by count place x m valid (SaysApart bytes h) = digest_fits 1 place x bytes valid h
 
 pub stated : (n count place at : ℕ) (x : DataItem) (pairs : DataPairs) (m : Member) → IsValid x → x ≡ MapOf pairs → SeveredUnder n count (entries_of place pairs) m → IsStated m
 stated n count place at x pairs members.Empty valid is under = tt
@@ -95,11 +97,11 @@ stated n count place at x pairs (members.Apart digest) valid is under =
 abbrev pub IsText : TextMember → Type 0
 IsText texts.Empty = Unit {0}
 IsText (texts.Here content) = IsTextItem content
-IsText (texts.Apart digest) = IsDigestBytes digest.bytes
+IsText (texts.Apart digest) = IsDigestBytes digest
 
 text_by : Splits → (place : ℕ) (x : DataItem) (m : TextMember) → IsValidWithin 1 x → SaysTextMember place x m → IsText m
 text_by splits place x m valid (SaysTextHere said held) = ((subst (IsValidWithin 1) held.is valid).1, one_item splits held.holds.item held.content held.holds.spells)
-text_by splits place x m valid (SaysTextApart digest h) = digest_bytes 1 place x digest valid h
+text_by splits place x m valid (SaysTextApart digest h) = digest_fits 1 place x digest valid h
 
 pub text_fits : Splits → (place : ℕ) (x : DataItem) (pairs : DataPairs) (m : TextMember) → IsValid x → x ≡ MapOf pairs → TextUnder (entries_of place pairs) m → IsText m
 text_fits splits place x pairs texts.Empty valid is under = tt

@@ -18,7 +18,7 @@ use Rattle.author.specs.ParamNames.{param_named}
 use Rattle.author.specs.ParamValues.{index_of, param_value, placed_among, takes_param, params_of}
 use Rattle.describe.specs.ValueData.{number_data}
 use Rattle.describe.specs.ParamData.{param_name, value_data, with_params, params_data}
-use Rattle.describe.proofs.ValuesRead.{hex_read, sized_read, uuid_read, number_read}
+use Rattle.describe.proofs.ValuesRead.{hex_read, digest_read, uuid_read, number_read}
 use Rattle.describe.proofs.ParamOrder.{number_of, all_placed, HaveOther, AreBelow, placed_before, ascending_placed}
 
 -- ---- single ones
@@ -34,7 +34,7 @@ pub value_read : (scope : Scope) (p : Param) → IsParam p → IsBelow scope.cou
 value_read scope (params.Vendor id) h below = rw (uuid_read id h) refl
 value_read scope (params.Class id) h below = rw (uuid_read id h) refl
 value_read scope (params.Device id) h below = rw (uuid_read id h) refl
-value_read scope (params.Digest digest) h below = rw (sized_read 32 digest.bytes h.0 h.1) refl
+value_read scope (params.Digest digest) h below = rw (digest_read digest h) refl
 value_read scope (params.Slot n) h below = rw (number_read (2 ^ 64 - 1) n (omega arith)) refl
 value_read scope (params.Strict b) h below = refl
 value_read scope (params.Soft b) h below = refl

@@ -9,6 +9,8 @@ use Rattle.std.specs.Prelude.{codes}
 use Rattle.serde_json.specs.Data.{Data, null, boolean, number, string, array, object, Items, no_items, item, Members, no_members, member, put}
 use Rattle.serde_json.specs.View.{items_of}
 use Rattle.serde_json.specs.Written.{has_float, items_have_float, members_have_float}
+use Rattle.suit_params.specs.declared.digest_kind.DigestKind.{DigestKind}
+use Rattle.suit_params.specs.declared.digest_kind.DigestKind.TheVariants as kinds
 use Rattle.suit_params.specs.declared.param.Param.{Param}
 use Rattle.suit_params.specs.declared.param.Param.TheVariants as params
 use Rattle.suit_commands.specs.declared.selection.Selection.{Selection}
@@ -26,7 +28,7 @@ use Rattle.describe.specs.ValueData.{hex_data, number_data, identifier_data}
 use Rattle.describe.specs.ParamData.{param_name, value_data, with_params}
 use Rattle.describe.specs.CommandData.{selection_data, command_data, step_data, branch_data, sequence_if}
 use Rattle.describe.specs.MemberData.{member_data, text_data}
-use Rattle.describe.specs.SeverData.{severed_names, sever_data}
+use Rattle.describe.specs.SeverData.{entry_data, severed_names, sever_data}
 use Rattle.describe.specs.PayloadData.{payload_data, with_payloads, payloads_data}
 use Rattle.describe.specs.Describing.{Field, with_field, with_fields, head_fields, sequence_fields, severable_fields, payload_fields, text_there, severed_in, described_members, described_by}
 
@@ -175,15 +177,21 @@ text_plain (texts.Here content) apart = tt
 text_plain (texts.Apart digest) (Some content) = tt
 text_plain (texts.Apart digest) None = (refl, tt, tt)
 
-names_plain : (fetch install text : Bool) → PlainIf (sever_data (severed_names (record { payload_fetch = fetch; install = install; text = text })))
-names_plain true true true = (tt, (tt, (tt, tt)))
-names_plain true true false = (tt, (tt, tt))
-names_plain true false true = (tt, (tt, tt))
-names_plain true false false = (tt, tt)
-names_plain false true true = (tt, (tt, tt))
-names_plain false true false = (tt, tt)
-names_plain false false true = (tt, tt)
-names_plain false false false = tt
+entry_plain : (name : List ℕ) (kind : DigestKind) → IsPlain (entry_data name kind)
+entry_plain name kinds.Sha256 = tt
+entry_plain name kinds.Sha384 = (tt, (tt, tt))
+entry_plain name kinds.Sha512 = (tt, (tt, tt))
+
+names_plain : (fetch install text : Bool) (k l m : DigestKind)
+    → PlainIf (sever_data (severed_names (record { payload_fetch = fetch; install = install; text = text; kinds = record { payload_fetch = k; install = l; text = m } })))
+names_plain true true true k l m = (entry_plain _ k, (entry_plain _ l, (entry_plain _ m, tt)))
+names_plain true true false k l m = (entry_plain _ k, (entry_plain _ l, tt))
+names_plain true false true k l m = (entry_plain _ k, (entry_plain _ m, tt))
+names_plain true false false k l m = (entry_plain _ k, tt)
+names_plain false true true k l m = (entry_plain _ l, (entry_plain _ m, tt))
+names_plain false true false k l m = (entry_plain _ l, tt)
+names_plain false false true k l m = (entry_plain _ m, tt)
+names_plain false false false k l m = tt
 
 payloads_plain : (ps : List (List ℕ × List ℕ)) → PlainIf (payloads_data ps)
 payloads_plain [] = tt
@@ -211,7 +219,7 @@ module _ (said : EnvelopeSays) (payloads : List (List ℕ × List ℕ)) (m : Man
   severable_plain : PlainFields (severable_fields said m apart)
   severable_plain =
       let s = severed_in said m apart in
-      ((refl, member_plain m.payload_fetch apart.payload_fetch), ((refl, member_plain m.install apart.install), ((refl, text_plain m.text (text_there said m)), ((refl, names_plain s.payload_fetch s.install s.text), tt))))
+      ((refl, member_plain m.payload_fetch apart.payload_fetch), ((refl, member_plain m.install apart.install), ((refl, text_plain m.text (text_there said m)), ((refl, names_plain s.payload_fetch s.install s.text s.kinds.payload_fetch s.kinds.install s.kinds.text), tt))))
 
   members_plain : HoldsPlain (described_members said payloads m apart)
   members_plain =

@@ -1,21 +1,26 @@
 -- Single values are read as they are written.
-use Rattle.std.proofs.Common.{◌≡◌, ℕ, zero, suc, ◌<◌, ◌≤◌, List, [], ◌∷◌, length, map, All, Result, Ok, refl, sym, ap, inl, arith}
+use Rattle.std.proofs.Common.{◌≡◌, ℕ, zero, suc, ◌<◌, ◌≤◌, List, [], ◌∷◌, map, All, Option, Result, Ok, refl, sym, ap, ◌∙◌, inl, arith}
 use Rattle.std.proofs.lemmas.Bool.Decides.{nat_tests}
 use Rattle.std.specs.List.{AllByRecursion}
 use Rattle.std.specs.Result.{result_ok}
 use Rattle.hex.specs.Hex.{IsBytes}
-use Rattle.hex.proofs.HexLemmas.{decode_of-encode_lower, decode_sized-encode_lower}
+use Rattle.hex.proofs.HexLemmas.{decode_of-encode_lower}
 use Rattle.uuid.specs.Text.{lower}
 use Rattle.uuid.proofs.RoundTrips.{parses_hyphenated}
 use Rattle.det_cbor.specs.DataItem.{IsByte}
+use Rattle.det_cbor.specs.HeadReading.{◌>>=◌}
 use Rattle.serde_json.specs.Data.{Data}
 use Rattle.serde_json.specs.View.{items_of}
 use Rattle.json_fields.specs.declared.flaw.Flaw.{Flaw}
 use Rattle.json_fields.specs.declared.flaw.FlawKind.TheVariants.{Hex, Uuid}
 use Rattle.json_fields.specs.Flaws.{found_or}
-use Rattle.json_fields.specs.Values.{number_up_to, hex_of, sized_hex_of, uuid_of}
+use Rattle.json_fields.specs.Values.{number_up_to, hex_of, uuid_of}
 use Rattle.json_fields.specs.Arrays.{each_from, array_of}
+use Rattle.suit_params.specs.declared.digest.Digest.{Digest}
+use Rattle.suit_params.specs.DigestBytes.{digest_bytes, as_digest, IsDigestBytes}
+use Rattle.suit_params.specs.DigestLaws.{digest_again}
 use Rattle.suit_params.specs.ParamMaking.{IsId}
+use Rattle.author.specs.DigestValues.{digest_spelled}
 use Rattle.describe.specs.ValueData.{hex_data, uuid_data, number_data, array_data}
 
 -- ---- bytes
@@ -33,8 +38,9 @@ all_at (x ∷ xs) h (suc i) d lt = all_at xs h.1 i d (omega arith)
 pub hex_read : (xs : List ℕ) → AllByRecursion IsByte xs → hex_of (hex_data xs) ≡ Ok xs
 hex_read xs h = ap (λ d. found_or Hex (result_ok d)) (decode_of-encode_lower xs (small_at xs h))
 
-pub sized_read : (n : ℕ) (xs : List ℕ) → length xs ≡ n → AllByRecursion IsByte xs → sized_hex_of n (hex_data xs) ≡ Ok xs
-sized_read n xs long h = ap (λ d. found_or Hex (result_ok d)) (decode_sized-encode_lower xs n long (small_at xs h))
+pub digest_read : (digest : Digest) → IsDigestBytes digest → digest_spelled (hex_data (digest_bytes digest)) ≡ Ok digest
+digest_read digest h =
+    ap (λ (r : Result (List ℕ) Flaw). r >>= λ bytes. found_or Hex (as_digest bytes)) (hex_read (digest_bytes digest) h.1) ∙ ap (λ (o : Option Digest). found_or Hex o) (digest_again digest h.0)
 
 pub uuid_read : (id : List ℕ) → IsId id → uuid_of (uuid_data id) ≡ Ok id
 uuid_read id h = ap (λ o. found_or Uuid o) (sym (parses_hyphenated lower id (inl refl) h.0 (all_at id h.1)))

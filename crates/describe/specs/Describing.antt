@@ -7,7 +7,7 @@ use Rattle.suit_manifest.specs.declared.manifest.Members.{Members as ApartMember
 use Rattle.author.specs.declared.severing.Severed.{Severed}
 use Rattle.describe.specs.ValueData.{number_data, identifiers_data}
 use Rattle.describe.specs.CommandData.{sequence_if}
-use Rattle.describe.specs.MemberData.{member_data, is_severed, apart_text, text_data}
+use Rattle.describe.specs.MemberData.{member_data, is_severed, member_kind, apart_text, text_data, text_kind}
 use Rattle.describe.specs.SeverData.{severed_names, sever_data}
 use Rattle.describe.specs.PayloadData.{payloads_data}
 
@@ -50,6 +50,11 @@ severed_in said m apart = record {
   payload_fetch = is_severed m.payload_fetch apart.payload_fetch;
   install = is_severed m.install apart.install;
   text = is_some (text_there said m);
+  kinds = record {
+    payload_fetch = member_kind m.payload_fetch apart.payload_fetch;
+    install = member_kind m.install apart.install;
+    text = text_kind m.text (text_there said m);
+  };
 }
 
 abbrev pub severable_fields : EnvelopeSays → Manifest → ApartMembers → List Field

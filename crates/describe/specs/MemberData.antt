@@ -1,10 +1,14 @@
 -- Members in a description that may stand apart from the manifest: with their content where it is known, and by their
 -- digests where it is not.
 use Rattle.std.specs.Prelude.{ℕ, Bool, false, ◌&&◌, if◌then◌else◌, List, codes, Option, Some, None, is_some}
-use Rattle.std.specs.Str.{bytes_eq}
+use Rattle.det_cbor.specs.DataItem.{ByteString, spell}
 use Rattle.serde_json.specs.Data.{Data}
+use Rattle.suit_params.specs.declared.digest.Digest.{Digest}
+use Rattle.suit_params.specs.declared.digest_kind.DigestKind.{DigestKind}
+use Rattle.suit_params.specs.declared.digest_kind.DigestKind.TheVariants.{Sha256}
+use Rattle.suit_params.specs.DigestBytes.{digest_bytes, digest_kind}
+use Rattle.suit_params.specs.Hashes.{has_digest}
 use Rattle.suit_commands.specs.Tree.{SequenceTree}
-use Rattle.suit_envelope.specs.Members.{string_digest}
 use Rattle.suit_manifest.specs.declared.manifest.Member.{Member}
 use Rattle.suit_manifest.specs.declared.manifest.Member.TheVariants as members
 use Rattle.suit_manifest.specs.declared.manifest.TextMember.{TextMember}
@@ -14,15 +18,15 @@ use Rattle.describe.specs.ValueData.{hex_data, one_member}
 use Rattle.describe.specs.CommandData.{sequence_data}
 
 -- a member whose content is not known
-abbrev pub digest_data : List ℕ → Data
-digest_data digest = one_member (codes "digest") (hex_data digest)
+abbrev pub digest_data : Digest → Data
+digest_data digest = one_member (codes "digest") (hex_data (digest_bytes digest))
 
 -- a member that stands apart is the second one, if it is there
 abbrev pub member_data : Member → Option SequenceTree → Option Data
 member_data members.Empty apart = None
 member_data (members.Here s) apart = Some (sequence_data s)
 member_data (members.Apart digest) (Some s) = Some (sequence_data s)
-member_data (members.Apart digest) None = Some (digest_data digest.bytes)
+member_data (members.Apart digest) None = Some (digest_data digest)
 
 -- it stands apart, and is there
 abbrev pub is_severed : Member → Option SequenceTree → Bool
@@ -30,22 +34,37 @@ is_severed members.Empty apart = false
 is_severed (members.Here s) apart = false
 is_severed (members.Apart digest) apart = is_some apart
 
+-- under the hash function of its digest
+abbrev pub member_kind : Member → Option SequenceTree → DigestKind
+member_kind members.Empty apart = Sha256
+member_kind (members.Here s) apart = Sha256
+member_kind (members.Apart digest) None = Sha256
+member_kind (members.Apart digest) (Some s) = digest_kind digest
+
 -- ---- the text
 
 -- the text in the envelope, where it has the digest and is one item
-abbrev pub held_text : List ℕ → Option (List ℕ) → Option (List ℕ)
+abbrev pub held_text : Digest → Option (List ℕ) → Option (List ℕ)
 held_text digest None = None
 held_text digest (Some content) =
-    if bytes_eq (string_digest content) digest && is_one_item content then Some content else None
+    if has_digest digest (spell (ByteString content)) && is_one_item content then Some content
+    else None
+
+-- under the hash function of its digest
+abbrev pub text_kind : TextMember → Option (List ℕ) → DigestKind
+text_kind texts.Empty apart = Sha256
+text_kind (texts.Here content) apart = Sha256
+text_kind (texts.Apart digest) None = Sha256
+text_kind (texts.Apart digest) (Some content) = digest_kind digest
 
 -- a text that stands apart, as far as its content is known
 abbrev pub apart_text : TextMember → Option (List ℕ) → Option (List ℕ)
 apart_text texts.Empty held = None
 apart_text (texts.Here content) held = None
-apart_text (texts.Apart digest) held = held_text digest.bytes held
+apart_text (texts.Apart digest) held = held_text digest held
 
 abbrev pub text_data : TextMember → Option (List ℕ) → Option Data
 text_data texts.Empty apart = None
 text_data (texts.Here content) apart = Some (hex_data content)
 text_data (texts.Apart digest) (Some content) = Some (hex_data content)
-text_data (texts.Apart digest) None = Some (digest_data digest.bytes)
+text_data (texts.Apart digest) None = Some (digest_data digest)

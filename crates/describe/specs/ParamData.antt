@@ -1,6 +1,7 @@
 -- Parameters in a description: an object from their names to their values.
 use Rattle.std.specs.Prelude.{ℕ, List, [], ◌∷◌, codes}
 use Rattle.serde_json.specs.Data.{Data, boolean, string, object, Members, no_members, put}
+use Rattle.suit_params.specs.DigestBytes.{digest_bytes}
 use Rattle.suit_params.specs.declared.param.Param.{Param}
 use Rattle.suit_params.specs.declared.param.Param.TheVariants as params
 use Rattle.describe.specs.ValueData.{hex_data, uuid_data, number_data}
@@ -10,7 +11,7 @@ abbrev pub param_member : Param → List ℕ × Data
 param_member (params.Vendor id) = (codes "vendor", uuid_data id)
 param_member (params.Class id) = (codes "class", uuid_data id)
 param_member (params.Device id) = (codes "device", uuid_data id)
-param_member (params.Digest digest) = (codes "digest", hex_data digest.bytes)
+param_member (params.Digest digest) = (codes "digest", hex_data (digest_bytes digest))
 param_member (params.Slot n) = (codes "slot", number_data n)
 param_member (params.Strict b) = (codes "strict", boolean b)
 param_member (params.Soft b) = (codes "soft", boolean b)

@@ -8,10 +8,12 @@ ghost use Rattle.suit_envelope.specs.Said.{said_by};
 ghost use Rattle.describe.specs.Describing.{with_field, with_fields, head_fields, sequence_fields, severable_fields, payload_fields, described_by};
 
 use crate::identifiers::identifiers;
-use crate::members::{apart_text, is_severed, member_value, sequence_if, text_value};
+use crate::members::{
+    apart_text, is_severed, member_kind, member_value, sequence_if, text_kind, text_value,
+};
 use crate::payloads::payloads_value;
 use crate::severing::sever_value;
-use author::Severed;
+use author::{MemberKinds, Severed};
 use det_cbor::Text;
 use serde_json::{Map, Value, put};
 use std::alloc::{AllocError, Global};
@@ -76,7 +78,7 @@ fn put_sequences(object: &mut Object, alloc: Global, manifest: &Manifest) -> Res
     put_field(object, alloc, "invoke", invoke)
 }
 
-// Puts the members that may stand apart, and the names of those that do.
+// Puts the members that may stand apart, and the entries of those that do.
 fn put_severable(
     object: &mut Object,
     alloc: Global,
@@ -99,6 +101,11 @@ fn put_severable(
         payload_fetch: is_severed(&manifest.payload_fetch, &members.payload_fetch),
         install: is_severed(&manifest.install, &members.install),
         text: apart.is_some(),
+        kinds: MemberKinds {
+            payload_fetch: member_kind(&manifest.payload_fetch, &members.payload_fetch),
+            install: member_kind(&manifest.install, &members.install),
+            text: text_kind(&manifest.text, apart),
+        },
     };
     let sever = sever_value(alloc, severed)?;
     put_field(object, alloc, "sever", sever)
@@ -120,10 +127,11 @@ fn put_payloads(
 
 /// The description of an envelope, of its manifest and of the members that stand apart and are there.
 ///
-/// Each member that the manifest holds, or that is among these, is written with its content; the names of those that
-/// stand apart are listed under `sever`. A member that stands apart and is not among these is written by its digest, and
-/// so is a text that the envelope does not hold with that digest, or that is not one item. Digests and other bytes are
-/// in digits of lower case, sizes are numbers and identifiers hyphenated UUIDs. No file is named, and no key.
+/// Each member that the manifest holds, or that is among these, is written with its content; those that stand apart
+/// are listed under `sever`, with their hash functions where these are not SHA-256. A member that stands apart and is
+/// not among these is written by its digest, and so is a text that the envelope does not hold with that digest, or that
+/// is not one item. Digests and other bytes are in digits of lower case, sizes are numbers and identifiers hyphenated
+/// UUIDs. No file is named, and no key.
 ///
 /// The payloads are those of `envelope.whole`; where those bytes spell no envelope, nothing is promised.
 pub fn describe(

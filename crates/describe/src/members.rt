@@ -4,7 +4,7 @@ ghost use Rattle.std.specs.Prelude.{◌≡◌, IfOk, option_map};
 ghost use Rattle.serde_json.specs.View.{view};
 ghost use Rattle.suit_envelope.specs.Said.{said_by};
 ghost use Rattle.describe.specs.CommandData.{sequence_if};
-ghost use Rattle.describe.specs.MemberData.{digest_data, member_data, is_severed, held_text, apart_text, text_data};
+ghost use Rattle.describe.specs.MemberData.{digest_data, member_data, is_severed, member_kind, held_text, apart_text, text_data, text_kind};
 
 use crate::commands::sequence;
 use crate::values::{hex_value, one_member};
@@ -14,7 +14,7 @@ use std::alloc::{AllocError, Global};
 use suit_commands::Sequence;
 use suit_envelope::{Envelope, MemberBytes, MemberName, member};
 use suit_manifest::{Member, TextMember};
-use suit_params::Digest;
+use suit_params::{Digest, DigestKind};
 
 /// A sequence that may be absent.
 pub(crate) fn sequence_if(
@@ -31,9 +31,9 @@ pub(crate) fn sequence_if(
 
 // `{"digest": HEX}`, for a member whose content is not known.
 fn digest_value(alloc: Global, digest: &Digest) -> Result<Value, AllocError>
-    ensures { IfOk result (λ v. view v ≡ digest_data digest.now.bytes) }
+    ensures { IfOk result (λ v. view v ≡ digest_data digest.now) }
 {
-    one_member(alloc, "digest", hex_value(alloc, &digest.bytes)?)
+    one_member(alloc, "digest", hex_value(alloc, digest.bytes())?)
 }
 
 /// A member with its content, or with its digest where it stands apart and is not there.
@@ -65,10 +65,24 @@ pub(crate) fn is_severed(member: &Member, apart: &Option<Sequence>) -> bool
     }
 }
 
+/// The hash function of a member that stands apart and is there. Of another one it is SHA-256.
+pub(crate) fn member_kind(member: &Member, apart: &Option<Sequence>) -> DigestKind
+    ensures { result ≡ member_kind member.now apart.now }
+{
+    match member {
+        Member::Empty => DigestKind::Sha256,
+        Member::Here(_) => DigestKind::Sha256,
+        Member::Apart(digest) => match apart {
+            Some(_) => digest.kind(),
+            None => DigestKind::Sha256,
+        },
+    }
+}
+
 // The content of a text with this digest, where the envelope holds it and it is one item.
 fn held_text<'a>(envelope: &Envelope<'a>, stated: &Digest) -> Option<&'a [u8]>
     ensures { option_map (λ t. t.now) result
-        ≡ held_text stated.now.bytes (said_by envelope.now).text }
+        ≡ held_text stated.now (said_by envelope.now).text }
 {
     match member(envelope, MemberName::Text, stated) {
         MemberBytes::Got(content) => {
@@ -91,6 +105,20 @@ pub(crate) fn apart_text<'a>(envelope: &Envelope<'a>, text: &TextMember) -> Opti
         TextMember::Empty => None,
         TextMember::Here(_) => None,
         TextMember::Apart(stated) => held_text(envelope, stated),
+    }
+}
+
+/// The hash function of a text that stands apart and is known. Of another one it is SHA-256.
+pub(crate) fn text_kind(text: &TextMember, apart: Option<&[u8]>) -> DigestKind
+    ensures { result ≡ text_kind text.now (option_map (λ t. t.now) apart.entry) }
+{
+    match text {
+        TextMember::Empty => DigestKind::Sha256,
+        TextMember::Here(_) => DigestKind::Sha256,
+        TextMember::Apart(digest) => match apart {
+            Some(_) => digest.kind(),
+            None => DigestKind::Sha256,
+        },
     }
 }
 

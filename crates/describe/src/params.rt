@@ -18,7 +18,7 @@ fn param_member(alloc: Global, param: &Param) -> Result<(&'static str, Value), A
         Param::Vendor(id) => Ok(("vendor", uuid_value(alloc, *id)?)),
         Param::Class(id) => Ok(("class", uuid_value(alloc, *id)?)),
         Param::Device(id) => Ok(("device", uuid_value(alloc, *id)?)),
-        Param::Digest(digest) => Ok(("digest", hex_value(alloc, &digest.bytes)?)),
+        Param::Digest(digest) => Ok(("digest", hex_value(alloc, digest.bytes())?)),
         Param::Slot(number) => Ok(("slot", Value::from(*number))),
         Param::Strict(flag) => Ok(("strict", Value::from(*flag))),
         Param::Soft(flag) => Ok(("soft", Value::from(*flag))),

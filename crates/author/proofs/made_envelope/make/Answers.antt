@@ -1,9 +1,9 @@
-use Rattle.std.proofs.Common.{◌≡◌, refl, ap, ◌∙◌}
+use Rattle.std.proofs.Common.{◌≡◌, refl, ap, subst, ◌∙◌}
 use Rattle.std.proofs.lemmas.Result.{IfOk-weaker}
 use Rattle.suit_envelope.specs.declared.parts.EnvelopeParts.{EnvelopeParts}
 use Rattle.author.specs.declared.making.Parted.{Parted}
 use Rattle.author.specs.Held.{value_of}
-use Rattle.author.specs.MadeEnvelopes.{IsAuthenticUnder, HoldsPartsOf, HoldsManifestOf}
+use Rattle.author.specs.MadeEnvelopes.{HasBlockBy, IsAuthenticUnder, HoldsPartsOf, HoldsManifestOf}
 use Rattle.author.specs.MadeMembers.{HoldsMembersOf}
 use Rattle.author.specs.MadePayloads.{HoldsPayloadsOf}
 use Rattle.author.proofs.AsGiven.{given_ok}
@@ -54,7 +54,7 @@ returns-clause-manifest c =
 pub returns-clause-members : goal.returns-clause-members
 returns-clause-members c =
     let d = value_of c.args.description.now in
-    let beside : StandBeside = record { here = λ s. (refl, refl); empty = refl; digest = λ x. refl; own = λ m. refl; text = λ x. (refl, refl); no_text = refl; text_digest = λ x. refl; own_text = λ t. refl } in
+    let beside : StandBeside = record { here = λ kind s. (refl, refl); empty = refl; digest = λ x. refl; own = λ m. refl; text = λ kind x. (refl, refl); no_text = refl; text_digest = λ x. refl; own_text = λ t. refl } in
     IfOk-weaker c.encode_short.result _ (HoldsMembersOf d c.args.files.now)
     (λ bytes e.
     holds_members d c.args.files.now bytes c.in_ok-said.said e.0 c.in_ok-said.ensures e.1.0
@@ -70,11 +70,13 @@ returns-clause-payloads c =
 pub returns-clause-as_given : goal.returns-clause-as_given
 returns-clause-as_given c = λ once.
     let d = value_of c.args.description.now in
-    let beside : StandBeside = record { here = λ s. (refl, refl); empty = refl; digest = λ x. refl; own = λ m. refl; text = λ x. (refl, refl); no_text = refl; text_digest = λ x. refl; own_text = λ t. refl } in
+    let beside : StandBeside = record { here = λ kind s. (refl, refl); empty = refl; digest = λ x. refl; own = λ m. refl; text = λ kind x. (refl, refl); no_text = refl; text_digest = λ x. refl; own_text = λ t. refl } in
     let same : c.in_ok-parts.parts.payloads ≡ c.in_ok-said.said.payloads = ap (λ (x : EnvelopeParts). x.payloads) c.in_ok-parts.ensures.is ∙ ap (λ (x : Parted). x.payloads) c.in_ok-parted.ensures.is in
     given_ok d c.args.files.now c.in_ok-said.said (c.description_laws.ensures.parts d c.args.files.now c.in_ok-said.said once c.in_ok-said.ensures) c.in_ok-parts.parts c.in_ok-parted.parted
     (ap (λ (x : Parted). x.manifest) c.in_ok-parted.ensures.is) same
     (λ said e. severed_held beside c.description_laws.ensures d c.args.files.now c.args.key.now c.in_ok-said.said c.in_ok-parts.parts c.in_ok-parted.parted said c.args.description.now.accepted c.in_ok-said.ensures c.in_ok-parted.ensures.is
     c.in_ok-parts.ensures.is c.in_ok-parted.ensures.written e)
     (λ said e. manifest_said c.description_laws.ensures d c.args.files.now c.in_ok-said.said c.in_ok-parts.parts c.in_ok-parted.parted said c.args.description.now.accepted c.in_ok-said.ensures c.in_ok-parted.ensures.is
-    c.in_ok-parts.ensures.fits c.in_ok-parts.ensures.written e) c.encode_short.result c.encode_short.ensures.says c.encode_short.ensures.payloads
+    c.in_ok-parts.ensures.fits c.in_ok-parts.ensures.written e)
+    (subst (λ (x : Parted). HasBlockBy x.mac x.algorithm c.in_ok-parts.parts.wrapper c.in_ok-parts.parts.manifest) c.in_ok-parted.ensures.is c.in_ok-parts.ensures.by_mac)
+    c.encode_short.result c.encode_short.ensures.says c.encode_short.ensures.payloads
