@@ -3,7 +3,6 @@ use Rattle.std.specs.Prelude.{true, Some, codes}
 use Rattle.clap.specs.Lexer.{usize_max}
 use Rattle.clap.specs.Walk.{Rule}
 use Rattle.clap.specs.Simple.{App, new_app, new_rule, on_top, with_rule}
-use Rattle.clap.specs.declared.builder.action.ArgAction.TheVariants.{Set}
 use Rattle.command_words.specs.Tasks.{Word}
 use Rattle.command_words.specs.declared.arguments.Values.{Values}
 use Rattle.command_words.specs.declared.arguments.Values.TheVariants as has
@@ -12,7 +11,7 @@ use Rattle.command_words.specs.declared.arguments.Row.TheVariants as row
 
 -- an argument of so many values: one, or any number of them
 abbrev pub rule_for : Values → Word → Rule
-rule_for has.One id = record (new_rule id) { action = Some Set }
+rule_for has.One id = new_rule id
 rule_for has.AnyNumber id =
     record (new_rule id)
     { range = Some (record { start_inclusive = 0; end_inclusive = usize_max }) }

@@ -9,7 +9,7 @@ ghost use Rattle.command_words.specs.Tasks.{texts};
 ghost use Rattle.command_words.specs.Arguments.{app_for, bare_app, rule_for};
 
 use clap::error::ErrorKind;
-use clap::{Arg, ArgAction, ArgMatches, Command};
+use clap::{Arg, ArgMatches, Command};
 use std::alloc::{AllocError, Global};
 
 /// How many values an argument has. None is required, since the table has judged the words.
@@ -50,7 +50,7 @@ fn with<'a>(
         ≡ with_rule (app_of command.entry) (rule_for has id.entry.now)) }
 {
     match has {
-        Values::One => command.arg(Arg::new(alloc, id).action(ArgAction::Set)),
+        Values::One => command.arg(Arg::new(alloc, id)),
         Values::AnyNumber => command.arg(Arg::new(alloc, id).num_args(0..)),
     }
 }
@@ -84,12 +84,15 @@ fn command_for<'a>(alloc: Global, row: Row) -> Result<Command<'a>, AllocError>
 }
 
 // Matches words that a command takes, which fails only where memory runs out.
-fn matched<'a>(command: Command<'a>, words: &'a [&'a str]) -> Result<ArgMatches<'a>, AllocError>
-    requires { takes (app_of command) (texts words.now) ≡ true }
+fn matched<'a>(
+    command: &mut Command<'a>,
+    words: &'a [&'a str],
+) -> Result<ArgMatches<'a>, AllocError>
+    requires { takes (app_of command.old) (texts words.now) ≡ true }
     ensures { IfOk result (λ m. rows_of (found_of m)
-        ≡ matches_of (app_of command.entry) (texts words.entry.now)) }
+        ≡ matches_of (app_of command.old) (texts words.entry.now)) }
 {
-    match command.try_get_matches_from(words) {
+    match command.try_get_matches_from_mut(words) {
         Ok(matches) => Ok(matches),
         Err(error) => {
             let kind = error.kind();
@@ -110,7 +113,8 @@ pub(crate) fn found<'a>(
     ensures { IfOk result (λ m. rows_of (found_of m)
         ≡ matches_of (app_for row) (drop 1 (texts words.entry.now))) }
 {
-    matched(command_for(alloc, row)?, &words[1..])
+    let mut command = command_for(alloc, row)?;
+    matched(&mut command, &words[1..])
 }
 
 /// The value of an argument that stands in the words.

@@ -12,12 +12,12 @@ use Rattle.command_words.proofs.arguments.found.Goals as goal
 pub matched-requires : goal.matched-requires
 matched-requires c =
     let words = c.args.words.now in
-    taken (app_for c.args.row) (texts (take (length words - 1) (drop 1 words))) c.in_ok-command_for.field-0 c.in_ok-command_for.ensures
+    taken (app_for c.args.row) (texts (take (length words - 1) (drop 1 words))) c.in_ok-command.command c.in_ok-command.ensures
     (ap (takes (app_for c.args.row)) (behind_first words) ∙ c.requires.taken)
 
 pub returns : goal.returns
 returns c =
     let words = c.args.words.now in
     IfOk-weaker c.matched.result _ _
-    (λ matches are. are ∙ ap (λ (a : App). matches_of a (texts (take (length words - 1) (drop 1 words)))) c.in_ok-command_for.ensures
+    (λ matches are. are ∙ ap (λ (a : App). matches_of a (texts (take (length words - 1) (drop 1 words)))) c.in_ok-command.ensures
     ∙ ap (matches_of (app_for c.args.row)) (behind_first words)) c.matched.ensures
