@@ -27,7 +27,7 @@ int main(int argc, char **argv) {
   int32_t answer = suit_boot(flash, sizeof flash, &image);
   if (image.found) {
     printf("component %" PRIu32 ": %" PRIu64 " bytes at %" PRIu64 "\ndigest ", image.component, image.length, image.place);
-    for (size_t i = 0; i < sizeof image.digest; i++)
+    for (size_t i = 0; i < image.digest_length; i++)
       printf("%02x", image.digest[i]);
     printf("\n");
   }

@@ -46,7 +46,7 @@ static int look_at_envelope(const char *name, const char *key_name) {
   if (answer == SUIT_DONE) {
     printf("sequence %" PRIu64 "\ncomponents %" PRIu32 "\nmanifest %" PRIu64 " bytes at %" PRIu64 "\ntrimmed %" PRIu64 "\ndigest ",
            numbers.sequence, numbers.components, numbers.manifest_length, numbers.manifest_place, numbers.trimmed_length);
-    print_hex(numbers.digest, sizeof numbers.digest);
+    print_hex(numbers.digest, numbers.digest_length);
     answer = suit_authentic(file.data, file.length, key.data, key.length);
     printf("\n%s\n", answer == SUIT_DONE ? "authentic" : "not authentic");
   } else {
@@ -64,7 +64,7 @@ static int look_at_flash(const char *name) {
   if (answer == SUIT_DONE) {
     printf("installed %" PRIu64 "\ngeneration %" PRIu64 "\nbank %" PRIu32 ", %" PRIu64 " bytes\ndigest ", record.sequence,
            record.generation, record.bank, record.length);
-    print_hex(record.digest, sizeof record.digest);
+    print_hex(record.digest, record.digest_length);
     printf("\n");
   } else {
     printf("%s\n", answer == SUIT_NOTHING_INSTALLED ? "nothing installed" : "flash fault");

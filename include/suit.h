@@ -58,8 +58,9 @@ struct suit_envelope {
   uint64_t manifest_place;
   uint64_t manifest_length;
   uint64_t trimmed_length; /* with the wrapper and the manifest alone */
-  uint8_t digest[32];      /* that the wrapper states */
+  uint8_t digest[64];      /* that the wrapper states, with zeros behind it */
   uint32_t components;
+  uint32_t digest_length;  /* 32, 48 or 64 bytes: by SHA-256, SHA-384 or SHA-512 */
 };
 
 /* The installed manifest. */
@@ -67,9 +68,10 @@ struct suit_record {
   uint64_t sequence;
   uint64_t generation; /* one more for each record that was committed */
   uint64_t length;     /* of the envelope in its bank */
-  uint32_t bank;       /* 0 or 1 */
-  uint8_t digest[32];  /* of the manifest */
-  uint8_t active[8];   /* the slot in use of each component of the layout, 0 or 1 */
+  uint32_t bank;          /* 0 or 1 */
+  uint32_t digest_length; /* 32, 48 or 64 bytes: by SHA-256, SHA-384 or SHA-512 */
+  uint8_t digest[64];     /* of the manifest, with zeros behind it */
+  uint8_t active[8];      /* the slot in use of each component of the layout, 0 or 1 */
 };
 
 /* SUIT_DONE, and *place stays as it was; or SUIT_REFUSED where the bytes spell no envelope or its manifest is refused: then *place
@@ -100,9 +102,10 @@ int32_t suit_trim(const uint8_t *file, size_t length, uint8_t *room, size_t most
 struct suit_image {
   uint64_t place;
   uint64_t length;
-  uint32_t component; /* its index in the manifest */
-  uint32_t found;     /* 1 where there is an image, and otherwise 0 */
-  uint8_t digest[32]; /* that the manifest names for it */
+  uint32_t component;     /* its index in the manifest */
+  uint32_t found;         /* 1 where there is an image, and otherwise 0 */
+  uint32_t digest_length; /* 32, 48 or 64 bytes: by SHA-256, SHA-384 or SHA-512 */
+  uint8_t digest[64];     /* that the manifest names for it, with zeros behind it */
 };
 
 /* SUIT_DONE where the invocation procedure of what is installed ran to its end. Where it invoked an image, out->found is 1: the

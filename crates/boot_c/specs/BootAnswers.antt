@@ -31,7 +31,7 @@ boot_answer (ends.Condition place) = answers.Stopped
 boot_answer (ends.Stopped place cause) = cause_answer cause
 boot_answer ends.FlashFault = answers.FlashFault
 
--- a boot by the configuration of the flash ended so; an image whose digest is not of 32 bytes is no image
+-- a boot by the configuration of the flash ended so; an image without a digest is no image
 pub record Ends (flash : List ℕ) (answer : Answer) : Type 0 where
   pub layout : List Entry
   pub key : Key

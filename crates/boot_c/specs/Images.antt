@@ -1,5 +1,5 @@
 -- The image that a boot starts (draft-ietf-suit-manifest-25, section 6.2; what is noted of it is this project's own).
-use Rattle.std.specs.Prelude.{◌≡◌, ◌≤◌, ◌+◌, ◌∷◌, ℕ, List, [], Some, None, length, slice_range}
+use Rattle.std.specs.Prelude.{◌≡◌, ◌≤◌, ◌+◌, ◌∷◌, ℕ, List, [], Some, None, length, take, slice_range}
 use Rattle.boot_c.specs.declared.image.SuitImage.{SuitImage}
 use Rattle.flash_layout.specs.declared.frame.TheConstants.{VERSION_1}
 use Rattle.flash_layout.specs.declared.key.Key.{Key}
@@ -14,12 +14,16 @@ use Rattle.step_machine.specs.Invoking.{launched_as}
 use Rattle.step_machine.specs.declared.plan_end.PlanEnd.TheVariants as plays
 use Rattle.suit_edge.specs.declared.launch.Launch.{Launch}
 
+-- the bytes of its digest
+abbrev pub image_digest : SuitImage → List ℕ
+image_digest image = take image.digest_length image.digest
+
 -- an image as it was noted
 pub record IsNoted (note : NotedImage) (image : SuitImage) : Type 0 where
   pub place : image.place ≡ note.place
   pub length : image.length ≡ note.length
   pub component : image.component ≡ note.component
-  pub digest : items_in note.digest ≡ Some image.digest
+  pub digest : items_in note.digest ≡ Some (image_digest image)
 
 -- the bytes of a flash that an image is of
 abbrev pub image_bytes : List ℕ → SuitImage → List ℕ
@@ -33,7 +37,7 @@ ImageLiesIn flash image = image.place + image.length ≤ length flash
 pub record IsLaunched (flash : List ℕ) (image : SuitImage) (launch : Launch) : Type 0 where
   pub component : launch.component ≡ image.component
   pub bytes : launch.bytes ≡ image_bytes flash image
-  pub digest : launch.digest ≡ Some image.digest
+  pub digest : launch.digest ≡ Some (image_digest image)
 
 -- The invocation procedure of the manifest that is installed, authentic under the flash's key, was played to its end without
 -- files, and launched this image alone. On a sound flash it has its digest, and its size where one is in force.

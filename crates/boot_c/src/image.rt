@@ -19,8 +19,10 @@ pub struct SuitImage {
     pub component: u32,
     /// 1 where there is an image to be started, and otherwise 0.
     pub found: u32,
-    /// The SHA-256 that the manifest names for it.
-    pub digest: [u8; 32],
+    /// How many bytes the digest has: 32, 48 or 64.
+    pub digest_length: u32,
+    /// The digest that the manifest names for it, with zeros behind it.
+    pub digest: [u8; 64],
 }
 
 impl SuitImage {
@@ -33,27 +35,29 @@ impl SuitImage {
             length: 0,
             component: 0,
             found: 0,
-            digest: [0; 32],
+            digest_length: 0,
+            digest: [0; 64],
         }
     }
 }
 
-// What was noted, for a caller in C; none where the note names no digest of 32 bytes.
+// What was noted, for a caller in C; none where the note names no digest, or a longer one.
 fn image_of(note: &NotedImage) -> Option<SuitImage>
     ensures noted { IfSome result (IsNoted note.now) }
     ensures found { IfSome result (λ image. image.found ≡ 1) }
 {
     let noted = note.digest.as_ref()?.as_slice();
-    if noted.len() != 32 {
+    if noted.len() > 64 {
         return None;
     }
-    let mut digest = [0; 32];
-    digest.copy_from_slice(noted);
+    let mut digest = [0; 64];
+    digest[..noted.len()].copy_from_slice(noted);
     Some(SuitImage {
         place: note.place,
         length: note.length,
         component: note.component,
         found: 1,
+        digest_length: noted.len() as u32,
         digest,
     })
 }
@@ -69,7 +73,8 @@ fn is_same(note: &NotedImage, seen: &[u8], flash: &[u8]) -> bool
     }
 }
 
-/// The image of a flash that was noted of what a launcher had seen; none where the note names no digest of 32 bytes.
+/// The image of a flash that was noted of what a launcher had seen; none where the note names no digest, or one
+/// longer than 64 bytes.
 pub(crate) fn image_in(note: &NotedImage, seen: &[u8], flash: &[u8]) -> Option<SuitImage>
     ensures found { IfSome result (λ image. image.found ≡ 1) }
     ensures launched { IfSome result (λ image.

@@ -54,6 +54,7 @@ const UPDATES: &str = r#"0.json 0 abc.img
 last.json 18446744073709551615 abc.img
 1-other.json 1 abc.img ,"reference":"other"
 1-severed.json 1 abc.img ,"sever":["install"]
+1-sha512.json 1 abc.img ,"algorithm":"sha512"
 1-empty.json 1 empty.img
 1-large.json 1 large.img
 1-long.json 1 long.img

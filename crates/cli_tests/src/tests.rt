@@ -12,6 +12,7 @@ mod installed;
 mod make;
 mod procedures;
 mod real_files;
+mod record_digests;
 mod refused;
 mod show;
 mod stopped;

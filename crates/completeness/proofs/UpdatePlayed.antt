@@ -4,7 +4,6 @@ use Rattle.std.specs.Prelude.{IsTrue, IsSomeAnd, ◌^◌, ◌-◌}
 use Rattle.suit_edge.specs.Faults.{Faulted}
 use Rattle.suit_params.specs.declared.digest.Digest.{Digest}
 use Rattle.suit_commands.specs.Tree.{PlanTree}
-use Rattle.suit_envelope.specs.Authentic.{IsAuthentic}
 use Rattle.suit_envelope.specs.Envelopes.{EnvelopeSays}
 use Rattle.suit_envelope.specs.WrapperParts.{WrapperSays}
 use Rattle.suit_manifest.specs.declared.manifest.Manifest.{Manifest}
@@ -35,10 +34,10 @@ use Rattle.update_proc.specs.Updates.{PlaysUpdate, hosted, sources}
 use Rattle.suit_cli.specs.Acceptance.{Accepted}
 use Rattle.suit_cli.specs.Launching.{Launching}
 use Rattle.suit_cli.specs.Outside.{Outside}
-use Rattle.suit_cli.specs.Updating.{IsUpdate, offer}
+use Rattle.suit_cli.specs.Updating.{IsUpdate, new_of, offer}
 use Rattle.completeness.specs.Outcomes.{AreTold, IsFaultless}
 use Rattle.completeness.specs.Plays.{Completes, LeavesPlay}
-use Rattle.completeness.specs.Updates.{Sets, digest_of, play_of, record_for}
+use Rattle.completeness.specs.Updates.{Sets, play_of}
 use Rattle.completeness.proofs.Leaving.{completes, leaves, never_condition, never_stops, same_contents}
 use Rattle.completeness.proofs.SamePlaces.{AreSame, chosen_there, keeps_there, one_choice, one_standing, stand_there, turned}
 
@@ -71,8 +70,8 @@ module _ (sequence : ℕ) (digest : Digest) where
 -- ---- an update
 
 -- of what was found, in the same places as what is offered
-module _ (layout : List Entry) (bytes : List ℕ) (s : EnvelopeSays) (m : Manifest) (x : Members) (p q : Places) (same : AreSame p q) (key : List ℕ)
-    (authentic : IsAuthentic s.wrapper s.manifest key) (inside : (k : ℕ) → k < p.count → get_or p.layout_index k 0 < length layout) (held : Option Record)
+module _ (layout : List Entry) (bytes : List ℕ) (s : EnvelopeSays) (m : Manifest) (x : Members) (p q : Places) (same : AreSame p q)
+    (digest : Digest) (blocks : List (List ℕ)) (states : WrapperSays s.wrapper digest blocks) (inside : (k : ℕ) → k < p.count → get_or p.layout_index k 0 < length layout) (held : Option Record)
     (uris : List (List ℕ × List ℕ)) (l n : Launching) (b mid a : Outside) (sees : SeesSame b mid) (told : AreTold l b)
     (recorded : RecordOf VERSION_1 (head_of VERSION_1 b.flash.reads) held) where
   abbrev Offered : Accepted
@@ -93,8 +92,9 @@ module _ (layout : List Entry) (bytes : List ℕ) (s : EnvelopeSays) (m : Manife
   mid_recorded : RecordOf VERSION_1 (head_of VERSION_1 mid.flash.reads) held
   mid_recorded = subst (λ (r : List ℕ). RecordOf VERSION_1 (head_of VERSION_1 r) held) (sym sees.reads) recorded
 
-  states : WrapperSays s.wrapper (digest_of Offered).bytes authentic.blocks
-  states = subst (λ (d : List ℕ). WrapperSays s.wrapper d authentic.blocks) authentic.stated authentic.says
+  -- its record, where the flash read so before and these slots are in use
+  abbrev new_on : List ℕ → List ℕ → Record
+  new_on image numbers = new_of Offered held image digest numbers
 
   module _ (sets : Sets layout bytes Offered held) where
     -- the play on the chosen slots
@@ -129,20 +129,20 @@ module _ (layout : List Entry) (bytes : List ℕ) (s : EnvelopeSays) (m : Manife
     -- ---- it was installed
 
     pub record InstalledSo (end : UpdateEnd) : Type 0 where
-      pub is : end ≡ ends.Installed (record_for Offered held b.flash.reads sets.numbers)
-      pub recorded_so : RecordOf VERSION_1 (head_of VERSION_1 a.flash.reads) (Some (record_for Offered held b.flash.reads sets.numbers))
+      pub is : end ≡ ends.Installed (new_on b.flash.reads sets.numbers)
+      pub recorded_so : RecordOf VERSION_1 (head_of VERSION_1 a.flash.reads) (Some (new_on b.flash.reads sets.numbers))
       pub completed : Completes (play_of layout bytes Offered held sets uris b)
       pub left : LeavesPlay sets.standings (play_of layout bytes Offered held sets uris b) l.launches n.launches a.flash.reads
       pub others : KeepsContents layout p Tree sets.numbers b.flash.reads a.flash.reads
 
     pub installed_so : (r : Record) → IsUpdate (offer layout bytes Found uris) l n mid a (ends.Installed r) → InstalledSo (ends.Installed r)
     installed_so r u =
-        let played = u.plays mid_flash_told told.launcher held (digest_of Offered) authentic.blocks mid_recorded states sets.payloads sets.has in
+        let played = u.plays mid_flash_told told.launcher held digest blocks mid_recorded states sets.payloads sets.has in
         let again = replayed played.made plays.Done played.plays in
-        let kept = u.left mid_flash_told held (digest_of Offered) authentic.blocks mid_recorded states in
+        let kept = u.left mid_flash_told held digest blocks mid_recorded states in
         let numbers = chosen_once kept.numbers kept.chosen in
-        let new : record_for Offered held mid.flash.reads kept.numbers ≡ record_for Offered held b.flash.reads sets.numbers =
-        ap (λ (z : List ℕ). record_for Offered held mid.flash.reads z) numbers ∙ ap (λ (z : List ℕ). record_for Offered held z sets.numbers) sees.reads in
+        let new : new_on mid.flash.reads kept.numbers ≡ new_on b.flash.reads sets.numbers =
+        ap (λ (z : List ℕ). new_on mid.flash.reads z) numbers ∙ ap (λ (z : List ℕ). new_on z sets.numbers) sees.reads in
         record {
           is = ap ends.Installed (kept.left.0 ∙ new);
           recorded_so = subst (λ (z : Record). RecordOf VERSION_1 (head_of VERSION_1 a.flash.reads) (Some z)) new kept.left.1;
@@ -163,7 +163,7 @@ module _ (layout : List Entry) (bytes : List ℕ) (s : EnvelopeSays) (m : Manife
 
     -- ---- and nothing else, where no fault was counted
 
-    module _ (acceptable : IsAcceptable m.sequence (digest_of Offered) held) (done : Completes (play_of layout bytes Offered held sets uris b)) (faultless : IsFaultless l n b a) where
+    module _ (acceptable : IsAcceptable m.sequence digest held) (done : Completes (play_of layout bytes Offered held sets uris b)) (faultless : IsFaultless l n b a) where
       -- a play that was stopped by itself is no play that completes
       module _ (place : ℕ) (cause : Cause) where
         abbrev Stopped : Type 0
@@ -182,18 +182,18 @@ module _ (layout : List Entry) (bytes : List ℕ) (s : EnvelopeSays) (m : Manife
       way (ends.Installed r) u = inl (installed_so r u)
       way ends.NoMemory u = inr (record {
         is = refl;
-        launches = u.plays mid_flash_told told.launcher held (digest_of Offered) authentic.blocks mid_recorded states sets.payloads sets.has;
-        reads = u.left mid_flash_told held (digest_of Offered) authentic.blocks mid_recorded states ∙ sees.reads;
+        launches = u.plays mid_flash_told told.launcher held digest blocks mid_recorded states sets.payloads sets.has;
+        reads = u.left mid_flash_told held digest blocks mid_recorded states ∙ sees.reads;
       })
       way (ends.Lower recorded_number offered) u =
-          absurd (not_lower m.sequence (digest_of Offered) held recorded_number offered acceptable (u.judged mid_flash_told held (digest_of Offered) authentic.blocks mid_recorded states))
+          absurd (not_lower m.sequence digest held recorded_number offered acceptable (u.judged mid_flash_told held digest blocks mid_recorded states))
       way (ends.OtherDigest recorded_digest offered) u =
-          absurd (not_other m.sequence (digest_of Offered) held recorded_digest offered acceptable (u.judged mid_flash_told held (digest_of Offered) authentic.blocks mid_recorded states))
-      way ends.Worn u = absurd (not_worn m.sequence (digest_of Offered) held acceptable (u.judged mid_flash_told held (digest_of Offered) authentic.blocks mid_recorded states))
+          absurd (not_other m.sequence digest held recorded_digest offered acceptable (u.judged mid_flash_told held digest blocks mid_recorded states))
+      way ends.Worn u = absurd (not_worn m.sequence digest held acceptable (u.judged mid_flash_told held digest blocks mid_recorded states))
       way (ends.Condition place) u =
-          let played = u.plays mid_flash_told told.launcher held (digest_of Offered) authentic.blocks mid_recorded states sets.payloads sets.has in
+          let played = u.plays mid_flash_told told.launcher held digest blocks mid_recorded states sets.payloads sets.has in
           absurd (never_condition Tree _ _ _ _ _ place done (replayed played.made (plays.ConditionFailed place) played.plays).plays_so)
       way (ends.Stopped place cause) u =
-          let played = u.plays mid_flash_told told.launcher held (digest_of Offered) authentic.blocks mid_recorded states sets.payloads sets.has in
+          let played = u.plays mid_flash_told told.launcher held digest blocks mid_recorded states sets.payloads sets.has in
           absurd (never_by_itself place cause (played.made, played.plays) u.counts)
       way ends.FlashFault u = absurd (faultless.flash (subst (λ (z : ℕ). Faulted z a.flash.faults) sees.flash_faults u.counts.1))

@@ -20,7 +20,6 @@ use Rattle.flash_layout.specs.Frames.{head_of}
 use Rattle.flash_layout.specs.Layouts.{IsLayout}
 use Rattle.flash_layout.specs.Placement.{ArePlaces}
 use Rattle.rollback_record.specs.HeadRecord.{RecordOf}
-use Rattle.rollback_record.specs.SoundFlash.{key_bytes}
 use Rattle.update_proc.specs.declared.update_end.UpdateEnd.{UpdateEnd}
 use Rattle.update_proc.specs.declared.update_end.UpdateEnd.TheVariants as ends
 use Rattle.suit_cli.specs.Acceptance.{Accepted, IsAccepted}
@@ -35,7 +34,6 @@ use Rattle.suit_cli.specs.UpdateLaws.{UpdateLaws}
 use Rattle.suit_cli.specs.Updating.{IsUpdate, Updates, update_line, update_status, offer}
 use Rattle.suit_cli.specs.Words.{RunBoot, RunUpdate, task_of}
 use Rattle.invoke_proc.proofs.Booted.{payloads_in}
-use Rattle.suit_envelope.specs.WrapperParts.{WrapperSays}
 use Rattle.suit_cli.specs.Statuses.{ending_status}
 use Rattle.suit_cli.proofs.Running.{Declining, status_done}
 use Rattle.suit_cli.proofs.UpdateEnds.{cause_not_low}
@@ -44,7 +42,7 @@ use Rattle.suit_cli.proofs.AcceptedFacts.{began, facts}
 use Rattle.suit_cli.proofs.OneStage.{one_envelope, one_manifest, one_members, one_read}
 use Rattle.suit_cli.proofs.TaskAnswers.{does_of}
 use Rattle.completeness.specs.Outcomes.{AreTold, IsFaultless, LeavesFlash}
-use Rattle.completeness.specs.Updates.{Installs, Meets, Offers, ReadyToUpdate, Sets, digest_of, record_for}
+use Rattle.completeness.specs.Updates.{Installs, Meets, Offers, ReadyToUpdate, Sets, record_for}
 use Rattle.completeness.proofs.Leaving.{starved_leaves}
 use Rattle.completeness.proofs.Begun.{never_fault, two_faults}
 use Rattle.completeness.proofs.SamePlaces.{AreSame, same_places}
@@ -153,11 +151,11 @@ module _ (configs : OneAnswer) (envelopes : EnvelopeLaws) (manifests : ManifestL
       same_there = same_places VERSION_1 b.flash.size O.layout layout_is O.accepted.manifest.components O.accepted.places u.accepted.places f.placed
           (subst (λ (z : Manifest). ArePlaces O.layout z.components u.accepted.places) manifest_is g.placed)
 
-      installs : InstalledSo O.layout O.bytes O.accepted.said O.accepted.manifest O.accepted.members O.accepted.places u.accepted.places same_there (key_bytes O.key) f.authentic
+      installs : InstalledSo O.layout O.bytes O.accepted.said O.accepted.manifest O.accepted.members O.accepted.places u.accepted.places same_there O.digest O.stated.0 O.stated.1
           (inside_there O.layout O.accepted.manifest.components O.accepted.places f.placed) O.held ready.uris l n b u.middle a
           (sees ready.name ready.uris l n b a end lines u ready.told) ready.told O.recorded ready.sets end → Installs words l b ready n a (Updated end lines)
       installs i =
-          let new = record_for O.accepted O.held b.flash.reads ready.sets.numbers in
+          let new = record_for ready.name b O ready.sets.numbers in
           let line : lines ≡ update_line O.accepted.manifest.sequence (ends.Installed new) =
           u.lines_are ∙ ap (λ (z : Manifest). update_line z.sequence end) manifest_is ∙ ap (λ (z : UpdateEnd). update_line O.accepted.manifest.sequence z) i.is in
           record {
@@ -180,7 +178,7 @@ module _ (configs : OneAnswer) (envelopes : EnvelopeLaws) (manifests : ManifestL
             };
             reads = starved.reads;
           }))
-          (way O.layout O.bytes O.accepted.said O.accepted.manifest O.accepted.members O.accepted.places u.accepted.places same_there (key_bytes O.key) f.authentic
+          (way O.layout O.bytes O.accepted.said O.accepted.manifest O.accepted.members O.accepted.places u.accepted.places same_there O.digest O.stated.0 O.stated.1
           (inside_there O.layout O.accepted.manifest.components O.accepted.places f.placed) O.held ready.uris l n b u.middle a
           (sees ready.name ready.uris l n b a end lines u ready.told) ready.told O.recorded ready.sets O.acceptable ready.completes faultless end update_there)
 
@@ -224,9 +222,6 @@ module _ (configs : OneAnswer) (envelopes : EnvelopeLaws) (manifests : ManifestL
       recorded_there : RecordOf VERSION_1 (head_of VERSION_1 u.middle.flash.reads) held
       recorded_there = subst (λ (z : List ℕ). RecordOf VERSION_1 (head_of VERSION_1 z) held) (sym seen.reads) recorded
 
-      states : WrapperSays V.said.wrapper (digest_of V).bytes h.authentic.blocks
-      states = subst (λ (d : List ℕ). WrapperSays V.said.wrapper d h.authentic.blocks) h.authentic.stated h.authentic.says
-
       offers : Offers name b
       offers = record {
         layout = u.layout;
@@ -236,9 +231,11 @@ module _ (configs : OneAnswer) (envelopes : EnvelopeLaws) (manifests : ManifestL
         read = read_there name uris l n b a (ends.Installed r) lines u told;
         accepted = V;
         is_accepted = u.is_accepted;
+        digest = h.authentic.digest;
+        stated = (h.authentic.blocks, h.authentic.says);
         held = held;
         recorded = recorded;
-        acceptable = u.update.judged middle_flash_told held (digest_of V) h.authentic.blocks recorded_there states;
+        acceptable = u.update.judged middle_flash_told held h.authentic.digest h.authentic.blocks recorded_there h.authentic.says;
       }
 
       payloads : (list : List (List ℕ × List ℕ)) × HasPayloads u.bytes list
@@ -246,12 +243,12 @@ module _ (configs : OneAnswer) (envelopes : EnvelopeLaws) (manifests : ManifestL
 
       sets : Sets u.layout u.bytes V held
       sets =
-          let played = (u.update.plays middle_flash_told told.launcher held (digest_of V) h.authentic.blocks recorded_there states payloads.0 payloads.1).plays in
+          let played = (u.update.plays middle_flash_told told.launcher held h.authentic.digest h.authentic.blocks recorded_there h.authentic.says payloads.0 payloads.1).plays in
           record { numbers = played.numbers; chosen = played.chosen; standings = played.standings; stand = played.stand; payloads = payloads.0; has = payloads.1 }
 
-      installed_there : InstalledSo u.layout u.bytes V.said V.manifest V.members V.places V.places itself (key_bytes u.key) h.authentic
+      installed_there : InstalledSo u.layout u.bytes V.said V.manifest V.members V.places V.places itself h.authentic.digest h.authentic.blocks h.authentic.says
           (inside_there u.layout V.manifest.components V.places h.placed) held uris l n b u.middle a seen told recorded sets (ends.Installed r)
-      installed_there = installed_so u.layout u.bytes V.said V.manifest V.members V.places V.places itself (key_bytes u.key) h.authentic
+      installed_there = installed_so u.layout u.bytes V.said V.manifest V.members V.places V.places itself h.authentic.digest h.authentic.blocks h.authentic.says
           (inside_there u.layout V.manifest.components V.places h.placed) held uris l n b u.middle a seen told recorded sets r u.update
 
       was_ready : ReadyToUpdate words l b

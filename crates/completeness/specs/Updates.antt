@@ -2,8 +2,8 @@
 use Rattle.std.specs.Prelude.{◌≡◌, ℕ, List, Option, Some, codes}
 use Rattle.suit_params.specs.declared.digest.Digest.{Digest}
 use Rattle.suit_commands.specs.Tree.{PlanTree}
-use Rattle.suit_envelope.specs.Members.{string_digest}
 use Rattle.suit_envelope.specs.Payloads.{HasPayloads}
+use Rattle.suit_envelope.specs.WrapperParts.{WrapperSays}
 use Rattle.suit_manifest.specs.Procedures.{update_tree}
 use Rattle.path_model.specs.DevicePlays.{Device, played}
 use Rattle.path_model.specs.Plays.{Outcome}
@@ -42,13 +42,9 @@ use Rattle.completeness.specs.Plays.{Completes, LeavesPlay}
 abbrev pub procedure_of : Accepted → PlanTree
 procedure_of a = update_tree a.manifest a.members
 
--- its digest: the SHA-256 of the manifest's byte string
-abbrev pub digest_of : Accepted → Digest
-digest_of a = record { bytes = string_digest a.said.manifest }
-
--- its record beside the held one, with these slots in use, on a flash that read so before
-abbrev pub record_for : Accepted → Option Record → List ℕ → List ℕ → Record
-record_for a held image numbers = new_of a held image (digest_of a) numbers
+-- its wrapper states this digest, which is that of the manifest's byte string
+abbrev pub States : Accepted → Digest → Type 0
+States a digest = (blocks : List (List ℕ)) × WrapperSays a.said.wrapper digest blocks
 
 -- the outside before `run update`: its file, the flash's configuration and record, and the envelope that is accepted by them
 pub record Offers (name : List ℕ) (before : Outside) : Type 0 where
@@ -59,9 +55,16 @@ pub record Offers (name : List ℕ) (before : Outside) : Type 0 where
   pub read : IsRead longest_file name before bytes
   pub accepted : Accepted
   pub is_accepted : IsAccepted layout key bytes accepted
+  pub digest : Digest
+  pub stated : States accepted digest
   pub held : Option Record
   pub recorded : RecordOf VERSION_1 (head_of VERSION_1 before.flash.reads) held
-  pub acceptable : IsAcceptable accepted.manifest.sequence (digest_of accepted) held
+  pub acceptable : IsAcceptable accepted.manifest.sequence digest held
+
+-- its record beside the held one, with these slots in use
+abbrev pub record_for : (name : List ℕ) (before : Outside) → Offers name before → List ℕ → Record
+record_for name before o numbers =
+    new_of o.accepted o.held before.flash.reads o.digest numbers
 
 -- ---- the play
 
@@ -108,11 +111,11 @@ pub record Installs (words : List (List ℕ)) (launched : Launching) (before : O
   pub ended_is : let o = ready.offers in
       ended
       ≡ Updated
-      (ends.Installed (record_for o.accepted o.held before.flash.reads ready.sets.numbers))
+      (ends.Installed (record_for ready.name before o ready.sets.numbers))
       (number_line (codes "installed") o.accepted.manifest.sequence)
   pub recorded : let o = ready.offers in
       RecordOf VERSION_1 (head_of VERSION_1 after.flash.reads)
-      (Some (record_for o.accepted o.held before.flash.reads ready.sets.numbers))
+      (Some (record_for ready.name before o ready.sets.numbers))
   pub left : let o = ready.offers in
       LeavesPlay ready.sets.standings
       (play_of o.layout o.bytes o.accepted o.held ready.sets ready.uris before)

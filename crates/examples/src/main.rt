@@ -7,37 +7,69 @@ mod folder;
 mod memory;
 mod step;
 
-use det_cbor::Text;
+use det_cbor::{Names, Text};
 use files::{compare, print, tell_memory};
 use folder::FolderHost;
 use std::alloc::{AllocError, Global};
 use std::io;
 use step::{Step, step_of};
 use suit_cli::{Status, run};
-use suit_edge::{FileDisk, FileHost, FileLauncher, StdSink};
+use suit_edge::{FileDisk, FileHost, FileLauncher, Host, Sink, StdSink};
+
+// The status of a run of the program.
+fn status_of<H: Host, K: Sink>(
+    rt: &HostRuntime,
+    alloc: Global,
+    words: &Names,
+    host: &mut H,
+    out: &mut K,
+) -> u8 {
+    let mut disk = FileDisk::new(rt);
+    let mut launcher = FileLauncher::new(rt);
+    let Status(status) = run(alloc, words, host, &mut disk, &mut launcher, out);
+    status
+}
+
+// Runs the program, and tells a status other than 0.
+fn suit<H: Host, K: Sink>(
+    rt: &HostRuntime,
+    alloc: Global,
+    words: &Names,
+    host: &mut H,
+    out: &mut K,
+) -> io::Result<()> {
+    let status = status_of(rt, alloc, words, host, out);
+    if status == 0 {
+        Ok(())
+    } else {
+        println!(rt; "[status {status}]")
+    }
+}
+
+// Does a step with the files of a folder.
+fn perform_with<H: Host, K: Sink>(
+    rt: &HostRuntime,
+    alloc: Global,
+    step: &Step,
+    host: &mut H,
+    out: &mut K,
+) -> io::Result<()> {
+    match step {
+        Step::Suit(words) => return suit(rt, alloc, words, host, out),
+        Step::Unknown => return println!(rt; "no such command"),
+        Step::Print(name) => print(alloc, host, out, name.as_str()),
+        Step::Compare(one, other) => compare(alloc, host, out, one.as_str(), other.as_str()),
+        Step::Memory => tell_memory(alloc, &mut FileHost::new(rt), out),
+        Step::Empty | Step::Enter(_) => {}
+    }
+    Ok(())
+}
 
 // Does a step in a folder.
 fn perform(rt: &HostRuntime, alloc: Global, step: Step, folder: &str) -> io::Result<()> {
     let mut host = FolderHost::new(alloc, folder, rt);
     let mut out = StdSink::new(rt);
-    match step {
-        Step::Empty | Step::Enter(_) => {}
-        Step::Unknown => println!(rt; "no such command")?,
-        Step::Print(name) => print(alloc, &mut host, &mut out, name.as_str()),
-        Step::Compare(one, other) => {
-            compare(alloc, &mut host, &mut out, one.as_str(), other.as_str());
-        }
-        Step::Memory => tell_memory(alloc, &mut FileHost::new(rt), &mut out),
-        Step::Suit(words) => {
-            let disk = &mut FileDisk::new(rt);
-            let launcher = &mut FileLauncher::new(rt);
-            let Status(status) = run(alloc, &words, &mut host, disk, launcher, &mut out);
-            if status != 0 {
-                println!(rt; "[status {status}]")?;
-            }
-        }
-    }
-    Ok(())
+    perform_with(rt, alloc, &step, &mut host, &mut out)
 }
 
 // Goes on in a folder of that one.
@@ -46,16 +78,20 @@ fn enter(folder: &mut Text, name: &str) -> Result<(), AllocError> {
     folder.push_str("/")
 }
 
+// Does a line of the session.
+fn go_on(rt: &HostRuntime, alloc: Global, folder: &mut Text, line: &str) -> io::Result<()> {
+    println!(rt; "$ {line}")?;
+    match step_of(alloc, line)? {
+        Step::Enter(name) => Ok(enter(folder, name.as_str())?),
+        step => perform(rt, alloc, step, folder.as_str()),
+    }
+}
+
 fn main(rt: HostRuntime) -> io::Result<()> {
     let alloc = rt.alloc();
     let mut folder = Text::new(alloc);
     for line in rt.lines(alloc) {
-        let line = line?;
-        println!(rt; "$ {line}")?;
-        match step_of(alloc, line.as_str())? {
-            Step::Enter(name) => enter(&mut folder, name.as_str())?,
-            step => perform(&rt, alloc, step, folder.as_str())?,
-        }
+        go_on(&rt, alloc, &mut folder, line?.as_str())?;
     }
     Ok(())
 }

@@ -4,6 +4,7 @@ use det_cbor::{Names, Text};
 use std::alloc::{AllocError, Global};
 
 /// A step of a session, by its line.
+#[derive(Drop)]
 pub(crate) enum Step {
     /// No words.
     Empty,

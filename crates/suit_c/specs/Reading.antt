@@ -1,6 +1,10 @@
 -- The numbers of an envelope (draft-ietf-suit-manifest-25, sections 8.2 to 8.4).
 use Rattle.std.specs.Prelude.{◌≡◌, ◌⊎◌, ◌≤◌, ◌+◌, ◌-◌, ◌^◌, ℕ, List, length, min}
 use Rattle.suit_c.specs.declared.reading.SuitEnvelope.{SuitEnvelope}
+use Rattle.flash_layout.specs.ConfigPage.{padded}
+use Rattle.suit_params.specs.declared.digest.Digest.{Digest}
+use Rattle.suit_params.specs.DigestBytes.{digest_bytes, digest_kind}
+use Rattle.suit_params.specs.DigestKinds.{size_of}
 use Rattle.suit_envelope.specs.Envelopes.{EnvelopeSays}
 use Rattle.suit_envelope.specs.Said.{EnvelopeOf, RefusesBytes}
 use Rattle.suit_envelope.specs.Trimmed.{trimmed}
@@ -25,8 +29,9 @@ pub record IsReadAs (bytes : List ℕ) (numbers : SuitEnvelope) : Type 0 where
   pub size : numbers.manifest_length ≡ length said.manifest
   pub short : numbers.trimmed_length
       ≡ min (length (trimmed said.wrapper said.manifest)) (2 ^ 64 - 1)
-  pub digest : (stated : List ℕ) (blocks : List (List ℕ)) → WrapperSays said.wrapper stated blocks
-      → numbers.digest ≡ stated
+  pub digest : (stated : Digest) (blocks : List (List ℕ)) → WrapperSays said.wrapper stated blocks
+      → (numbers.digest ≡ padded 64 (digest_bytes stated))
+      × (numbers.digest_length ≡ size_of (digest_kind stated))
   pub components : numbers.components ≡ length manifest.components
 
 -- the manifest lies in the bytes

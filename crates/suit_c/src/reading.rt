@@ -24,10 +24,12 @@ pub struct SuitEnvelope {
     pub manifest_length: u64,
     /// How many bytes the envelope has with its wrapper and manifest alone. Saturates at 64 bits.
     pub trimmed_length: u64,
-    /// The digest that the wrapper states.
-    pub digest: [u8; 32],
+    /// The digest that the wrapper states, with zeros behind it.
+    pub digest: [u8; 64],
     /// How many components the manifest has.
     pub components: u32,
+    /// How many bytes the digest has: 32, 48 or 64.
+    pub digest_length: u32,
 }
 
 // The numbers of the envelope that the bytes spell.
@@ -41,14 +43,15 @@ fn read(file: &[u8]) -> Result<SuitEnvelope, Refusal>
     envelope_laws();
     let envelope = decode_envelope(file)?;
     let manifest = ManifestView::read(envelope.manifest, envelope.manifest_place)?;
-    let digest = stated_digest(&envelope).bytes;
+    let digest = stated_digest(&envelope);
     Ok(SuitEnvelope {
         sequence: manifest.sequence,
         manifest_place: envelope.manifest_place,
         manifest_length: envelope.manifest.len() as u64,
         trimmed_length: trimmed_length(&envelope),
-        digest,
+        digest: digest.padded(),
         components: manifest.components.len() as u32,
+        digest_length: digest.kind().size() as u32,
     })
 }
 

@@ -25,8 +25,10 @@ pub struct SuitRecord {
     pub length: u64,
     /// The bank that holds the envelope, 0 or 1.
     pub bank: u32,
-    /// The digest of the manifest.
-    pub digest: [u8; 32],
+    /// How many bytes the manifest's digest has: 32, 48 or 64.
+    pub digest_length: u32,
+    /// The digest of the manifest, with zeros behind it.
+    pub digest: [u8; 64],
     /// The slot in use of each component of the layout, 0 or 1.
     pub active: [u8; 8],
 }
@@ -35,14 +37,14 @@ pub struct SuitRecord {
 fn record_of(held: Record) -> SuitRecord
     ensures { IsRecordAs held result }
 {
-    let digest = held.digest.bytes;
     let active = held.active;
     SuitRecord {
         sequence: held.sequence,
         generation: held.generation,
         length: held.length,
         bank: u32::from(held.bank),
-        digest,
+        digest_length: held.digest.kind().size() as u32,
+        digest: held.digest.padded(),
         active,
     }
 }

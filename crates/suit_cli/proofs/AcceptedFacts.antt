@@ -1,5 +1,5 @@
 -- Facts about an envelope that was accepted, and where one is not.
-use Rattle.std.proofs.Common.{◌≡◌, ◌⊎◌, inl, inr, ℕ, List, refl, subst}
+use Rattle.std.proofs.Common.{◌≡◌, ◌⊎◌, inl, inr, ℕ, List, refl, subst, arith}
 use Rattle.suit_commands.specs.Tree.{PlanTree}
 use Rattle.suit_manifest.specs.Procedures.{update_tree, invocation_tree}
 use Rattle.flash_layout.specs.declared.key.Key.{Key}
@@ -81,7 +81,7 @@ module _ (name : List ℕ) (b m : Outside) (r : Reply) (same : m ≡ with_flash 
             members = x.members;
             has_manifest = record {
               in_envelope = record { bytes = bytes; read = read_before bytes read; are_bytes = within.spell.are_bytes; envelope = within.spell.envelope };
-              is_short = within.short;
+              is_short = omega (arith, within.short);
               says = is.offered.says;
             };
             has_members = is.members;

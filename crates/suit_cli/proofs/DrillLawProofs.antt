@@ -1,12 +1,13 @@
 -- The rounds of a drill add up, and none of its launches is wrong.
-use Rattle.std.proofs.Common.{◌≡◌, ℕ, ◌+◌, Bool, false, List, [], ◌∷◌, ◌++◌, length, map, Option, Some, None, refl, sym, ap, subst, ◌∙◌, arith, append_assoc, append-nil, cond}
-use Rattle.std.specs.Prelude.{option_map, not}
+use Rattle.std.proofs.Common.{◌≡◌, ℕ, ◌+◌, Bool, false, List, [], ◌∷◌, ◌++◌, length, map, Option, Some, refl, sym, ap, subst, ◌∙◌, arith, append_assoc, append-nil, cond}
+use Rattle.std.specs.Prelude.{not}
 use Rattle.std.specs.List.{AllByRecursion}
 use Rattle.std.proofs.lemmas.List.{append_cancel_left}
 use Rattle.std.proofs.lemmas.List.Sums.{sum_by-append, sum_by-cons}
-use Rattle.std.proofs.lemmas.Option.{same_Some}
-use Rattle.std.proofs.lemmas.Slice.Eq.{bytes_eq-Decides}
-use Rattle.sha2.specs.Sha256.{sha256}
+use Rattle.std.specs.Option.{option_and_then}
+use Rattle.suit_params.specs.DigestBytes.{as_digest}
+use Rattle.suit_params.specs.DigestLaws.{has_decides}
+use Rattle.suit_params.specs.Hashes.{hash_like}
 use Rattle.suit_edge.specs.declared.launch.Launch.{Launch}
 use Rattle.suit_params.specs.declared.digest.Digest.{Digest}
 use Rattle.path_model.specs.PlayLaws.{HasItsDigest}
@@ -49,12 +50,11 @@ pub launches_then : (rs : List RoundRun) (r : RoundRun) → launches_of (rs ++ r
 launches_then [] r = append-nil r.launches
 launches_then (q ∷ qs) r = ap (λ (l : List Launch). q.launches ++ l) (launches_then qs r) ∙ sym (append_assoc q.launches (launches_of qs) r.launches)
 
-right_by : (digest : Option (List ℕ)) (bytes : List ℕ) (d : Digest) → option_map (λ (b : List ℕ). record { bytes = b }) digest ≡ Some d → sha256 bytes ≡ d.bytes → wrong_by digest bytes ≡ false
-right_by None bytes d named has = let never : None ≡ Some d = named in absurd cc
-right_by (Some b) bytes d named has = ap not ((bytes_eq-Decides (sha256 bytes) b).1 (has ∙ sym (ap (λ (x : Digest). x.bytes) (same_Some (record { bytes = b }) d named))))
+right_by : (digest : Option Digest) (bytes : List ℕ) (d : Digest) → digest ≡ Some d → hash_like d bytes ≡ d → wrong_by digest bytes ≡ false
+right_by digest bytes d named has = ap (λ (o : Option Digest). wrong_by o bytes) named ∙ ap not ((has_decides d bytes).1 has)
 
 is_right : (launch : Launch) → HasItsDigest (launched_as launch) → is_wrong launch ≡ false
-is_right launch has = right_by launch.digest launch.bytes has.digest has.named has.has
+is_right launch has = right_by (option_and_then as_digest launch.digest) launch.bytes has.digest has.named has.has
 
 abbrev wrongs : Launch → ℕ
 wrongs launch = cond (is_wrong launch) 1 0

@@ -49,7 +49,7 @@ module _ (records : SomeAnswer) where
     launches =
         let f = facts u.layout u.key u.bytes u.accepted u.is_accepted in
         let some = records VERSION_1 (head_of VERSION_1 image) in
-        let digest : Digest = record { bytes = f.authentic.digest } in
+        let digest : Digest = f.authentic.digest in
         let payloads = payloads_in u.bytes u.accepted.said f.envelope in
         let recorded : RecordOf VERSION_1 (head_of VERSION_1 u.middle.flash.reads) some.0 = subst (λ (l : List ℕ). RecordOf VERSION_1 (head_of VERSION_1 l) some.0) (sym reads) some.1 in
         let played = u.update.plays flash_told holds.launcher some.0 digest f.authentic.blocks recorded f.authentic.says payloads.0 payloads.1 in

@@ -119,8 +119,8 @@ one_envelope laws bytes = record {
   never = λ x q g h. whole_not_both IsEnvelope RefusesEnvelope 0 bytes (laws.whole 0 bytes g.0) x _ g.1 h.1.refuses;
 }
 
-pub one_short : (said : EnvelopeSays) → HasOne (λ (u : Unit {0}). IsShort said) (IsLong said)
-one_short said = record {
+pub one_short : (limit : ℕ) (said : EnvelopeSays) → HasOne (λ (u : Unit {0}). IsShort limit said) (IsLong limit said)
+one_short limit said = record {
   value = λ x y g h. refl;
   refusal = λ r q g h. one_reply r q _ _ g.says h.says;
   never = λ x q g h. let above = h.long in omega (arith, g, above);

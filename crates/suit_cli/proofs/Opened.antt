@@ -9,6 +9,7 @@ use Rattle.suit_cli.specs.declared.reply.Reply.{Reply}
 use Rattle.suit_cli.specs.declared.reply.Stop.{Stop}
 use Rattle.suit_cli.specs.Outside.{Outside}
 use Rattle.suit_cli.specs.Stages.{Answers, Ending, Then, Goes, Declines, Faults, Lacks, ending_of}
+use Rattle.suit_cli.specs.Inputs.{longest_shown}
 use Rattle.suit_cli.specs.Envelopes.{manifest_in, short}
 use Rattle.suit_cli.specs.Commands.{in_file}
 use Rattle.suit_cli.specs.Opening.{IsOpened, Opens, never}
@@ -32,7 +33,7 @@ ends_before bytes next before after ending (Goes said middle _ given rest) = Goe
   of_manifest m _ (Lacks l) = Lacks l
   of_manifest m e (Goes manifest n _ g behind) = absurd behind
 
-  of_short : (m : Outside) (e : Ending) → Then (short said) (λ _. Then (manifest_in said) (never said)) m after e → Then (short said) (λ _. Then (manifest_in said) (next said)) m after e
+  of_short : (m : Outside) (e : Ending) → Then (short longest_shown said) (λ _. Then (manifest_in said) (never said)) m after e → Then (short longest_shown said) (λ _. Then (manifest_in said) (next said)) m after e
   of_short m _ (Declines reply d) = Declines reply d
   of_short m _ (Faults object f) = Faults object f
   of_short m _ (Lacks l) = Lacks l

@@ -10,7 +10,6 @@ use Rattle.suit_manifest.specs.Procedures.{update_tree, invocation_tree}
 use Rattle.flash_layout.specs.declared.key.Key.{Key}
 use Rattle.flash_layout.specs.declared.layout.Entry.{Entry}
 use Rattle.rollback_record.specs.SoundFlash.{key_bytes}
-use Rattle.admission.specs.declared.opening.TheConstants.{LONGEST_TRIMMED}
 use Rattle.admission.specs.declared.refusal.NotAdmitted.{NotAdmitted}
 use Rattle.admission.specs.declared.refusal.NotAdmitted.TheVariants as refusals
 use Rattle.admission.specs.declared.refusal.NotOpened.{NotOpened}
@@ -33,6 +32,7 @@ use Rattle.suit_cli.specs.Stages.{Ending, Says, Goes, Declines, Lacks, Last, End
 use Rattle.suit_cli.specs.Texts.{too_wide_line}
 use Rattle.suit_cli.specs.Acceptance.{accepts}
 use Rattle.suit_cli.specs.Judgement.{AreJudged, IsWide, InvocationUnsafe, JudgedSafe, JudgedUnsafe, UpdateUnsafe, narrow}
+use Rattle.suit_cli.specs.Inputs.{longest_shown}
 use Rattle.suit_cli.specs.Commands.{in_file, judges_manifest}
 use Rattle.suit_cli.specs.Opening.{never}
 
@@ -50,7 +50,7 @@ accepting_stops layout key word bytes refusal stops.NoMemory same is says here =
 
 -- ---- up to the manifest
 
-pub opening_stops : (bytes : List ℕ) (refusal : NotOpened) (stop : Stop) → (refusal ≢ not_opened.NoMemory → IsNotOpened LONGEST_TRIMMED bytes refusal) → StopsAs (of_opening refusal) stop
+pub opening_stops : (bytes : List ℕ) (refusal : NotOpened) (stop : Stop) → (refusal ≢ not_opened.NoMemory → IsNotOpened longest_shown bytes refusal) → StopsAs (of_opening refusal) stop
     → (here : Outside) → in_file bytes never here here (ending_of (Err stop))
 opening_stops bytes refusal stops.NoMemory is says here = Lacks refl
 opening_stops bytes refusal (stops.Fault object) is says here = absurd says

@@ -23,7 +23,7 @@ use Rattle.suit_cli.specs.declared.reply.Object.TheVariants as objects
 use Rattle.suit_cli.specs.Outside.{Outside, Flashed, Quiet, Asks, MayAsk}
 use Rattle.suit_cli.specs.Stages.{Ending, Says, FaultOf, NoMemory, Answers, at_host, Goes, Declines, Faults, Ends, IsSaid}
 use Rattle.suit_cli.specs.Statuses.{status_of, ending_status}
-use Rattle.suit_cli.specs.Inputs.{file, longest_file, longest_key, IsRead, IsUnread, IsAbsent, IsTooLong, IsNoKey, IsUnreadKey, IsEmptyKey}
+use Rattle.suit_cli.specs.Inputs.{file, longest_file, longest_shown, longest_key, IsRead, IsUnread, IsAbsent, IsTooLong, IsNoKey, IsUnreadKey, IsEmptyKey}
 use Rattle.admission.specs.Refusals.{of_members}
 use Rattle.suit_cli.specs.Refusals.{TellsRefusal}
 use Rattle.suit_cli.specs.Envelopes as stages
@@ -109,7 +109,7 @@ pub record Reached (name : List ℕ) (next : List ℕ → EnvelopeSays → Manif
   pub on : next has.in_envelope.bytes said manifest there a e
 
 reached : (name : List ℕ) (next : List ℕ → EnvelopeSays → Manifest → Answers) (b a : Outside) (e : Ending) (bytes : List ℕ) (said : EnvelopeSays) (manifest : Manifest) (m0 m1 m2 m3 : Outside)
-    → (file longest_file name).gives b m0 bytes → (stages.envelope_in bytes).gives m0 m1 said → (stages.short said).gives m1 m2 tt → (stages.manifest_in said).gives m2 m3 manifest
+    → (file longest_file name).gives b m0 bytes → (stages.envelope_in bytes).gives m0 m1 said → (stages.short longest_shown said).gives m1 m2 tt → (stages.manifest_in said).gives m2 m3 manifest
     → next bytes said manifest m3 a e → Reached name next b a e
 reached name next b a e bytes said manifest m0 m1 m2 m3 read env is_short man rest = record {
   said = said;
@@ -152,7 +152,7 @@ abbrev pub InManifest : List ℕ → Outside → (List ℕ → EnvelopeSays → 
 InManifest name b next =
     Behind (IsRead longest_file name b) (IsUnread longest_file name b) (λ bytes.
     Behind (λ (said : EnvelopeSays). AreBytes bytes × EnvelopeOf bytes said) (λ r. AreBytes bytes × IsRefused (RefusesBytes bytes) r) (λ said.
-    Behind (λ (u : Unit {0}). IsShort said) (IsLong said) (λ u.
+    Behind (λ (u : Unit {0}). IsShort longest_shown said) (IsLong longest_shown said) (λ u.
     Behind (ManifestOf said) (IsRefused (RefusesItsManifest said)) (next bytes said))))
 
 module _ (name : List ℕ) (b : Outside) (next : List ℕ → EnvelopeSays → Manifest → Reply → Type 0) (r : Reply) where
@@ -175,7 +175,7 @@ module _ (envelopes : EnvelopeLaws) (manifests : ManifestLaws) (name : List ℕ)
       let e = has.in_envelope in
       let s0 = passes _ _ _ (one_file longest_file name b told) e.bytes q e.read answer in
       let s1 = passes _ _ _ (one_envelope envelopes e.bytes) said q (e.are_bytes, e.envelope) s0 in
-      let s2 = passes _ _ _ (one_short said) tt q has.is_short s1 in
+      let s2 = passes _ _ _ (one_short longest_shown said) tt q has.is_short s1 in
       passes _ _ _ (one_manifest envelopes manifests e.bytes said e.envelope) manifest q has.says s2
 
   -- two replies are the same where they are behind the manifest
@@ -183,7 +183,7 @@ module _ (envelopes : EnvelopeLaws) (manifests : ManifestLaws) (name : List ℕ)
       → ((bytes : List ℕ) (said : EnvelopeSays) (manifest : Manifest) → EnvelopeOf bytes said → (r q : Reply) → first bytes said manifest r → second bytes said manifest q → Same r q)
       → (r q : Reply) → InManifest name b first r → InManifest name b second q → Same r q
   one_in_manifest first second Same more rest =
-      one_way _ _ _ _ (one_file longest_file name b told) Same more (λ bytes read. one_way _ _ _ _ (one_envelope envelopes bytes) Same more (λ said e. one_way _ _ _ _ (one_short said) Same more
+      one_way _ _ _ _ (one_file longest_file name b told) Same more (λ bytes read. one_way _ _ _ _ (one_envelope envelopes bytes) Same more (λ said e. one_way _ _ _ _ (one_short longest_shown said) Same more
       (λ u short. one_way _ _ _ _ (one_manifest envelopes manifests bytes said e.1) Same more (λ manifest says. rest bytes said manifest e.1))))
 
   -- what stops before it has the last word

@@ -2,7 +2,6 @@
 use Rattle.std.proofs.Common.{◌≡◌, ⊎_elim, ℕ, List, [], ◌∷◌, ◌++◌, Option, sym, ap, subst, ◌∙◌, arith}
 use Rattle.std.specs.Prelude.{IsTrue}
 use Rattle.suit_params.specs.declared.digest.Digest.{Digest}
-use Rattle.suit_envelope.specs.Members.{string_digest}
 use Rattle.suit_envelope.specs.WrapperParts.{WrapperSays}
 use Rattle.path_model.specs.declared.cause.Cause.{Cause}
 use Rattle.path_model.specs.declared.cause.Cause.TheVariants as causes
@@ -141,9 +140,8 @@ module _ (name : List ℕ) (uris : List (List ℕ × List ℕ)) (l m : Launching
       → (IsTrue b.flash.told → (held : Option Record) × RecordOf VERSION_1 (head_of VERSION_1 b.flash.reads) held) → AsFound l m b a
   update_found lines u recorded =
       let f = facts u.layout u.key u.bytes u.accepted u.is_accepted in
-      let digest : Digest = record { bytes = string_digest u.accepted.said.manifest } in
-      let states : WrapperSays u.accepted.said.wrapper digest.bytes f.authentic.blocks =
-      subst (λ (d : List ℕ). WrapperSays u.accepted.said.wrapper d f.authentic.blocks) f.authentic.stated f.authentic.says in
+      let digest : Digest = f.authentic.digest in
+      let states : WrapperSays u.accepted.said.wrapper digest f.authentic.blocks = f.authentic.says in
       let payloads = payloads_in u.bytes u.accepted.said f.envelope in
       let same_told = u.read.0.quiet.told ∙ ap (λ (o : Outside). o.told) u.held.0.beside in
       let flash_told = ap (λ (x : Flashed). x.told) u.read.0.flash ∙ u.held.0.still.told in

@@ -187,8 +187,8 @@ module _ (configs : OneAnswer) (envelopes : EnvelopeLaws) (manifests : ManifestL
         (one_manifest envelopes manifests f.bytes f.accepted.said x.envelope).value f.accepted.manifest u.accepted.manifest x.says
         (subst (λ (s : EnvelopeSays). ManifestOf s u.accepted.manifest) same_said y.says)
 
-    states : WrapperSays u.accepted.said.wrapper f.digest.bytes f.blocks
-    states = subst (λ (s : EnvelopeSays). WrapperSays s.wrapper f.digest.bytes f.blocks) (sym same_said) f.states
+    states : WrapperSays u.accepted.said.wrapper f.digest f.blocks
+    states = subst (λ (s : EnvelopeSays). WrapperSays s.wrapper f.digest f.blocks) (sym same_said) f.states
 
     -- another verdict on the same offer
     is_verdict : (other : Judged) → IsJudged u.accepted.manifest.sequence f.digest f.held other → other ≡ verdict

@@ -67,13 +67,13 @@ module _ (configs : OneAnswer) (layout : List Entry) (key : Key) (reads : List �
   some_record (SoundInstalled other k r is held installed) = (Some r, held)
 
   pub has_offer : (bytes : List ℕ) (a : Accepted) → Meets layout key bytes a → Sound VERSION_1 reads → HasOffer reads a.said.wrapper
-  has_offer bytes a f sound = let some = some_record sound in (some.0, record { bytes = f.authentic.digest }, f.authentic.blocks, some.1, f.authentic.says)
+  has_offer bytes a f sound = let some = some_record sound in (some.0, f.authentic.digest, f.authentic.blocks, some.1, f.authentic.says)
 
   -- ---- it may be installed
 
   module _ (installs : InstalledAnywhere) (bytes : List ℕ) (a : Accepted) (f : Meets layout key bytes a) where
     abbrev stated : Digest
-    stated = record { bytes = f.authentic.digest }
+    stated = f.authentic.digest
 
     installed : (held : Option Record) (numbers : List ℕ) → IsInstalled layout key (trimmed a.said.wrapper a.said.manifest) (new_of a held reads stated numbers)
     installed held numbers = installs layout key bytes a.said (new_of a held reads stated numbers) f.envelope (record {

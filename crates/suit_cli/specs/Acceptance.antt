@@ -9,6 +9,7 @@ use Rattle.flash_layout.specs.declared.layout.Entry.{Entry}
 use Rattle.flash_layout.specs.Placement.{ArePlaces}
 use Rattle.rollback_record.specs.SoundFlash.{key_bytes}
 use Rattle.admission.specs.declared.admitting.Admitted.{Admitted}
+use Rattle.admission.specs.declared.opening.TheConstants.{LONGEST_TRIMMED}
 use Rattle.admission.specs.declared.refusal.NotAdmitted.{NotAdmitted}
 use Rattle.admission.specs.Admission.{Admission, IsAdmitted, IsNotAdmitted, admission_of}
 use Rattle.suit_cli.specs.declared.reply.Reply.{Reply}
@@ -38,10 +39,10 @@ accepts layout key bytes = judging (IsAccepted layout key bytes) (IsDeclined lay
 
 -- the same as demands on the bytes, under the layout and the key of the flash
 pub record Meets (layout : List Entry) (key : Key) (bytes : List ℕ) (a : Accepted) : Type 0 where
-  -- they spell an envelope that is short enough
+  -- they spell an envelope that a bank holds when it is trimmed
   pub are_bytes : AreBytes bytes
   pub envelope : EnvelopeOf bytes a.said
-  pub is_short : IsShort a.said
+  pub is_short : IsShort LONGEST_TRIMMED a.said
   -- it is authentic, and has a manifest
   pub authentic : IsAuthentic a.said.wrapper a.said.manifest (key_bytes key)
   pub says : ManifestOf a.said a.manifest

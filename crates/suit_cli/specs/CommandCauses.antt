@@ -10,7 +10,7 @@ use Rattle.suit_manifest.specs.Procedures.{update_tree, invocation_tree}
 use Rattle.suit_cli.specs.declared.reply.Reply.{Reply}
 use Rattle.suit_cli.specs.declared.reply.Outcome.TheVariants as outcomes
 use Rattle.suit_cli.specs.Outside.{Outside}
-use Rattle.suit_cli.specs.Inputs.{longest_file, IsRead, IsUnread}
+use Rattle.suit_cli.specs.Inputs.{longest_file, longest_shown, IsRead, IsUnread}
 use Rattle.suit_cli.specs.Envelopes.{AreBytes, IsRefused, IsShort, IsLong, RefusesItsManifest, IsLack}
 use Rattle.suit_cli.specs.Judgement.{IsNarrow, IsWide, AreJudged}
 use Rattle.suit_cli.specs.Holding.{HasEnvelope, HasManifest, HasProcedures}
@@ -24,10 +24,10 @@ pub data NoManifest (name : List ℕ) (before : Outside) (reply : Reply) : Type 
   AtEnvelope : (bytes : List ℕ) → IsRead longest_file name before bytes → AreBytes bytes
       → IsRefused (RefusesBytes bytes) reply → NoManifest name before reply
   -- status 21, `too long envelope`
-  AtLength : (said : EnvelopeSays) → HasEnvelope name before said → IsLong said reply
+  AtLength : (said : EnvelopeSays) → HasEnvelope name before said → IsLong longest_shown said reply
       → NoManifest name before reply
   -- status 3, `refused at P: WHY`
-  AtManifest : (said : EnvelopeSays) → HasEnvelope name before said → IsShort said
+  AtManifest : (said : EnvelopeSays) → HasEnvelope name before said → IsShort longest_shown said
       → IsRefused (RefusesItsManifest said) reply → NoManifest name before reply
 
 -- ---- `check FILE`

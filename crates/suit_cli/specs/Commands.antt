@@ -5,7 +5,7 @@ use Rattle.suit_manifest.specs.declared.manifest.Manifest.{Manifest}
 use Rattle.suit_manifest.specs.Procedures.{update_tree, invocation_tree}
 use Rattle.suit_cli.specs.Words.{Task, Make, Describe, Show, Check, RunInit, RunUpdate, RunBoot, RunStatus, Drill}
 use Rattle.suit_cli.specs.Stages.{Answers, ◌>>=◌, Last}
-use Rattle.suit_cli.specs.Inputs.{longest_file, longest_device, file, key_in}
+use Rattle.suit_cli.specs.Inputs.{longest_file, longest_shown, longest_device, file, key_in}
 use Rattle.suit_cli.specs.Envelopes.{envelope_in, short, manifest_in, members_in}
 use Rattle.suit_cli.specs.Judgement.{narrow, AreJudged}
 use Rattle.suit_cli.specs.Shown.{IsShown}
@@ -21,7 +21,7 @@ use Rattle.suit_cli.specs.Installed.{config_in, record_in, lines_in, IsStatus}
 abbrev pub in_file : List ℕ → (EnvelopeSays → Manifest → Answers) → Answers
 in_file bytes next =
     envelope_in bytes >>= λ said.
-    short said >>= λ _.
+    short longest_shown said >>= λ _.
     manifest_in said >>= λ manifest.
     next said manifest
 

@@ -2,7 +2,7 @@
 use Rattle.std.specs.Prelude.{◌≡◌, ◌≢◌, ℕ, List, ◌++◌, Some, codes}
 use Rattle.serde_json.specs.Written.{compact_text}
 use Rattle.suit_envelope.specs.Envelopes.{EnvelopeSays}
-use Rattle.suit_envelope.specs.Members.{string_digest}
+use Rattle.suit_envelope.specs.Members.{string_like}
 use Rattle.suit_envelope.specs.Payloads.{HasPayloads}
 use Rattle.suit_envelope.specs.declared.severed.MemberName.TheVariants as names
 use Rattle.suit_manifest.specs.declared.manifest.Manifest.{Manifest}
@@ -27,7 +27,7 @@ abbrev pub TextDiffers : EnvelopeSays → TextMember → Type 0
 TextDiffers said texts.Empty = ⊥
 TextDiffers said (texts.Here content) = ⊥
 TextDiffers said (texts.Apart stated) =
-    (content : List ℕ) × (said.text ≡ Some content) × (string_digest content ≢ stated.bytes)
+    (content : List ℕ) × (said.text ≡ Some content) × (string_like stated content ≢ stated)
 
 pub record IsOtherText (said : EnvelopeSays) (manifest : Manifest) (reply : Reply) : Type 0 where
   pub other : TextDiffers said manifest.text

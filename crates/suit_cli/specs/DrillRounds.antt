@@ -129,7 +129,7 @@ pub record IsCutOff (uris : List (List ℕ × List ℕ)) (launched now : Launchi
   pub record_is : RecordOf VERSION_1 (head_of VERSION_1 before.flash.reads) held
   pub digest : Digest
   pub blocks : List (List ℕ)
-  pub says : WrapperSays accepted.said.wrapper digest.bytes blocks
+  pub says : WrapperSays accepted.said.wrapper digest blocks
   pub is_left : IsLeft (offer layout bytes accepted uris) launched now before held digest left
 
 -- The flash lost its power, as was wanted, and this image was left: by an update that had begun, or with the contents of

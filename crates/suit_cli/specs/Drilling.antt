@@ -1,8 +1,10 @@
 -- `drill NUMBER`: 200 rounds, each an update whose envelope is drawn and a boot, on a flash in memory.
 use Rattle.std.specs.Prelude.{◌≡◌, ℕ, ◌+◌, Bool, true, not, List, [], ◌∷◌, ◌++◌, length, count_by, Option, Some, None, codes}
 use Rattle.std.specs.Fmt.{decimal}
-use Rattle.std.specs.Str.{bytes_eq}
-use Rattle.sha2.specs.Sha256.{sha256}
+use Rattle.std.specs.Option.{option_and_then}
+use Rattle.suit_params.specs.declared.digest.Digest.{Digest}
+use Rattle.suit_params.specs.DigestBytes.{as_digest}
+use Rattle.suit_params.specs.Hashes.{has_digest}
 use Rattle.conformance.specs.Rounds.{round_of}
 use Rattle.suit_edge.specs.declared.launch.Launch.{Launch}
 use Rattle.suit_cli.specs.declared.drill.tally.RoundEnd.{RoundEnd}
@@ -29,12 +31,12 @@ abbrev pub rounds_counted : Tally → ℕ
 rounds_counted t = t.installed + t.stopped + t.cut
 
 -- without a digest, or with bytes of another one
-abbrev pub wrong_by : Option (List ℕ) → List ℕ → Bool
+abbrev pub wrong_by : Option Digest → List ℕ → Bool
 wrong_by None bytes = true
-wrong_by (Some digest) bytes = not (bytes_eq (sha256 bytes) digest)
+wrong_by (Some digest) bytes = not (has_digest digest bytes)
 
 abbrev pub is_wrong : Launch → Bool
-is_wrong launch = wrong_by launch.digest launch.bytes
+is_wrong launch = wrong_by (option_and_then as_digest launch.digest) launch.bytes
 
 abbrev pub wrong_in : List Launch → ℕ
 wrong_in launches = count_by is_wrong launches

@@ -9,7 +9,6 @@ use Rattle.suit_manifest.specs.declared.manifest.Manifest.{Manifest}
 use Rattle.suit_manifest.specs.declared.manifest.Members.{Members}
 use Rattle.suit_manifest.specs.declared.members.MemberFault.{MemberFault}
 use Rattle.suit_manifest.specs.MembersApart.{HasMembers, LacksMembers}
-use Rattle.admission.specs.declared.opening.TheConstants.{LONGEST_TRIMMED}
 use Rattle.admission.specs.Opening.{HasManifest, HasNoManifest, trimmed_size}
 use Rattle.admission.specs.Refusals.{of_members}
 use Rattle.suit_cli.specs.declared.reply.Reply.{Reply}
@@ -36,15 +35,16 @@ envelope_in bytes =
     judging (λ said. AreBytes bytes × EnvelopeOf bytes said)
     (λ reply. AreBytes bytes × IsRefused (RefusesBytes bytes) reply)
 
-abbrev pub IsShort : EnvelopeSays → Type 0
-IsShort said = trimmed_size said ≤ LONGEST_TRIMMED
+-- it is within a limit when it is trimmed
+abbrev pub IsShort : ℕ → EnvelopeSays → Type 0
+IsShort limit said = trimmed_size said ≤ limit
 
-pub record IsLong (said : EnvelopeSays) (reply : Reply) : Type 0 where
-  pub long : LONGEST_TRIMMED < trimmed_size said
+pub record IsLong (limit : ℕ) (said : EnvelopeSays) (reply : Reply) : Type 0 where
+  pub long : limit < trimmed_size said
   pub says : IsReply reply outcomes.TooLong (too_long_line (codes "envelope"))
 
-abbrev pub short : EnvelopeSays → Stage (Unit {0})
-short said = judging (λ _. IsShort said) (IsLong said)
+abbrev pub short : ℕ → EnvelopeSays → Stage (Unit {0})
+short limit said = judging (λ _. IsShort limit said) (IsLong limit said)
 
 -- ---- its manifest
 

@@ -8,7 +8,7 @@ use Rattle.suit_manifest.specs.declared.manifest.Members.{Members}
 use Rattle.suit_manifest.specs.MembersApart.{HasMembers}
 use Rattle.suit_manifest.specs.Procedures.{update_tree, invocation_tree}
 use Rattle.suit_cli.specs.Outside.{Outside}
-use Rattle.suit_cli.specs.Inputs.{longest_file, IsRead}
+use Rattle.suit_cli.specs.Inputs.{longest_file, longest_shown, IsRead}
 use Rattle.suit_cli.specs.Envelopes.{AreBytes, IsShort, ManifestOf}
 use Rattle.suit_cli.specs.Judgement.{IsNarrow}
 
@@ -23,7 +23,7 @@ pub record HasEnvelope (name : List ℕ) (before : Outside) (said : EnvelopeSays
 pub record HasManifest (name : List ℕ) (before : Outside) (said : EnvelopeSays)
     (manifest : Manifest) : Type 0 where
   pub in_envelope : HasEnvelope name before said
-  pub is_short : IsShort said
+  pub is_short : IsShort longest_shown said
   pub says : ManifestOf said manifest
 
 -- one whose members are there and match; these are its procedures, within the width that is judged

@@ -11,6 +11,10 @@ use Rattle.suit_cli.specs.Stages.{Stage, reading}
 abbrev pub longest_file : ℕ
 longest_file = 1048576
 
+-- the longest trimmed envelope that is checked or shown, in bytes
+abbrev pub longest_shown : ℕ
+longest_shown = 65536
+
 -- the longest description of a device, in bytes
 abbrev pub longest_device : ℕ
 longest_device = 65536

@@ -2,6 +2,7 @@
 use Rattle.std.specs.Prelude.{◌≡◌, ℕ, ◌+◌, ◌==◌, ◌&&◌, IsTrue, List, [], ◌∷◌, ◌++◌, length, slice_index, Some, None, Result, Ok, Err, codes, if◌then◌else◌}
 use Rattle.std.specs.Fmt.{decimal}
 use Rattle.hex.specs.Hex.{encode_lower}
+use Rattle.suit_params.specs.DigestBytes.{digest_bytes}
 use Rattle.suit_edge.specs.Faults.{Faulted}
 use Rattle.flash_layout.specs.declared.frame.TheConstants.{VERSION_1}
 use Rattle.flash_layout.specs.declared.key.Key.{Key}
@@ -113,7 +114,7 @@ digest_line digest = joined (codes "digest " ∷ encode_lower digest ∷ codes "
 abbrev pub record_lines : Record → List ℕ
 record_lines r =
     number_line (codes "sequence") r.sequence ++ (number_line (codes "generation") r.generation
-    ++ (number_line (codes "bank") r.bank ++ digest_line r.digest.bytes))
+    ++ (number_line (codes "bank") r.bank ++ digest_line (digest_bytes r.digest)))
 
 abbrev pub IsStatus : Record → List ℕ → Reply → Type 0
 IsStatus installed lines reply = IsReply reply outcomes.Done (record_lines installed ++ lines)

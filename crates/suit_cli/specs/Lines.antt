@@ -8,6 +8,7 @@ use Rattle.path_model.specs.declared.identity.Identity.{Identity}
 use Rattle.path_model.specs.declared.event.Event.{Event}
 use Rattle.path_model.specs.declared.event.Event.TheVariants.{Set, Tried, Matched, Missed, Wrote, Invoked, Failed}
 use Rattle.path_model.specs.declared.bad_path.BadPath.{BadPath}
+use Rattle.suit_params.specs.DigestBytes.{digest_bytes}
 use Rattle.suit_params.specs.ParamKeys.{key_of, key_number}
 use Rattle.suit_commands.specs.Kinds.{test_code}
 
@@ -20,7 +21,7 @@ joined (piece ∷ pieces) = piece ++ joined pieces
 
 abbrev pub digest_text : Option Digest → List ℕ
 digest_text None = codes "none"
-digest_text (Some digest) = encode_lower digest.bytes
+digest_text (Some digest) = encode_lower (digest_bytes digest)
 
 abbrev pub size_text : Option ℕ → List ℕ
 size_text None = codes "none"

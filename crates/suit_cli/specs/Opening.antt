@@ -9,6 +9,7 @@ use Rattle.admission.specs.declared.opening.Opened.{Opened}
 use Rattle.suit_cli.specs.declared.reply.Stop.{Stop}
 use Rattle.suit_cli.specs.Outside.{Outside}
 use Rattle.suit_cli.specs.Stages.{Answers, ending_of}
+use Rattle.suit_cli.specs.Inputs.{longest_shown}
 use Rattle.suit_cli.specs.Envelopes.{AreBytes, IsShort, ManifestOf}
 use Rattle.suit_cli.specs.Commands.{in_file}
 
@@ -16,7 +17,7 @@ use Rattle.suit_cli.specs.Commands.{in_file}
 pub record IsOpened (bytes : List ℕ) (opened : Opened) : Type 0 where
   pub are_bytes : AreBytes bytes
   pub envelope : EnvelopeOf bytes (said_by opened.envelope)
-  pub is_short : IsShort (said_by opened.envelope)
+  pub is_short : IsShort longest_shown (said_by opened.envelope)
   pub manifest : ManifestOf (said_by opened.envelope) opened.manifest
   pub wrapper : HasWrapper opened.envelope.wrapper.now
   pub whole : opened.envelope.whole.now ≡ bytes

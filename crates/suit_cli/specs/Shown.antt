@@ -6,7 +6,7 @@ use Rattle.suit_params.specs.declared.digest.Digest.{Digest}
 use Rattle.suit_commands.specs.Tree.{SequenceTree}
 use Rattle.suit_envelope.specs.Envelopes.{EnvelopeSays}
 use Rattle.suit_envelope.specs.Macs.{IsOther}
-use Rattle.suit_envelope.specs.Members.{string_digest}
+use Rattle.suit_envelope.specs.Members.{string_like}
 use Rattle.suit_envelope.specs.WrapperParts.{WrapperSays}
 use Rattle.suit_envelope.specs.Authentic.{IsAuthentic, AnswersAuthentic}
 use Rattle.suit_envelope.specs.declared.authenticity.Authenticity.{Authenticity}
@@ -45,7 +45,7 @@ pub data BlockLines : ℕ → List (List ℕ) → List ℕ → Type 0 where
 -- a text is continued by the lines of the wrapper's blocks
 abbrev pub AddsBlocks : List ℕ → List ℕ → List ℕ → Type 0
 AddsBlocks wrapper old new =
-    (digest : List ℕ) (all : List (List ℕ)) → WrapperSays wrapper digest all
+    (digest : Digest) (all : List (List ℕ)) → WrapperSays wrapper digest all
     → (lines : List ℕ) × BlockLines 0 all lines × (new ≡ old ++ lines)
 
 -- ---- members
@@ -57,8 +57,8 @@ state_of (Some s) = Here
 -- of a member whose digest is stated, by what the envelope holds of it
 abbrev pub StandsApart : Option (List ℕ) → Digest → MemberState → Type 0
 StandsApart None stated Severed = Unit {0}
-StandsApart (Some content) stated Apart = string_digest content ≡ stated.bytes
-StandsApart (Some content) stated Differs = string_digest content ≢ stated.bytes
+StandsApart (Some content) stated Apart = string_like stated content ≡ stated
+StandsApart (Some content) stated Differs = string_like stated content ≢ stated
 StandsApart _ stated _ = ⊥
 
 abbrev pub HasState : Option (List ℕ) → Member → MemberState → Type 0
@@ -105,13 +105,13 @@ pub record TellsAuthenticity (said : EnvelopeSays) (key : List ℕ) (answer : Au
     : Type 0 where
   pub yes : answer ≡ authenticities.Yes → IsAuthentic said.wrapper said.manifest key
   pub every_yes : IsAuthentic said.wrapper said.manifest key → answer ≡ authenticities.Yes
-  pub answers : (digest : List ℕ) (blocks : List (List ℕ)) → WrapperSays said.wrapper digest blocks
+  pub answers : (digest : Digest) (blocks : List (List ℕ)) → WrapperSays said.wrapper digest blocks
       → AnswersAuthentic digest blocks said.manifest key answer
 
 -- whether there is a tag, then the blocks, the members, and last whether the envelope is authentic under the key
 pub record IsShown (said : EnvelopeSays) (manifest : Manifest) (key : List ℕ) (reply : Reply)
     : Type 0 where
-  pub digest : List ℕ
+  pub digest : Digest
   pub blocks : List (List ℕ)
   pub says : WrapperSays said.wrapper digest blocks
   pub answer : Authenticity

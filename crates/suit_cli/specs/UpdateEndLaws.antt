@@ -102,7 +102,7 @@ pub record IsOffered (name : List ℕ) (before : Outside) (verdict : Judged) : T
   pub recorded : RecordOf VERSION_1 (head_of VERSION_1 before.flash.reads) held
   pub digest : Digest
   pub blocks : List (List ℕ)
-  pub states : WrapperSays accepted.said.wrapper digest.bytes blocks
+  pub states : WrapperSays accepted.said.wrapper digest blocks
   pub is_judged : IsJudged accepted.manifest.sequence digest held verdict
 
 -- the end that a verdict leads to: its own, or where the file may be recorded, that of its play

@@ -182,7 +182,7 @@ abbrev pub HasOffer : List ℕ → List ℕ → Type 0
 HasOffer image wrapper =
     (held : Option Record) × (digest : Digest) × (blocks : List (List ℕ))
     × RecordOf VERSION_1 (head_of VERSION_1 image) held
-    × WrapperSays wrapper digest.bytes blocks
+    × WrapperSays wrapper digest blocks
 
 -- The file with that name was accepted, and so the flash was kept. This holds of a settled flash.
 pub record KeepsFlash (name : List ℕ) (uris : List (List ℕ × List ℕ)) (launched later : Launching)

@@ -21,7 +21,7 @@ ghost use Rattle.suit_cli.specs.declared.reply.Outcome.TheVariants as outcomes;
 use crate::reply::{Outcome, Reply, Stop, declined};
 use crate::show::authenticity_line;
 use crate::status::number_line;
-use admission::{Admitted, LONGEST_TRIMMED, NotAdmitted, Opened, Procedure, admit, open};
+use admission::{Admitted, NotAdmitted, Opened, Procedure, admit, open};
 use det_cbor::Text;
 use flash_layout::{Key, Layout};
 use invoke_proc::key_bytes;
@@ -125,11 +125,14 @@ pub(crate) fn refusal_stop(alloc: Global, refusal: NotAdmitted<'_>) -> Stop
 
 // ---- stages
 
+/// The longest trimmed envelope that is checked or shown, in bytes.
+const LONGEST_SHOWN: u32 = 65_536;
+
 /// The envelope that a file's bytes spell, which is short enough, and its manifest.
 pub(crate) fn opened_in(alloc: Global, bytes: &[u8]) -> Result<Opened<'_>, Stop>
     ensures { Opens bytes.now result }
 {
-    match open(alloc, bytes, LONGEST_TRIMMED) {
+    match open(alloc, bytes, LONGEST_SHOWN) {
         Ok(opened) => Ok(opened),
         Err(refusal) => Err(refusal_stop(alloc, NotAdmitted::from(refusal))),
     }

@@ -14,7 +14,7 @@ fn digest_text(alloc: Global, digest: Option<Digest>) -> Result<String, AllocErr
 {
     match digest {
         None => String::from_str(alloc, "none"),
-        Some(digest) => hex::encode(alloc, &digest.bytes),
+        Some(digest) => hex::encode(alloc, digest.bytes()),
     }
 }
 

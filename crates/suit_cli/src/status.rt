@@ -2,6 +2,7 @@
 
 ghost use Rattle.std.specs.Prelude.{◌≡◌, ◌≤◌, ◌++◌, IfOk, IsTrue, string_bytes};
 ghost use Rattle.suit_edge.specs.Flash.{IsSame};
+ghost use Rattle.suit_params.specs.DigestBytes.{digest_bytes};
 ghost use Rattle.flash_layout.specs.declared.frame.TheConstants.{VERSION_1};
 ghost use Rattle.flash_layout.specs.Configs.{ConfigOf, Configured, IsAllowed};
 ghost use Rattle.flash_layout.specs.Frames.{head_of};
@@ -78,9 +79,9 @@ pub(crate) fn number_line(alloc: Global, word: &str, number: u64) -> Result<Stri
 }
 
 fn digest_line(alloc: Global, digest: &Digest) -> Result<String, AllocError>
-    ensures { IfOk result (λ t. string_bytes t ≡ digest_line digest.now.bytes) }
+    ensures { IfOk result (λ t. string_bytes t ≡ digest_line (digest_bytes digest.now)) }
 {
-    let text = hex::encode(alloc, &digest.bytes)?;
+    let text = hex::encode(alloc, digest.bytes())?;
     format!(in alloc; "digest {text}\n")
 }
 

@@ -28,6 +28,14 @@ run update other.suit img=abc.img
 5
 rollback: number 1 has another manifest
 
+make 1-sha512.json k sha512.suit
+0
+made 208
+
+run update sha512.suit img=abc.img
+5
+rollback: number 1 has another manifest
+
 run status
 0
 sequence 1

@@ -615,25 +615,25 @@ refused at 16: too deep";
 
 /// Files and manifests at their longest, and one byte beyond.
 const LIMITS: &str = "file manifest.suit
-d86ba2025827815824822f5820 00*32 03593fcf 00*16335
+d86ba2025827815824822f5820 00*32 0359ffcf 00*65487
 
 check manifest.suit
 3
 refused at 50: trailing
 
 file long.suit
-d86ba2025827815824822f5820 00*32 03593fd0 00*16336
+d86ba2025827815824822f5820 00*32 0359ffd0 00*65488
 
 check long.suit
 21
 too long envelope
 
 change longer.suit long.suit
-16385 0 00
+65537 0 00
 
 check longer.suit
 3
-refused at 16385: trailing
+refused at 65537: trailing
 
 file long
 00*1048576

@@ -4,7 +4,7 @@ use crate::session::BEGUN;
 use crate::tests::goes::both_go;
 use std::alloc::AllocError;
 
-/// Envelopes; the second with its install apart, made again of what `show` puts of it.
+/// Envelopes; the second by HMAC 512/512, the third with its install apart, made again of what `show` puts of it.
 const MADE: &str = r#"text d.json
 {"sequence":1,"components":[["00"]],"shared":[["set",{"digest":{"file":"abc.img"},"size":{"file":"abc.img"}}]],"validate":[["match",15]],"invoke":[["invoke",15]]}
 
@@ -14,6 +14,62 @@ made 163
 
 holds o.suit
 d86ba2025853825824822f58201a9560565e58d0ad019dae827e1def7755aad759c564dcc11446bb8629c035b1582ad18443a10105a0f6582020d07a0b6d6e8c35313524a9e71b4f7857551ac0e818340d4076635db40631b3035847a501010201035835a2028181410004582c8214a2035824822f5820ba7816bf8f01cfea414140de5dae2223b00361a396177a9cb410ff61f20015ad0e03074382030f094382170f
+
+text mac.json
+{"sequence":1,"components":[["00"]],"shared":[["set",{"digest":{"file":"abc.img"},"size":{"file":"abc.img"}}]],"validate":[["match",15]],"invoke":[["invoke",15]],"mac":"hmac512"}
+
+make mac.json k o
+0
+made 195
+
+holds o
+d86ba2025873825824822f58201a9560565e58d0ad019dae827e1def7755aad759c564dcc11446bb8629c035b1584ad18443a10107a0f658403ee60f9faf324877936860526b711aba09008146f336339a18725e2f68fa466b9287e5b54e3f33c430474dc53ecf18fa313786d32e47870d6bcd8065591a2b10035847a501010201035835a2028181410004582c8214a2035824822f5820ba7816bf8f01cfea414140de5dae2223b00361a396177a9cb410ff61f20015ad0e03074382030f094382170f
+
+show o k
+0
+tagged yes
+block 0 mac0
+member shared here
+member validate here
+member load none
+member invoke here
+member payload-fetch none
+member install none
+member text none
+authentic
+
+text both.json
+{"sequence":1,"components":[["00"]],"shared":[["set",{"digest":{"file":"abc.img"},"size":{"file":"abc.img"}}]],"validate":[["match",15]],"invoke":[["invoke",15]],"mac":"hmac512","algorithm":"sha512"}
+
+make both.json k o
+0
+made 228
+
+holds o
+d86ba202589482584582382b58405b7f3e7700c6aa673f43ccd903c8f7008e3621718dc6964235b369b95a0bd05d6845776bb410d7da8f59bc48fca81b24d63f6aaecb4cdeb96be1ed80204e9924584ad18443a10107a0f65840d37fe969fbddeea8574c19758cb148ec78d499025ddb0318e210bd8f85b198cc3c526f120edc2d9e113f22ae0dc7bcef9a55d604274ceb1aa5507437fb80c399035847a501010201035835a2028181410004582c8214a2035824822f5820ba7816bf8f01cfea414140de5dae2223b00361a396177a9cb410ff61f20015ad0e03074382030f094382170f
+
+text long-digest.json
+{"sequence":1,"components":[["00"]],"shared":[["set",{"digest":{"algorithm":"sha512","file":"abc.img"},"size":{"file":"abc.img"}}]],"validate":[["match",15]],"invoke":[["invoke",15]]}
+
+make long-digest.json k o
+0
+made 196
+
+check o
+0
+update safe
+invocation safe
+
+text apart-512.json
+{"sequence":1,"components":[["00"]],"shared":[["set",{"digest":{"file":"abc.img"},"size":{"file":"abc.img"}}]],"validate":[["match",15]],"invoke":[["invoke",15]],"install":[["set",{"uri":"img"}],["fetch",15]],"sever":[["install","sha512"]]}
+
+make apart-512.json k o
+0
+made 245
+
+show o
+0
+{"components":[["00"]],"install":[["set",{"uri":"img"}],["fetch",15]],"invoke":[["invoke",15]],"sequence":1,"sever":[["install","sha512"]],"shared":[["set",{"digest":"ba7816bf8f01cfea414140de5dae2223b00361a396177a9cb410ff61f20015ad","size":3}]],"validate":[["match",15]]}
 
 text apart.json
 {"sequence":1,"components":[["00"]],"shared":[["set",{"digest":{"file":"abc.img"},"size":{"file":"abc.img"}}]],"validate":[["match",15]],"invoke":[["invoke",15]],"install":[["set",{"uri":"img"}],["fetch",15]],"sever":["install"]}
@@ -192,6 +248,62 @@ make r.json k r.suit
 bad hex /kid
 
 text r.json
+{"components":[["00"]],"sequence":1,"mac":"hmac384"}
+
+make r.json k r.suit
+3
+bad field /mac
+
+text r.json
+{"components":[["00"]],"sequence":1,"algorithm":"sha224"}
+
+make r.json k r.suit
+3
+bad field /algorithm
+
+text r.json
+{"components":[["00"]],"sequence":1,"install":{"digest":"000000000000000000000000000000000000000000000000000000000000000000"}}
+
+make r.json k r.suit
+3
+bad hex /install/digest
+
+text r.json
+{"components":[["00"]],"sequence":1,"text":"00","sever":[["text","sha256"],"text"]}
+
+make r.json k r.suit
+3
+bad field /sever/1
+
+text r.json
+{"components":[["00"]],"sequence":1,"text":"00","sever":[["text"]]}
+
+make r.json k r.suit
+3
+bad field /sever/0
+
+text r.json
+{"components":[["00"]],"sequence":1,"text":"00","sever":[["text","sha224"]]}
+
+make r.json k r.suit
+3
+bad field /sever/0/1
+
+text r.json
+{"components":[["00"]],"sequence":1,"text":"00","sever":[["install","sha224"]]}
+
+make r.json k r.suit
+3
+bad field /sever/0/0
+
+text r.json
+{"components":[["00"]],"sequence":1,"mac":7}
+
+make r.json k r.suit
+3
+bad field /mac
+
+text r.json
 {"components":[["00"]],"sequence":1,"payloads":{"#a":{"file":"b"}}}
 
 make r.json k r.suit
@@ -283,20 +395,20 @@ make carries.json k o
 21
 too long envelope
 
-text refers.json
-{"sequence":1,"components":[["00"]],"reference":""}
+text holds.json
+{"sequence":1,"components":[["00"]],"validate":[["set",{"content":{"file":"p"}}]]}
 
-change long-name.json refers.json
-49 0 61*16274
+file p
+00*65419
 
-make long-name.json k o
+make holds.json k o
 0
-made 16384
+made 65536
 
-change longer-name.json refers.json
-49 0 61*16275
+file p
+00*65420
 
-make longer-name.json k o
+make holds.json k o
 21
 too long envelope"#;
 

@@ -3,8 +3,8 @@
 ghost use Rattle.std.specs.Prelude.{◌≡◌, ◌<◌, ◌+◌, ◌^◌};
 ghost use Rattle.suit_cli.specs.Drilling.{counted_round, is_wrong, no_rounds, rounds_counted, wrong_in};
 
-use sha2::{Digest as _, Sha256};
 use suit_edge::Launch;
+use suit_params::{Digest, hash};
 
 /// How the update of a round ended.
 #[derive(Clone, Copy, Debug, PartialEq, Eq)]
@@ -54,9 +54,15 @@ impl Tally {
 fn is_wrong(launch: &Launch) -> bool
     ensures { result ≡ is_wrong launch.now }
 {
-    match &launch.digest {
+    let Some(bytes) = &launch.digest else {
+        return true;
+    };
+    match Digest::from_bytes(bytes.as_slice()) {
         None => true,
-        Some(digest) => Sha256::digest(launch.bytes.as_slice()).as_slice() != digest.as_slice(),
+        Some(digest) => {
+            let found = hash(digest.kind(), launch.bytes.as_slice());
+            found.bytes() != digest.bytes()
+        }
     }
 }
 

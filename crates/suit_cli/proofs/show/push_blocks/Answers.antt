@@ -1,4 +1,5 @@
 use Rattle.std.proofs.Common.{◌<◌, ap, ◌∙◌, ◌++◌, List, ℕ, length, arith}
+use Rattle.suit_params.specs.declared.digest.Digest.{Digest}
 use Rattle.suit_envelope.specs.WrapperParts.{WrapperSays}
 use Rattle.suit_cli.specs.Texts.{block_line}
 use Rattle.suit_cli.proofs.BlockLoop.{walks_on, walk_finds, goes_on, goes_end}
@@ -7,7 +8,7 @@ use Rattle.suit_cli.proofs.show.push_blocks.Goals as goal
 pub loop-number-preserved : goal.loop-number-preserved
 loop-number-preserved c =
     let wrapper = c.args.envelope.now.wrapper.now in
-    let within : (digest : List ℕ) (all : List (List ℕ)) → WrapperSays wrapper digest all → c.loop-number.number < length all =
+    let within : (digest : Digest) (all : List (List ℕ)) → WrapperSays wrapper digest all → c.loop-number.number < length all =
     λ digest all says. omega (arith, c.blocks-number-end.ensures digest all says, c.loop-number-test.true) in
     let line = c.in_ok-push_str.ensures.ok ∙ ap (λ (l : List ℕ). c.loop-number.text ++ l) (c.as_str.ensures.value ∙ c.in_ok-line.ensures ∙ ap (block_line c.loop-number.number) c.kind_text.ensures) in (
       walks_on wrapper c.loop-number.number c.loop-number.rest c.next_block.new.self c.loop-number.invariant.0 c.in-Some.ensures.rest within,
