@@ -2,6 +2,8 @@
 that are dear in each, at each place where states are kept: outside inner sequences, inside one, in a loop over components, in a
 branch, and before a member that follows. Each is filled up to the width that is judged and to the length of a manifest."""
 
+import hashlib
+
 from drawn import digest
 from inputs import byte_string, head, parts_of
 
@@ -122,7 +124,7 @@ TAILS = {
     "runs": lambda n: [run(size(n))],
     "tries": lambda n: [tries([size(n)], None)],
     "runs of an index": lambda n: [nested(run, 5)],
-    "tries of an index": lambda n: [nested(lambda one: tries([one]), 5)],
+    "tries of an index": lambda n: [nested(lambda one: tries([one], None), 5)],
     "runs of a write": lambda n: [override((18, byte_string(bytes([n % 256])))), *[run(("act", b"\x12\x0f"))] * 8],
 }
 
@@ -268,18 +270,91 @@ def alike_but_last(length, count):
     return start + [run(tries(*branches, None), run(MATCH)), index(0)]
 
 
+def runs_in_states(forks, count):
+    """Sequences of a selection alone, in the states behind so many forks in a sequence, with all parameters in force at eight components."""
+    start = [("index", b"\x0c\xf5", 8), override((14, b"\x00"), *ALL_KEYS), index(0)]
+    return start + [run(*map(fork_by_size, range(forks)), *[run(index(0))] * count)]
+
+
 def together(length, count):
     """So many overrides of a content of such a length, one after another, in a loop."""
     return looped((100, 100, 400 // (count + 1)), [content(number, length) for number in range(count)])
 
 
-def enclosed(stored, commands, is_wanted, count):
-    """They are in the validate member where the states behind them are wanted, else in the invoke member."""
+# ---- what is made by reading the body: failures that the width does not count, bytes that no bound on comparison counts, and states
+# that share nothing with the one before them
+
+def pairs_of(count, first=0):
+    return [command for number in range(first, first + count) for command in (size(number), MATCH)]
+
+
+def in_a_last_branch(forks, count):
+    """A try without a null branch, in whose last branch so many matches may fail in each of the states behind so many forks in the
+    first. The width counts in how many ways it completes, and such a failure completes none."""
+    return [tries([*map(fork_by_size, range(forks)), MATCH], pairs_of(count))]
+
+
+def fork_by_a_cell(number):
+    """Another parameter in force behind each, so that no state has the parameters of the one before it."""
+    ids = [(key, byte_string(bytes([number]) * 16)) for key in (1, 2, 24)]
+    one = byte_string(bytes([number]))
+    pair = [(5, head(0, number)), (18, one), (23, one), (21, b"\x61" + bytes([65 + number])), *ids][number % 7]
+    return tries([override((14, head(0, 100 + number)), pair), MATCH], None)
+
+
+def cells_in_a_run(forks, writes=0):
+    return [content(7, 1), run(*map(fork_by_a_cell, range(forks)), *[WRITE] * writes)]
+
+
+def invokes_at_eight():
+    """Invokes of eight components in turn, each under a digest of 64 bytes of its own, done 4,000,000 times."""
+    digests = [byte_string(b"\x82\x38\x2b" + byte_string(bytes([number]) * 64)) for number in range(8)]
+    matches = [command for number in range(8) for command in (index(number), override((3, digests[number]), (14, head(0, number))), MATCH)]
+    return matches + [turns(100), run(turns(50), run(("index", b"\x0c\xf5", 8), *[INVOKE] * 103)), index(0)]
+
+
+def tries_in_states(forks, count):
+    """So many selections, each inside five tries, in the states behind so many forks in a sequence."""
+    return [run(*map(fork_by_size, range(forks)), *[nested(lambda one: tries([one], None), 5)] * count)]
+
+
+def of_long_contents(length, ways):
+    """So many times so many times so many states in a sequence that differ in the last component alone, in a content, a URI and
+    arguments of equal length, where so long a content is in force at the other seven."""
+    kinds = ((18, byte_string), (21, lambda text: head(3, 2) + text), (23, byte_string))
+    each = [tries(*[[override((key, spell(b"a" + bytes([97 + number])))), MATCH] for number in range(ways)], None) for key, spell in kinds]
+    return [("index", b"\x0c\xf5", 8), content(7, length), index(7), override((3, digest(IMAGE))), MATCH, run(*each, run(MATCH)), index(0)]
+
+
+def common_of(count):
     ids = b"".join(b"\x81\x41" + bytes([number]) for number in range(count))
     start = spelled([override((3, digest(IMAGE)))])
     common = head(5, 2) + b"\x02" + head(4, count) + ids + b"\x04" + byte_string(start)
-    end = [index(0), size(3), override((3, digest(IMAGE))), MATCH, ("act", b"\x17\x0f")]
-    pairs = [b"\x01\x01", b"\x02\x01", b"\x03" + byte_string(common)]
+    return [b"\x01\x01", b"\x02\x01", b"\x03" + byte_string(common)]
+
+
+def judged_twice(stored, commands, count):
+    """They are in the validate member with an invoke behind them, which both procedures run."""
+    pairs = common_of(count) + [b"\x07" + byte_string(spelled(commands + ending()))]
+    manifest = head(5, len(pairs)) + b"".join(pairs)
+    return bytes.fromhex("d86b") + head(5, 2) + parts_of(stored)[0] + b"\x03" + byte_string(manifest)
+
+
+def ending():
+    return [index(0), size(3), override((3, digest(IMAGE))), MATCH, INVOKE]
+
+
+def severed(stored, commands, count):
+    """They are in a severed install member with an invoke behind them. It may be as long as the file."""
+    member = byte_string(spelled(commands + ending()))
+    pairs = common_of(count) + [b"\x14\x82\x2f" + byte_string(hashlib.sha256(member).digest())]
+    manifest = head(5, len(pairs)) + b"".join(pairs)
+    return bytes.fromhex("d86b") + head(5, 3) + parts_of(stored)[0] + b"\x03" + byte_string(manifest) + b"\x14" + member
+
+
+def enclosed(stored, commands, is_wanted, count):
+    """They are in the validate member where the states behind them are wanted, else in the invoke member."""
+    pairs, end = common_of(count), ending()
     if is_wanted:
         pairs += [b"\x07" + byte_string(spelled(commands)), b"\x09" + byte_string(spelled(end))]
     else:
@@ -310,8 +385,20 @@ def dear(stored):
     yield "matches under 120,000 pairs of a digest and a size, 14 times each", enclosed(stored, many_pairs(150, 800, 14), False, 2)
     for length, count in ((4_000, 3), (3_900, 4), (1_900, 8), (300, 9)):
         yield "%d overrides of %d bytes, one after another, in a loop" % (count, length), enclosed(stored, together(length, count), False, 2)
+    yield "200 sequences of a selection alone in 8,192 states", enclosed(stored, runs_in_states(13, 200), False, 8)
     yield "500 states that differ in the last of their parameters", enclosed(stored, alike_but_last(6_000, 500), False, 8)
     for length in (100, 10_000):
         for forks, count in ((13, 200), (14, 70), (15, 4)):
             shows = "a content of %d bytes at 8 components in %d states" % (length, 2**forks)
             yield shows, enclosed(stored, long_contents(length, forks, count), False, 8)
+    for forks, count in ((0, 1_800), (3, 1_000)):
+        shows = "a last branch of %d matches in %d states" % (count, 2**forks)
+        yield shows, enclosed(stored, in_a_last_branch(forks, count), False, 2)
+    for forks, writes in ((16, 0), (14, 200)):
+        shows = "%d states that share no parameters, and %d writes" % (2**forks, writes)
+        yield shows, enclosed(stored, cells_in_a_run(forks, writes), False, 2)
+    yield "invokes at eight components, done 4,000,000 times", enclosed(stored, invokes_at_eight(), False, 8)
+    yield "the same in the validate member", judged_twice(stored, invokes_at_eight(), 8)
+    yield "160 selections, each inside five tries, in 4,096 states", enclosed(stored, tries_in_states(12, 160), False, 8)
+    yield "512 states that differ in the last component alone", enclosed(stored, of_long_contents(13_900, 8), False, 8)
+    yield "100 such states with a content of 900,000 bytes in a severed member", severed(stored, alike_but_last(900_000, 100), 8)
