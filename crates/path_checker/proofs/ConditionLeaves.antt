@@ -19,8 +19,9 @@ use Rattle.path_checker.specs.declared.judge_plan.facts.Knowledge.{Knowledge}
 use Rattle.path_checker.specs.Knowing.{Allows, Learns}
 use Rattle.path_checker.specs.Forking.{Has, HasNo}
 use Rattle.path_checker.specs.Wanting.{wanted_by, TestsOwn}
-use Rattle.path_checker.specs.Exploring.{Course, Kept, Stopped, Adds}
+use Rattle.path_checker.specs.Exploring.{Course, Kept, Stopped, Failures, after_stops, Adds}
 use Rattle.path_checker.specs.Steps.{with_events, knowing, stopped_by}
+use Rattle.path_checker.proofs.Keeping.{after_none}
 use Rattle.path_checker.proofs.Leaves.{Only, Either, Same, Where, Explores-same, Explores-fails, Explores-done, Explores-either, Explores-where}
 
 abbrev pub tests_course : TestKind → ℕ → ℕ → Course
@@ -28,7 +29,7 @@ tests_course kind p c ids = Tests kind ids p c
 
 -- ---- image match
 
-pub Adds-missed : (p c : ℕ) (k : Kept) (ps : Parameters) (n : List Kept) (f f' : List Stopped) → ps ≡ k.state.parameters → None ≡ digest_in ps c → f' ≡ f ++ stopped_by k (Missed c ∷ Failed p ∷ []) p ∷ [] → Adds (tests_course tests.ImageMatch p c) (k ∷ []) n n f f'
+pub Adds-missed : (p c : ℕ) (k : Kept) (ps : Parameters) (n : List Kept) (f f' : Failures) → ps ≡ k.state.parameters → None ≡ digest_in ps c → f' ≡ after_stops f (stopped_by k (Missed c ∷ Failed p ∷ []) p ∷ []) → Adds (tests_course tests.ImageMatch p c) (k ∷ []) n n f f'
 Adds-missed p c k ps n f f' same none pushed =
     let none' : None ≡ digest_in k.state.parameters c = subst (λ (q : Parameters). None ≡ digest_in q c) same none in
     record {
@@ -44,8 +45,8 @@ Adds-missed p c k ps n f f' same none pushed =
           (Explores-fails k (Missed c ∷ Failed p ∷ []) p (tt, (tt, tt)));
     }
 
-pub Adds-matched : (p c : ℕ) (k copied : Kept) (ps : Parameters) (d : Digest) (s : Option ℕ) (n n' : List Kept) (f f' : List Stopped) → ps ≡ k.state.parameters → Some d ≡ digest_in ps c → s ≡ size_in ps c → copied ≡ k → n' ≡ n ++ with_events copied (Matched c d s ∷ []) ∷ []
-    → f' ≡ f ++ stopped_by k (Missed c ∷ Failed p ∷ []) p ∷ [] → Adds (tests_course tests.ImageMatch p c) (k ∷ []) n n' f f'
+pub Adds-matched : (p c : ℕ) (k copied : Kept) (ps : Parameters) (d : Digest) (s : Option ℕ) (n n' : List Kept) (f f' : Failures) → ps ≡ k.state.parameters → Some d ≡ digest_in ps c → s ≡ size_in ps c → copied ≡ k → n' ≡ n ++ with_events copied (Matched c d s ∷ []) ∷ []
+    → f' ≡ after_stops f (stopped_by k (Missed c ∷ Failed p ∷ []) p ∷ []) → Adds (tests_course tests.ImageMatch p c) (k ∷ []) n n' f f'
 Adds-matched p c k copied ps d s n n' f f' same some size copy pushed pushed_stop =
     let some' : Some d ≡ digest_in k.state.parameters c = subst (λ (q : Parameters). Some d ≡ digest_in q c) same some in
     let size' : s ≡ size_in k.state.parameters c = subst (λ (q : Parameters). s ≡ size_in q c) same size in
@@ -80,7 +81,7 @@ missing kind c p k = Only (told kind c false ∷ Failed p ∷ []) (Condition p k
 abbrev pub missed_by : TestKind → ℕ → ℕ → Kept → Stopped
 missed_by kind c p k = stopped_by k (told kind c false ∷ Failed p ∷ []) p
 
-pub Adds-only_missed : (course : Course) (kind : TestKind) (p c : ℕ) (k : Kept) (n : List Kept) (f f' : List Stopped) → Same k (missing kind c p k) course → f' ≡ f ++ missed_by kind c p k ∷ [] → Adds course (k ∷ []) n n f f'
+pub Adds-only_missed : (course : Course) (kind : TestKind) (p c : ℕ) (k : Kept) (n : List Kept) (f f' : Failures) → Same k (missing kind c p k) course → f' ≡ after_stops f (missed_by kind c p k ∷ []) → Adds course (k ∷ []) n n f f'
 Adds-only_missed course kind p c k n f f' same pushed = record {
   done = [];
   failed = missed_by kind c p k ∷ [];
@@ -89,16 +90,16 @@ Adds-only_missed course kind p c k n f f' same pushed = record {
   explores = Explores-same k (missing kind c p k) course [] (missed_by kind c p k ∷ []) same (Explores-fails k (told kind c false ∷ Failed p ∷ []) p (tt, (tt, tt)));
 }
 
-pub Adds-only_passed : (course : Course) (kind : TestKind) (c : ℕ) (k : Kept) (n n' : List Kept) (f : List Stopped) → Same k (passing kind c k) course → n' ≡ n ++ with_events k (told kind c true ∷ []) ∷ [] → Adds course (k ∷ []) n n' f f
+pub Adds-only_passed : (course : Course) (kind : TestKind) (c : ℕ) (k : Kept) (n n' : List Kept) (f : Failures) → Same k (passing kind c k) course → n' ≡ n ++ with_events k (told kind c true ∷ []) ∷ [] → Adds course (k ∷ []) n n' f f
 Adds-only_passed course kind c k n n' f same pushed = record {
   done = with_events k (told kind c true ∷ []) ∷ [];
   failed = [];
   next_is = pushed;
-  failed_is = sym (append-nil f);
+  failed_is = sym (after_none f);
   explores = Explores-same k (passing kind c k) course (with_events k (told kind c true ∷ []) ∷ []) [] same (Explores-done k (told kind c true ∷ []) k.state (tt, tt));
 }
 
-pub Adds-abort : (p c : ℕ) (k : Kept) (f f' : List Stopped) → f' ≡ f ++ missed_by tests.Abort c p k ∷ [] → (n : List Kept) → Adds (tests_course tests.Abort p c) (k ∷ []) n n f f'
+pub Adds-abort : (p c : ℕ) (k : Kept) (f f' : Failures) → f' ≡ after_stops f (missed_by tests.Abort c p k ∷ []) → (n : List Kept) → Adds (tests_course tests.Abort p c) (k ∷ []) n n f f'
 Adds-abort p c k f f' pushed n = Adds-only_missed (tests_course tests.Abort p c) tests.Abort p c k n f f' (record { there = λ ids al es e r. r; back = λ ids al es e r. r }) pushed
 
 -- ---- check content
@@ -107,7 +108,7 @@ none_is : {A : Type 0} (o : Option A) → is_some o ≡ false → None ≡ o
 none_is None e = refl
 none_is (Some x) e = absurd cc
 
-pub Adds-no_content : (p c : ℕ) (k : Kept) (ps : Parameters) (n : List Kept) (f f' : List Stopped) → ps ≡ k.state.parameters → is_some (bytes_of (in_force ps c keys.Content)) ≡ false → f' ≡ f ++ missed_by tests.CheckContent c p k ∷ [] → Adds (tests_course tests.CheckContent p c) (k ∷ []) n n f f'
+pub Adds-no_content : (p c : ℕ) (k : Kept) (ps : Parameters) (n : List Kept) (f f' : Failures) → ps ≡ k.state.parameters → is_some (bytes_of (in_force ps c keys.Content)) ≡ false → f' ≡ after_stops f (missed_by tests.CheckContent c p k ∷ []) → Adds (tests_course tests.CheckContent p c) (k ∷ []) n n f f'
 Adds-no_content p c k ps n f f' same none pushed =
     let none' : None ≡ bytes_of (in_force k.state.parameters c keys.Content) = none_is _ (subst (λ (q : Parameters). is_some (bytes_of (in_force q c keys.Content)) ≡ false) same none) in
     Adds-only_missed (tests_course tests.CheckContent p c) tests.CheckContent p c k n f f'
@@ -121,8 +122,8 @@ content_at : (p c : ℕ) (k : Kept) (o : Option (List ℕ)) → is_some o ≡ tr
 content_at p c k None e = absurd cc
 content_at p c k (Some x) e = record { there = λ ids al es ending r. r; back = λ ids al es ending r. r }
 
-pub Adds-content : (p c : ℕ) (k copied : Kept) (ps : Parameters) (n n' : List Kept) (f f' : List Stopped) → ps ≡ k.state.parameters → is_some (bytes_of (in_force ps c keys.Content)) ≡ true → copied ≡ k → n' ≡ n ++ with_events copied (told tests.CheckContent c true ∷ []) ∷ []
-    → f' ≡ f ++ missed_by tests.CheckContent c p k ∷ [] → Adds (tests_course tests.CheckContent p c) (k ∷ []) n n' f f'
+pub Adds-content : (p c : ℕ) (k copied : Kept) (ps : Parameters) (n n' : List Kept) (f f' : Failures) → ps ≡ k.state.parameters → is_some (bytes_of (in_force ps c keys.Content)) ≡ true → copied ≡ k → n' ≡ n ++ with_events copied (told tests.CheckContent c true ∷ []) ∷ []
+    → f' ≡ after_stops f (missed_by tests.CheckContent c p k ∷ []) → Adds (tests_course tests.CheckContent p c) (k ∷ []) n n' f f'
 Adds-content p c k copied ps n n' f f' same some copy pushed pushed_stop =
     let kind : TestKind = tests.CheckContent in
     let at = content_at p c k (bytes_of (in_force k.state.parameters c keys.Content)) (subst (λ (q : Parameters). is_some (bytes_of (in_force q c keys.Content)) ≡ true) same some) in
@@ -139,7 +140,7 @@ Adds-content p c k copied ps n n' f f' same some copy pushed pushed_stop =
 
 -- ---- identity conditions, by what they ask for
 
-pub Adds-has : (kind : TestKind) (p c : ℕ) (own : Own) (k : Kept) (n n' : List Kept) (f : List Stopped) → ((ids : List Identity) → Allows k.facts ids → Has c own ids) → n' ≡ n ++ with_events k (told kind c true ∷ []) ∷ [] → Adds (TestsOwn kind p c (Some own)) (k ∷ []) n n' f f
+pub Adds-has : (kind : TestKind) (p c : ℕ) (own : Own) (k : Kept) (n n' : List Kept) (f : Failures) → ((ids : List Identity) → Allows k.facts ids → Has c own ids) → n' ≡ n ++ with_events k (told kind c true ∷ []) ∷ [] → Adds (TestsOwn kind p c (Some own)) (k ∷ []) n n' f f
 Adds-has kind p c own k n n' f has pushed = Adds-only_passed (TestsOwn kind p c (Some own)) kind c k n n' f
     (record {
       there = λ ids al es e r. inl (has ids al, r);
@@ -147,7 +148,7 @@ Adds-has kind p c own k n n' f has pushed = Adds-only_passed (TestsOwn kind p c 
     })
     pushed
 
-pub Adds-has_not : (kind : TestKind) (p c : ℕ) (own : Own) (k : Kept) (n : List Kept) (f f' : List Stopped) → ((ids : List Identity) → Allows k.facts ids → HasNo c own ids) → f' ≡ f ++ missed_by kind c p k ∷ [] → Adds (TestsOwn kind p c (Some own)) (k ∷ []) n n f f'
+pub Adds-has_not : (kind : TestKind) (p c : ℕ) (own : Own) (k : Kept) (n : List Kept) (f f' : Failures) → ((ids : List Identity) → Allows k.facts ids → HasNo c own ids) → f' ≡ after_stops f (missed_by kind c p k ∷ []) → Adds (TestsOwn kind p c (Some own)) (k ∷ []) n n f f'
 Adds-has_not kind p c own k n f f' has_not pushed = Adds-only_missed (TestsOwn kind p c (Some own)) kind p c k n f f'
     (record {
       there = λ ids al es e r. inr (has_not ids al, r);
@@ -155,8 +156,8 @@ Adds-has_not kind p c own k n f f' has_not pushed = Adds-only_missed (TestsOwn k
     })
     pushed
 
-pub Adds-either : (kind : TestKind) (p c : ℕ) (own : Own) (k : Kept) (has has_not : List Knowledge) (n n' : List Kept) (f f' : List Stopped) → Learns k.facts has (Has c own) → Learns k.facts has_not (HasNo c own)
-    → n' ≡ n ++ with_events (knowing k has) (told kind c true ∷ []) ∷ [] → f' ≡ f ++ missed_by kind c p (knowing k has_not) ∷ [] → Adds (TestsOwn kind p c (Some own)) (k ∷ []) n n' f f'
+pub Adds-either : (kind : TestKind) (p c : ℕ) (own : Own) (k : Kept) (has has_not : List Knowledge) (n n' : List Kept) (f f' : Failures) → Learns k.facts has (Has c own) → Learns k.facts has_not (HasNo c own)
+    → n' ≡ n ++ with_events (knowing k has) (told kind c true ∷ []) ∷ [] → f' ≡ after_stops f (missed_by kind c p (knowing k has_not) ∷ []) → Adds (TestsOwn kind p c (Some own)) (k ∷ []) n n' f f'
 Adds-either kind p c own k has has_not n n' f f' learns learns_not pushed pushed_stop =
     let there : Kept = with_events (knowing k has) (told kind c true ∷ []) in
     let missed : Stopped = missed_by kind c p (knowing k has_not) in

@@ -1,5 +1,6 @@
 -- Lists that a loop makes, one element for each number.
-use Rattle.std.proofs.Common.{◌≡◌, ◌+◌, ◌≤◌, ℕ, zero, suc, add-one, List, [], ◌∷◌, ◌++◌, refl, sym, ap, ◌∙◌, arith}
+use Rattle.std.proofs.Common.{◌≡◌, ◌+◌, ◌<◌, ◌≤◌, ℕ, zero, suc, add-one, List, [], ◌∷◌, ◌++◌, length, get_or, refl, sym, ap, ◌∙◌, arith}
+use Rattle.std.proofs.lemmas.List.FromFn.{length-range_with_len, get_or-range_with_len}
 use Rattle.std.specs.List.{range_with_len}
 use Rattle.path_checker.specs.declared.judge_plan.facts.Knowledge.{Knowledge}
 use Rattle.path_checker.specs.Knowing.{nothing, nothing_known}
@@ -22,6 +23,18 @@ small_from a (suc n) le = (omega (arith, le), small_from (a + 1) n (omega (arith
 
 pub small_range : (n : ℕ) → n ≤ 8 → AreSmall (range_with_len 0 n)
 small_range n le = small_from 0 n (omega (arith, le))
+
+pub small_at : (cs : List ℕ) (i d : ℕ) → AreSmall cs → i < length cs → get_or cs i d < 8
+small_at [] i d small lt = absurd (omega arith)
+small_at (c ∷ cs) zero d small lt = small.0
+small_at (c ∷ cs) (suc i) d small lt = small_at cs i d small.1 (omega arith)
+
+pub range_at : (n i : ℕ) (xs : List ℕ) → range_with_len 0 n ≡ xs → i < length xs → i ≡ get_or xs i i
+range_at n i xs is lt =
+    let within : i < n = omega (arith, lt, ap length is, length-range_with_len 0 n) in
+    let here : get_or (range_with_len 0 n) i i ≡ 0 + i = get_or-range_with_len 0 n i i within in
+    let zero_on : 0 + i ≡ i = omega arith in
+    sym (ap (λ (ys : List ℕ). get_or ys i i) (sym is) ∙ here ∙ zero_on)
 
 nothing_suc : (n : ℕ) → nothing_known (suc n) ≡ nothing_known n ++ nothing ∷ []
 nothing_suc zero = refl

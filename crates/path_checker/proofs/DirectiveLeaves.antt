@@ -15,8 +15,9 @@ use Rattle.path_model.specs.Behaviour.{State, Ending, Done, Directive}
 use Rattle.path_model.specs.Directives.{Writes, Acts, Overrides, set_events, soft_after, after_override}
 use Rattle.path_model.specs.Safe.{IsCovered, HasMatched}
 use Rattle.path_model.specs.Following.{CoveredFrom}
-use Rattle.path_checker.specs.Exploring.{Course, Kept, Stopped, Uncovers, Adds}
+use Rattle.path_checker.specs.Exploring.{Course, Kept, Failures, Uncovers, Adds}
 use Rattle.path_checker.specs.Steps.{with_events, soft_after_all}
+use Rattle.path_checker.proofs.Keeping.{after_none}
 use Rattle.path_checker.proofs.Leaves.{Only, Either, Same, Explores-same, Explores-done, Explores-ends, Explores-either}
 
 abbrev pub acts_course : ActKind → ℕ → ℕ → Course
@@ -40,22 +41,22 @@ no_writes_at : {A : Type 0} (p : ℕ) (k : Kept) (o : Option A) (written : A →
 no_writes_at p k (Some a) written none = absurd cc
 no_writes_at p k None written none = record { there = λ ids al es e r. r; back = λ ids al es e r. r }
 
-Adds-writing : (course : Course) (p : ℕ) (k : Kept) (events : List Event) (n n' : List Kept) → Same k (writing p k events) course → CoveredFrom k.events events → CoveredFrom k.events (events ++ Failed p ∷ []) → n' ≡ n ++ with_events k events ∷ [] → (f : List Stopped) → Adds course (k ∷ []) n n' f f
+Adds-writing : (course : Course) (p : ℕ) (k : Kept) (events : List Event) (n n' : List Kept) → Same k (writing p k events) course → CoveredFrom k.events events → CoveredFrom k.events (events ++ Failed p ∷ []) → n' ≡ n ++ with_events k events ∷ [] → (f : Failures) → Adds course (k ∷ []) n n' f f
 Adds-writing course p k events n n' same fine fine_failed pushed f = record {
   done = with_events k events ∷ [];
   failed = [];
   next_is = pushed;
-  failed_is = sym (append-nil f);
+  failed_is = sym (after_none f);
   explores = Explores-same k (writing p k events) course (with_events k events ∷ []) [] same
       (Explores-either (Only events (Done k.state)) (Only (events ++ Failed p ∷ []) (Directive p)) k (with_events k events ∷ []) [] [] [] (Explores-done k events k.state fine) (Explores-ends k (events ++ Failed p ∷ []) p fine_failed));
 }
 
-Adds-ended : (course : Course) (p : ℕ) (k : Kept) (n : List Kept) → Same k (Only (Failed p ∷ []) (Directive p)) course → (f : List Stopped) → Adds course (k ∷ []) n n f f
+Adds-ended : (course : Course) (p : ℕ) (k : Kept) (n : List Kept) → Same k (Only (Failed p ∷ []) (Directive p)) course → (f : Failures) → Adds course (k ∷ []) n n f f
 Adds-ended course p k n same f = record {
   done = [];
   failed = [];
   next_is = sym (append-nil n);
-  failed_is = sym (append-nil f);
+  failed_is = sym (after_none f);
   explores = Explores-same k (Only (Failed p ∷ []) (Directive p)) course [] [] same (Explores-ends k (Failed p ∷ []) p (tt, tt));
 }
 
@@ -63,35 +64,35 @@ Adds-ended course p k n same f = record {
 abbrev writes_bytes : ParamKey → ℕ → ℕ → Kept → Course
 writes_bytes key p c k ids s = Writes p (bytes_of (in_force k.state.parameters c key)) (λ bytes. Wrote c ∷ []) k.state
 
-Adds-bytes : (course : Course) (key : ParamKey) (p c : ℕ) (k : Kept) (ps : Parameters) (n n' : List Kept) → Same k (writes_bytes key p c k) course → ps ≡ k.state.parameters → is_some (bytes_of (in_force ps c key)) ≡ true → n' ≡ n ++ with_events k (Wrote c ∷ []) ∷ [] → (f : List Stopped) → Adds course (k ∷ []) n n' f f
+Adds-bytes : (course : Course) (key : ParamKey) (p c : ℕ) (k : Kept) (ps : Parameters) (n n' : List Kept) → Same k (writes_bytes key p c k) course → ps ≡ k.state.parameters → is_some (bytes_of (in_force ps c key)) ≡ true → n' ≡ n ++ with_events k (Wrote c ∷ []) ∷ [] → (f : Failures) → Adds course (k ∷ []) n n' f f
 Adds-bytes course key p c k ps n n' is same some pushed =
     let s = writes_at p k (bytes_of (in_force k.state.parameters c key)) (λ bytes. Wrote c ∷ []) (Wrote c ∷ []) (subst (λ (q : Parameters). is_some (bytes_of (in_force q c key)) ≡ true) same some) (λ a e. refl) in
     Adds-writing course p k (Wrote c ∷ []) n n' (record { there = λ ids al es e r. is.there ids al es e (s.there ids al es e r); back = λ ids al es e r. s.back ids al es e (is.back ids al es e r) }) (tt, tt) (tt, (tt, tt)) pushed
 
-Adds-no_bytes : (course : Course) (key : ParamKey) (p c : ℕ) (k : Kept) (ps : Parameters) (n : List Kept) → Same k (writes_bytes key p c k) course → ps ≡ k.state.parameters → is_some (bytes_of (in_force ps c key)) ≡ false → (f : List Stopped) → Adds course (k ∷ []) n n f f
+Adds-no_bytes : (course : Course) (key : ParamKey) (p c : ℕ) (k : Kept) (ps : Parameters) (n : List Kept) → Same k (writes_bytes key p c k) course → ps ≡ k.state.parameters → is_some (bytes_of (in_force ps c key)) ≡ false → (f : Failures) → Adds course (k ∷ []) n n f f
 Adds-no_bytes course key p c k ps n is same none =
     let s = no_writes_at p k (bytes_of (in_force k.state.parameters c key)) (λ bytes. Wrote c ∷ []) (subst (λ (q : Parameters). is_some (bytes_of (in_force q c key)) ≡ false) same none) in
     Adds-ended course p k n (record { there = λ ids al es e r. is.there ids al es e (s.there ids al es e r); back = λ ids al es e r. s.back ids al es e (is.back ids al es e r) })
 
-pub Adds-write : (p c : ℕ) (k : Kept) (ps : Parameters) (n n' : List Kept) → ps ≡ k.state.parameters → is_some (bytes_of (in_force ps c keys.Content)) ≡ true → n' ≡ n ++ with_events k (Wrote c ∷ []) ∷ [] → (f : List Stopped) → Adds (acts_course acts.Write p c) (k ∷ []) n n' f f
+pub Adds-write : (p c : ℕ) (k : Kept) (ps : Parameters) (n n' : List Kept) → ps ≡ k.state.parameters → is_some (bytes_of (in_force ps c keys.Content)) ≡ true → n' ≡ n ++ with_events k (Wrote c ∷ []) ∷ [] → (f : Failures) → Adds (acts_course acts.Write p c) (k ∷ []) n n' f f
 Adds-write p c k ps n n' = Adds-bytes (acts_course acts.Write p c) keys.Content p c k ps n n' (record { there = λ ids al es e r. r; back = λ ids al es e r. r })
 
-pub Adds-no_write : (p c : ℕ) (k : Kept) (ps : Parameters) (n : List Kept) → ps ≡ k.state.parameters → is_some (bytes_of (in_force ps c keys.Content)) ≡ false → (f : List Stopped) → Adds (acts_course acts.Write p c) (k ∷ []) n n f f
+pub Adds-no_write : (p c : ℕ) (k : Kept) (ps : Parameters) (n : List Kept) → ps ≡ k.state.parameters → is_some (bytes_of (in_force ps c keys.Content)) ≡ false → (f : Failures) → Adds (acts_course acts.Write p c) (k ∷ []) n n f f
 Adds-no_write p c k ps n = Adds-no_bytes (acts_course acts.Write p c) keys.Content p c k ps n (record { there = λ ids al es e r. r; back = λ ids al es e r. r })
 
-pub Adds-fetch : (p c : ℕ) (k : Kept) (ps : Parameters) (n n' : List Kept) → ps ≡ k.state.parameters → is_some (bytes_of (in_force ps c keys.Uri)) ≡ true → n' ≡ n ++ with_events k (Wrote c ∷ []) ∷ [] → (f : List Stopped) → Adds (acts_course acts.Fetch p c) (k ∷ []) n n' f f
+pub Adds-fetch : (p c : ℕ) (k : Kept) (ps : Parameters) (n n' : List Kept) → ps ≡ k.state.parameters → is_some (bytes_of (in_force ps c keys.Uri)) ≡ true → n' ≡ n ++ with_events k (Wrote c ∷ []) ∷ [] → (f : Failures) → Adds (acts_course acts.Fetch p c) (k ∷ []) n n' f f
 Adds-fetch p c k ps n n' = Adds-bytes (acts_course acts.Fetch p c) keys.Uri p c k ps n n' (record { there = λ ids al es e r. r; back = λ ids al es e r. r })
 
-pub Adds-no_fetch : (p c : ℕ) (k : Kept) (ps : Parameters) (n : List Kept) → ps ≡ k.state.parameters → is_some (bytes_of (in_force ps c keys.Uri)) ≡ false → (f : List Stopped) → Adds (acts_course acts.Fetch p c) (k ∷ []) n n f f
+pub Adds-no_fetch : (p c : ℕ) (k : Kept) (ps : Parameters) (n : List Kept) → ps ≡ k.state.parameters → is_some (bytes_of (in_force ps c keys.Uri)) ≡ false → (f : Failures) → Adds (acts_course acts.Fetch p c) (k ∷ []) n n f f
 Adds-no_fetch p c k ps n = Adds-no_bytes (acts_course acts.Fetch p c) keys.Uri p c k ps n (record { there = λ ids al es e r. r; back = λ ids al es e r. r })
 
-pub Adds-copy : (p c source : ℕ) (k : Kept) (ps : Parameters) (n n' : List Kept) → ps ≡ k.state.parameters → Some source ≡ number_of (in_force ps c keys.Source) → n' ≡ n ++ with_events k (Wrote c ∷ []) ∷ [] → (f : List Stopped) → Adds (acts_course acts.Copy p c) (k ∷ []) n n' f f
+pub Adds-copy : (p c source : ℕ) (k : Kept) (ps : Parameters) (n n' : List Kept) → ps ≡ k.state.parameters → Some source ≡ number_of (in_force ps c keys.Source) → n' ≡ n ++ with_events k (Wrote c ∷ []) ∷ [] → (f : Failures) → Adds (acts_course acts.Copy p c) (k ∷ []) n n' f f
 Adds-copy p c source k ps n n' same some pushed =
     let some' : Some source ≡ number_of (in_force k.state.parameters c keys.Source) = subst (λ (q : Parameters). Some source ≡ number_of (in_force q c keys.Source)) same some in
     let s = writes_at p k (number_of (in_force k.state.parameters c keys.Source)) (λ source. Wrote c ∷ []) (Wrote c ∷ []) (subst (λ (o : Option ℕ). is_some o ≡ true) some' refl) (λ a e. refl) in
     Adds-writing (acts_course acts.Copy p c) p k (Wrote c ∷ []) n n' (record { there = s.there; back = s.back }) (tt, tt) (tt, (tt, tt)) pushed
 
-pub Adds-no_copy : (p c : ℕ) (k : Kept) (ps : Parameters) (n : List Kept) → ps ≡ k.state.parameters → None ≡ number_of (in_force ps c keys.Source) → (f : List Stopped) → Adds (acts_course acts.Copy p c) (k ∷ []) n n f f
+pub Adds-no_copy : (p c : ℕ) (k : Kept) (ps : Parameters) (n : List Kept) → ps ≡ k.state.parameters → None ≡ number_of (in_force ps c keys.Source) → (f : Failures) → Adds (acts_course acts.Copy p c) (k ∷ []) n n f f
 Adds-no_copy p c k ps n same none =
     let none' : None ≡ number_of (in_force k.state.parameters c keys.Source) = subst (λ (q : Parameters). None ≡ number_of (in_force q c keys.Source)) same none in
     let s = no_writes_at p k (number_of (in_force k.state.parameters c keys.Source)) (λ source. Wrote c ∷ []) (subst (λ (o : Option ℕ). is_some o ≡ false) none' refl) in
@@ -101,7 +102,7 @@ same_number : (a b : ℕ) → ◌≡◌ {A = Option ℕ} (Some a) (Some b) → a
 same_number a b e = cc
 
 pub Adds-swap : (p c source : ℕ) (k : Kept) (ps : Parameters) (n n' : List Kept) → ps ≡ k.state.parameters → Some source ≡ number_of (in_force ps c keys.Source) → n' ≡ n ++ with_events k (Wrote c ∷ Wrote source ∷ []) ∷ []
-    → (f : List Stopped) → Adds (acts_course acts.Swap p c) (k ∷ []) n n' f f
+    → (f : Failures) → Adds (acts_course acts.Swap p c) (k ∷ []) n n' f f
 Adds-swap p c source k ps n n' same some pushed =
     let both : List Event = Wrote c ∷ Wrote source ∷ [] in
     let some' : Some source ≡ number_of (in_force k.state.parameters c keys.Source) = subst (λ (q : Parameters). Some source ≡ number_of (in_force q c keys.Source)) same some in
@@ -110,7 +111,7 @@ Adds-swap p c source k ps n n' same some pushed =
     in
     Adds-writing (acts_course acts.Swap p c) p k both n n' (record { there = s.there; back = s.back }) (tt, (tt, tt)) (tt, (tt, (tt, tt))) pushed
 
-pub Adds-no_swap : (p c : ℕ) (k : Kept) (ps : Parameters) (n : List Kept) → ps ≡ k.state.parameters → None ≡ number_of (in_force ps c keys.Source) → (f : List Stopped) → Adds (acts_course acts.Swap p c) (k ∷ []) n n f f
+pub Adds-no_swap : (p c : ℕ) (k : Kept) (ps : Parameters) (n : List Kept) → ps ≡ k.state.parameters → None ≡ number_of (in_force ps c keys.Source) → (f : Failures) → Adds (acts_course acts.Swap p c) (k ∷ []) n n f f
 Adds-no_swap p c k ps n same none =
     let none' : None ≡ number_of (in_force k.state.parameters c keys.Source) = subst (λ (q : Parameters). None ≡ number_of (in_force q c keys.Source)) same none in
     let s = no_writes_at p k (number_of (in_force k.state.parameters c keys.Source)) (λ source. Wrote c ∷ Wrote source ∷ []) (subst (λ (o : Option ℕ). is_some o ≡ false) none' refl) in
@@ -122,7 +123,7 @@ abbrev InvokesAs : ℕ → ℕ → Option Digest → Option ℕ → State → Li
 InvokesAs p c o z s es e = ((es ≡ Invoked c o z true ∷ []) × (e ≡ Done s)) ⊎ ((es ≡ Invoked c o z false ∷ Failed p ∷ []) × (e ≡ Directive p))
 
 pub Adds-invoke : (p c : ℕ) (k to : Kept) (ps : Parameters) (d : Digest) (s : Option ℕ) (n n' : List Kept) → ps ≡ k.state.parameters → Some d ≡ digest_in ps c → s ≡ size_in ps c → HasMatched k.events c d s → to ≡ with_events k (Invoked c (Some d) s true ∷ []) → n' ≡ n ++ to ∷ []
-    → (f : List Stopped) → Adds (acts_course acts.Invoke p c) (k ∷ []) n n' f f
+    → (f : Failures) → Adds (acts_course acts.Invoke p c) (k ∷ []) n n' f f
 Adds-invoke p c k to ps d s n n' same some size matched is pushed f =
     let d-is : Some d ≡ digest_in k.state.parameters c = subst (λ (q : Parameters). Some d ≡ digest_in q c) same some in
     let s-is : s ≡ size_in k.state.parameters c = subst (λ (q : Parameters). s ≡ size_in q c) same size in
@@ -132,7 +133,7 @@ Adds-invoke p c k to ps d s n n' same some size matched is pushed f =
       done = with_events k ok ∷ [];
       failed = [];
       next_is = subst (λ (x : Kept). n' ≡ n ++ x ∷ []) is pushed;
-      failed_is = sym (append-nil f);
+      failed_is = sym (after_none f);
       explores = Explores-same k (Either (Only ok (Done k.state)) (Only bad (Directive p))) (acts_course acts.Invoke p c) (with_events k ok ∷ []) []
           (record {
             there = λ ids al es e r. subst (λ (o : Option Digest). InvokesAs p c o (size_in k.state.parameters c) k.state es e) d-is (subst (λ (z : Option ℕ). InvokesAs p c (Some d) z k.state es e) s-is r);
@@ -171,7 +172,7 @@ override_is s c [] = refl
 override_is s c (p ∷ ps) = override_is (record { parameters = with_param s.parameters c p; selection = s.selection; soft_failure = soft_after s.soft_failure p }) c ps
 
 pub Adds-overrides : (list : List Param) (c : ℕ) (k to : Kept) (n n' : List Kept) → to ≡ record { facts = k.facts; events = k.events ++ set_events c list; state = record { parameters = overridden k.state.parameters c list; selection = k.state.selection; soft_failure = soft_after_all k.state.soft_failure list } }
-    → n' ≡ n ++ to ∷ [] → (f : List Stopped) → Adds (λ ids. Overrides list c) (k ∷ []) n n' f f
+    → n' ≡ n ++ to ∷ [] → (f : Failures) → Adds (λ ids. Overrides list c) (k ∷ []) n n' f f
 Adds-overrides list c k to n n' is pushed f =
     let made : Kept = record { facts = k.facts; events = k.events ++ set_events c list; state = after_override k.state c list } in
     let same : to ≡ made = is ∙ ap (λ (s : State). record { facts = k.facts; events = k.events ++ set_events c list; state = s }) (sym (override_is k.state c list)) in
@@ -179,7 +180,7 @@ Adds-overrides list c k to n n' is pushed f =
       done = made ∷ [];
       failed = [];
       next_is = subst (λ (x : Kept). n' ≡ n ++ x ∷ []) same pushed;
-      failed_is = sym (append-nil f);
+      failed_is = sym (after_none f);
       explores = Explores-same k (Only (set_events c list) (Done (after_override k.state c list))) (λ ids. Overrides list c) (made ∷ []) [] (record { there = λ ids al es e r. r; back = λ ids al es e r. r })
           (Explores-done k (set_events c list) (after_override k.state c list) (sets_fine k.events c list));
     }

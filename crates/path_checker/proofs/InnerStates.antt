@@ -38,12 +38,12 @@ restarted-from to (x ∷ ks) (inr h) = let y = restarted-from to ks h in (y.0, i
 -- ---- failures, each of which gives some
 
 module _ {B : Type 0} (pick : Stopped → List B) (all : List Stopped → List B) (none : all [] ≡ []) (step : (x : Stopped) (fs : List Stopped) → all (x ∷ fs) ≡ pick x ++ all fs) (to : B) where
-  In-picked : (f : Stopped) → In to (pick f) → (fs : List Stopped) → In f fs → In to (all fs)
+  pub In-picked : (f : Stopped) → In to (pick f) → (fs : List Stopped) → In f fs → In to (all fs)
   In-picked f here [] h = absurd h
   In-picked f here (x ∷ fs) (inl p) = subst (In to) (sym (step x fs)) (In-left to (pick x) (all fs) (subst (λ (y : Stopped). In to (pick y)) (sym p) here))
   In-picked f here (x ∷ fs) (inr h) = subst (In to) (sym (step x fs)) (In-right to (pick x) (all fs) (In-picked f here fs h))
 
-  picked-from : (fs : List Stopped) → In to (all fs) → (f : Stopped) × In f fs × In to (pick f)
+  pub picked-from : (fs : List Stopped) → In to (all fs) → (f : Stopped) × In f fs × In to (pick f)
   picked-from [] h = absurd (subst (In to) none h)
   picked-from (x ∷ fs) h =
       elim (In-cases to (pick x) (all fs) (subst (In to) (step x fs) h)) [

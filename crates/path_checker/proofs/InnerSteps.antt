@@ -2,8 +2,9 @@
 use Rattle.std.proofs.Common.{◌≡◌, ℕ, Bool, true, false, List, [], ◌∷◌, ◌++◌, refl, sym, ap, ◌∙◌, append_assoc}
 use Rattle.std.proofs.lemmas.List.{append-nil}
 use Rattle.path_model.specs.Behaviour.{State}
-use Rattle.path_checker.specs.Exploring.{Kept, Stopped}
+use Rattle.path_checker.specs.Exploring.{Kept, Stopped, Failures, after_stops}
 use Rattle.path_checker.specs.Inner.{entered, all_entered, left, all_left, resumed, hardened, if_soft, if_hard, softly, hardly, exhausted_at, exhausted, restarted, all_restarted}
+use Rattle.path_checker.proofs.Keeping.{after_none, after_both}
 
 added : {A : Type 0} (n0 n n' front back : List A) → n ≡ n0 ++ front → n' ≡ n ++ back → n' ≡ n0 ++ (front ++ back)
 added {A} n0 n n' front back p q = q ∙ ap (λ (x : List A). x ++ back) p ∙ append_assoc n0 front back
@@ -36,9 +37,9 @@ exhausted-push : (s : State) (p : ℕ) (ks : List Kept) (k : Kept) → exhausted
 exhausted-push s p [] k = refl
 exhausted-push s p (x ∷ ks) k = ap (λ (ys : List Stopped). exhausted_at s p x ∷ ys) (exhausted-push s p ks k)
 
-pub exhausted_step : (s : State) (p : ℕ) (n0 n n' : List Stopped) (ys : List Kept) (k : Kept) (made : Stopped) → n ≡ n0 ++ exhausted s p ys → n' ≡ n ++ made ∷ [] → made ≡ exhausted_at s p k → n' ≡ n0 ++ exhausted s p (ys ++ k ∷ [])
+pub exhausted_step : (s : State) (p : ℕ) (n0 n n' : Failures) (ys : List Kept) (k : Kept) (made : Stopped) → n ≡ after_stops n0 (exhausted s p ys) → n' ≡ after_stops n (made ∷ []) → made ≡ exhausted_at s p k → n' ≡ after_stops n0 (exhausted s p (ys ++ k ∷ []))
 exhausted_step s p n0 n n' ys k made so_far pushed is =
-    added n0 n n' (exhausted s p ys) (made ∷ []) so_far pushed ∙ ap (λ (x : Stopped). n0 ++ (exhausted s p ys ++ x ∷ [])) is ∙ ap (λ (x : List Stopped). n0 ++ x) (sym (exhausted-push s p ys k))
+    after_both n0 n n' (exhausted s p ys) (made ∷ []) so_far pushed ∙ ap (λ (x : Stopped). after_stops n0 (exhausted s p ys ++ x ∷ [])) is ∙ ap (after_stops n0) (sym (exhausted-push s p ys k))
 
 softly-push : (s : State) (fs : List Stopped) (f : Stopped) → softly s (fs ++ f ∷ []) ≡ softly s fs ++ if_soft s f f.soft_failure
 softly-push s [] f = append-nil (if_soft s f f.soft_failure)
@@ -53,8 +54,8 @@ hardly-push s (x ∷ fs) f = ap (λ (ys : List Stopped). if_hard s x x.soft_fail
 pub softly_next : (s : State) (n0 n n' : List Kept) (ys : List Stopped) (f : Stopped) → n ≡ n0 ++ softly s ys → n' ≡ n ++ if_soft s f f.soft_failure → n' ≡ n0 ++ softly s (ys ++ f ∷ [])
 softly_next s n0 n n' ys f so_far pushed = added n0 n n' (softly s ys) (if_soft s f f.soft_failure) so_far pushed ∙ ap (λ (x : List Kept). n0 ++ x) (sym (softly-push s ys f))
 
-pub hardly_next : (s : State) (n0 n n' ys : List Stopped) (f : Stopped) → n ≡ n0 ++ hardly s ys → n' ≡ n ++ if_hard s f f.soft_failure → n' ≡ n0 ++ hardly s (ys ++ f ∷ [])
-hardly_next s n0 n n' ys f so_far pushed = added n0 n n' (hardly s ys) (if_hard s f f.soft_failure) so_far pushed ∙ ap (λ (x : List Stopped). n0 ++ x) (sym (hardly-push s ys f))
+pub hardly_next : (s : State) (n0 n n' : Failures) (ys : List Stopped) (f : Stopped) → n ≡ after_stops n0 (hardly s ys) → n' ≡ after_stops n (if_hard s f f.soft_failure) → n' ≡ after_stops n0 (hardly s (ys ++ f ∷ []))
+hardly_next s n0 n n' ys f so_far pushed = after_both n0 n n' (hardly s ys) (if_hard s f f.soft_failure) so_far pushed ∙ ap (after_stops n0) (sym (hardly-push s ys f))
 
 pub soft_more : (s : State) (n n' : List Kept) (f : Stopped) (made : Kept) → f.soft_failure ≡ true → made ≡ resumed s f → n' ≡ n ++ made ∷ [] → n' ≡ n ++ if_soft s f f.soft_failure
 soft_more s n n' f made soft is pushed = pushed ∙ ap (λ (x : Kept). n ++ x ∷ []) is ∙ ap (λ (b : Bool). n ++ if_soft s f b) (sym soft)
@@ -62,8 +63,8 @@ soft_more s n n' f made soft is pushed = pushed ∙ ap (λ (x : Kept). n ++ x �
 pub soft_same : (s : State) (n : List Kept) (f : Stopped) → f.soft_failure ≡ false → n ≡ n ++ if_soft s f f.soft_failure
 soft_same s n f hard = sym (append-nil n) ∙ ap (λ (b : Bool). n ++ if_soft s f b) (sym hard)
 
-pub hard_more : (s : State) (n n' : List Stopped) (f made : Stopped) → f.soft_failure ≡ false → made ≡ hardened s f → n' ≡ n ++ made ∷ [] → n' ≡ n ++ if_hard s f f.soft_failure
-hard_more s n n' f made hard is pushed = pushed ∙ ap (λ (x : Stopped). n ++ x ∷ []) is ∙ ap (λ (b : Bool). n ++ if_hard s f b) (sym hard)
+pub hard_more : (s : State) (n n' : Failures) (f made : Stopped) → f.soft_failure ≡ false → made ≡ hardened s f → n' ≡ after_stops n (made ∷ []) → n' ≡ after_stops n (if_hard s f f.soft_failure)
+hard_more s n n' f made hard is pushed = pushed ∙ ap (λ (x : Stopped). after_stops n (x ∷ [])) is ∙ ap (λ (b : Bool). after_stops n (if_hard s f b)) (sym hard)
 
-pub hard_same : (s : State) (n : List Stopped) (f : Stopped) → f.soft_failure ≡ true → n ≡ n ++ if_hard s f f.soft_failure
-hard_same s n f soft = sym (append-nil n) ∙ ap (λ (b : Bool). n ++ if_hard s f b) (sym soft)
+pub hard_same : (s : State) (n : Failures) (f : Stopped) → f.soft_failure ≡ true → n ≡ after_stops n (if_hard s f f.soft_failure)
+hard_same s n f soft = sym (after_none n) ∙ ap (λ (b : Bool). after_stops n (if_hard s f b)) (sym soft)

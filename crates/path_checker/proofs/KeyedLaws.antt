@@ -1,5 +1,5 @@
 -- Each parameter in force stands under its own key, after overrides too.
-use Rattle.std.proofs.Common.{◌≡◌, ◌<◌, ℕ, Bool, List, [], ◌∷◌, length, Option, Some, None, Result, Ok, Err, OnOk, OnErr, refl, sym, ap, ◌∙◌, subst, ⊎_elim}
+use Rattle.std.proofs.Common.{◌≡◌, ◌<◌, ℕ, Bool, List, [], ◌∷◌, length, Option, Some, None, refl, sym, ap, ◌∙◌, subst, ⊎_elim}
 use Rattle.std.specs.Prelude.{◌==◌, if◌then◌else◌}
 use Rattle.std.proofs.lemmas.Bool.Decides.{eqb_tells}
 use Rattle.std.proofs.lemmas.Option.{same_Some}
@@ -42,11 +42,6 @@ keyed_overridden stays before after c list old exact is = record {
       (λ h. old.keyed other key p low (subst (λ (b : Bool). (if b then last_of list key (in_force before c key) else in_force before other key) ≡ Some p) h.0 at))
       (eqb_tells other c);
 }
-
--- overridden, or left as they were
-pub keyed_where_overridden : {A E : Type 0} → StaysWhole → (before after : Parameters) (c : ℕ) (list : List Param) (result : Result A E) → IsKeyed before → OnOk result (after ≡ overridden before c list) → OnOk result (IsOverridden before after c list) → OnErr result (after ≡ before) → IsKeyed after
-keyed_where_overridden stays before after c list (Ok x) old exact is same = keyed_overridden stays before after c list old exact is
-keyed_where_overridden stays before after c list (Err e) old exact is same = subst IsKeyed (sym same) old
 
 pub source_only : (param : Param) → key_of param ≡ keys.Source → ((component : ℕ) → param ≡ params.Source component → ⊥) → None ≡ number_of (Some param)
 source_only (params.Vendor id) is other = absurd cc

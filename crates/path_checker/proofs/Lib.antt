@@ -5,6 +5,7 @@ pub mod HeldLaws
 pub mod Exploring
 pub mod Quiet
 pub mod InnerStates
+pub mod Keeping
 pub mod InnerSequences
 pub mod OneBranch
 pub mod Uncovering
@@ -22,6 +23,7 @@ pub mod DirectiveLeaves
 pub mod InnerSteps
 pub mod InPlace
 pub mod KeyedLaws
+pub mod RowLaws
 pub mod Smallness
 pub mod Starting
 pub mod Going
@@ -35,3 +37,4 @@ pub mod StandingLaws
 pub mod Passing
 pub mod OverridesEach
 pub mod Overriding
+pub mod Unconditional

@@ -1,14 +1,15 @@
 -- Explored states stay explored where some states stand for all.
-use Rattle.std.proofs.Common.{◌≡◌, ◌+◌, ◌<◌, ℕ, zero, suc, List, [], ◌∷◌, ◌++◌, length, get_or, take, refl, sym, ap, ◌∙◌, subst, arith, inl, inr}
-use Rattle.std.proofs.lemmas.List.{take_more}
+use Rattle.std.proofs.Common.{◌≡◌, ◌+◌, ◌<◌, ℕ, Bool, zero, suc, List, [], ◌∷◌, ◌++◌, length, get_or, take, refl, sym, ap, ◌∙◌, subst, arith, inl, inr}
+use Rattle.std.proofs.lemmas.List.{take_more, append-nil}
 use Rattle.path_model.specs.declared.identity.Identity.{Identity}
 use Rattle.path_model.specs.declared.event.Event.{Event}
 use Rattle.path_model.specs.Behaviour.{Ending, Done, Condition, Directive}
 use Rattle.path_model.proofs.Following.{same_matches, same_trans}
 use Rattle.path_checker.specs.declared.judge_plan.facts.Knowledge.{Knowledge}
 use Rattle.path_checker.specs.Knowing.{Allows}
-use Rattle.path_checker.specs.Exploring.{Course, In, Kept, Stopped, Found, Explores, Adds}
-use Rattle.path_checker.specs.Merging.{Merges, SameState, SameStop}
+use Rattle.path_checker.specs.Exploring.{Course, In, Kept, Stopped, Found, Explores, Failures, all_kept, Adds}
+use Rattle.path_checker.specs.Merging.{Merges, SameState, SameStop, Settles}
+use Rattle.path_checker.proofs.Keeping.{none_of, all_kept-append, all_kept-those, kept-from, kept-either, all_dropped, dropped-from, dropped-kept}
 use Rattle.path_checker.proofs.Membership.{In-left, In-right, In-cases}
 use Rattle.path_checker.proofs.Walking.{Walks}
 
@@ -101,7 +102,7 @@ Explores-states course from d d' f m x = record {
   stopped = x.stopped;
 }
 
-pub Adds-states : (course : Course) (from n v : List Kept) (f f' : List Stopped) → Adds course from [] n f f' → Merges SameState n v → Adds course from [] v f f'
+pub Adds-states : (course : Course) (from n v : List Kept) (f f' : Failures) → Adds course from [] n f f' → Merges SameState n v → Adds course from [] v f f'
 Adds-states course from n v f f' a m = record {
   done = v;
   failed = a.failed;
@@ -126,16 +127,55 @@ Explores-stops course from d f f' m x = record {
   stopped = λ to i. x.stopped to (m.part to i);
 }
 
-pub Walks-stops_merged : (whole rest : Course) (from now : List Kept) (f f' : List Stopped) → Walks whole from [] rest now f → Merges SameStop f f' → Walks whole from [] rest now f'
-Walks-stops_merged whole rest from now f f' w m = record {
-  added = f';
-  failed_is = refl;
-  carries = record {
-    explores = λ d g y. Explores-stops whole from d (w.added ++ g) (f' ++ g) (Merges-append SameStop w.added f' g same_stop (subst (λ (x : List Stopped). Merges SameStop x f') w.failed_is m)) (w.carries.explores d g y);
-    uncovers = w.carries.uncovers;
-  };
-}
+abbrev failures_of : List Stopped → Bool → Bool → Failures
+failures_of items soft hard = record { items = items; soft = soft; hard = hard }
+
+module _ (soft hard : Bool) (all kept : List Stopped) (m : Merges SameStop (all_kept soft hard all) kept) where
+  -- those that stand for all that are kept, and those that are not
+  abbrev with_dropped : List Stopped
+  with_dropped = kept ++ all_dropped soft hard all
+
+  pub still_kept : all_kept soft hard with_dropped ≡ kept
+  still_kept =
+      all_kept-append soft hard kept (all_dropped soft hard all)
+      ∙ ap (λ (xs : List Stopped). xs ++ all_kept soft hard (all_dropped soft hard all)) (all_kept-those soft hard kept (λ x there. (kept-from soft hard x all (m.part x there)).1))
+      ∙ ap (λ (xs : List Stopped). kept ++ xs) (dropped-kept soft hard all)
+      ∙ append-nil kept
+
+  pub Merges-dropped : Merges SameStop all with_dropped
+  Merges-dropped = record {
+    part = λ x there. elim (In-cases x kept (all_dropped soft hard all) there) [
+      | inl i ↦ (kept-from soft hard x all (m.part x i)).0
+      | inr i ↦ dropped-from soft hard x all i
+    ];
+    each = λ x there. elim (kept-either soft hard x all there) [
+      | inl i ↦ let y = m.each x i in (y.0, In-left y.0 kept (all_dropped soft hard all) y.1, y.2)
+      | inr i ↦ (x, In-right x kept (all_dropped soft hard all) i, same_stop x)
+    ];
+  }
+
+pub Walks-settled : (whole rest : Course) (from now : List Kept) (f0 f f' : Failures) → Walks whole from (none_of f0) rest now f → Settles f f' → Walks whole from (none_of f0) rest now f'
+Walks-settled whole rest from now f0 f f' w settles =
+    let m : Merges SameStop (all_kept f0.soft f0.hard w.added) f'.items = subst (λ (g : Failures). Merges SameStop g.items f'.items) w.failed_is settles.merges in
+    let all : List Stopped = with_dropped f0.soft f0.hard w.added f'.items m in
+    record {
+      added = all;
+      failed_is =
+          ap (λ (b : Bool). failures_of f'.items b f'.hard) (settles.soft ∙ ap (λ (g : Failures). g.soft) w.failed_is)
+          ∙ ap (λ (b : Bool). failures_of f'.items f0.soft b) (settles.hard ∙ ap (λ (g : Failures). g.hard) w.failed_is)
+          ∙ ap (λ (xs : List Stopped). failures_of xs f0.soft f0.hard) (sym (still_kept f0.soft f0.hard w.added f'.items m));
+      carries = record {
+        explores = λ d g y. Explores-stops whole from d (w.added ++ g) (all ++ g) (Merges-append SameStop w.added all g same_stop (Merges-dropped f0.soft f0.hard w.added f'.items m)) (w.carries.explores d g y);
+        uncovers = w.carries.uncovers;
+      };
+    }
 
 -- failures that are put behind others
-pub Adds-behind : (course : Course) (from n : List Kept) (f f' st : List Stopped) → Adds course from [] n [] st → f' ≡ f ++ st → Adds course from [] n f f'
-Adds-behind course from n f f' st a more = record { done = a.done; failed = a.failed; next_is = a.next_is; failed_is = more ∙ ap (λ (x : List Stopped). f ++ x) a.failed_is; explores = a.explores }
+pub Adds-behind : (course : Course) (from n : List Kept) (f f' st : Failures) → Adds course from [] n (none_of f) st → f' ≡ record { items = f.items ++ st.items; soft = f.soft; hard = f.hard } → Adds course from [] n f f'
+Adds-behind course from n f f' st a more = record {
+  done = a.done;
+  failed = a.failed;
+  next_is = a.next_is;
+  failed_is = more ∙ ap (λ (x : Failures). failures_of (f.items ++ x.items) f.soft f.hard) a.failed_is;
+  explores = a.explores;
+}

@@ -1,53 +1,51 @@
 -- Overrides that follow one another.
-use Rattle.std.proofs.Common.{◌≡◌, ℕ, ◌+◌, ◌-◌, add-one, ◌<◌, ◌≤◌, true, false, List, [], ◌∷◌, ◌++◌, length, get_or, take, drop, Option, Some, arith, refl, sym, ap, ◌∙◌, subst, append_assoc, inl, inr}
-use Rattle.std.proofs.Math.Seq.{drop-cons}
+use Rattle.std.proofs.Common.{◌≡◌, ℕ, ◌+◌, ◌-◌, ◌<◌, ◌≤◌, List, [], ◌∷◌, ◌++◌, length, get_or, take, drop, arith, refl, sym, ap, ◌∙◌, subst, append_assoc, inl, inr}
 use Rattle.std.proofs.lemmas.List.{append-nil, take-append-drop, drop-drop, take_more, get_or-drop, length-drop}
 use Rattle.suit_params.specs.declared.param.Param.{Param}
 use Rattle.suit_commands.specs.declared.command.Command.{Command}
 use Rattle.suit_commands.specs.declared.command.Command.TheVariants as commands
 use Rattle.suit_commands.specs.declared.command.Step.{Step}
-use Rattle.suit_commands.specs.Tree.{CommandTree, Test, Act, Index, Override, TryEach, RunSequence, SequenceTree, NoSteps, StepThen, BranchesTree, BranchThen}
-use Rattle.suit_commands.specs.View.{sequence_tree, command_tree, branches_tree}
+use Rattle.suit_commands.specs.Tree.{Test, Act, Index, Override, TryEach, RunSequence, SequenceTree, NoSteps, StepThen}
+use Rattle.suit_commands.specs.View.{sequence_tree, command_tree}
 use Rattle.path_model.specs.declared.identity.Identity.{Identity}
 use Rattle.path_model.specs.declared.event.Event.{Event}
 use Rattle.path_model.specs.Behaviour.{State, Ending, Done, Condition, Directive, IsFailure, Behaviour, Then}
 use Rattle.path_model.specs.Runs.{Runs, Does}
 use Rattle.path_model.proofs.TwoComponents.{same_state}
 use Rattle.path_checker.specs.declared.judge_plan.facts.Knowledge.{Knowledge}
-use Rattle.path_checker.specs.Exploring.{Course, In, Kept, Stopped, Reaches, Leads, Explores, Uncovers, Adds}
-use Rattle.path_checker.specs.Happening.{sets_at, command_sets, sequence_sets}
-use Rattle.path_checker.specs.Inner.{entered, left}
-use Rattle.path_checker.specs.Overriding.{IsOverride, AreOverrides, after_command, after_overrides, overridden_by}
+use Rattle.path_checker.specs.declared.judge_plan.halt.Halt.{Halt}
+use Rattle.path_checker.specs.Exploring.{Course, Kept, Stopped, Failures, Leads, Explores, Uncovers}
+use Rattle.path_checker.specs.Halting.{Halts}
+use Rattle.path_checker.specs.Happening.{sets_at, sequence_sets}
+use Rattle.path_checker.specs.Overriding.{IsOverride, AreOverrides, overridden_by}
 use Rattle.path_checker.specs.Small.{IsSmallSequence}
-use Rattle.path_checker.proofs.Branching.{at-one, rest_course}
-use Rattle.path_checker.proofs.Carrying.{Carries, Explores-nothing}
-use Rattle.path_checker.proofs.Exploring.{then_course, Explores-then, Explores-none}
+use Rattle.path_checker.proofs.Carrying.{Carries, Carries-then, Explores-nothing}
+use Rattle.path_checker.proofs.Exploring.{then_course, Explores-then}
 use Rattle.path_checker.proofs.Going.{then-left, then-right}
-use Rattle.path_checker.proofs.InnerSequences.{inner_course, Explores-inner}
+use Rattle.path_checker.proofs.Keeping.{after_none}
 use Rattle.path_checker.proofs.Leaves.{Same, Explores-same}
-use Rattle.path_checker.proofs.OneBranch.{branch_course, Explores-branch}
 use Rattle.path_checker.proofs.OverridesEach.{set_at, each_override, Explores-set}
-use Rattle.path_checker.proofs.Passing.{Adds-passed}
-use Rattle.path_checker.proofs.Popping.{Pops, Pops-step, Pops-moved, Pops-end}
 use Rattle.path_checker.proofs.Uncovering.{Uncovered-lift}
-use Rattle.path_checker.proofs.Walking.{Walks, Walks-then, runs_course, does_course}
+use Rattle.path_checker.proofs.Walking.{Walks, Walks-then, Walks-halt, runs_course, does_course}
 
 -- one more
 pub overrides-last : (xs : List Step) (x : Step) → AreOverrides (sequence_tree xs) → IsOverride (command_tree x.command) → AreOverrides (sequence_tree (xs ++ x ∷ []))
 overrides-last [] x all one = (one, tt)
 overrides-last (y ∷ xs) x all one = (all.0, overrides-last xs x all.1 one)
 
-pub overrides_more : (steps : List Step) (at end : ℕ) (d : Step) → at ≤ end → end < length steps → AreOverrides (sequence_tree (take (end - at) (drop at steps))) → IsOverride (command_tree (get_or steps end d).command) → AreOverrides (sequence_tree (take (end + 1 - at) (drop at steps)))
-overrides_more steps at end d behind lt all one =
+-- one more of those from an index on
+pub taken_more : (steps : List Step) (at end : ℕ) (d : Step) → at ≤ end → end < length steps → take (end + 1 - at) (drop at steps) ≡ take (end - at) (drop at steps) ++ get_or steps end d ∷ []
+taken_more steps at end d behind lt =
     let n : ℕ = end - at in
     let fit : n < length (drop at steps) = omega (arith, lt, behind, length-drop at steps) in
     let back : at + n ≡ end = omega (arith, behind) in
     let count : end + 1 - at ≡ n + 1 = omega (arith, behind) in
     let same : get_or (drop at steps) n d ≡ get_or steps end d = get_or-drop at steps n d ∙ ap (λ (i : ℕ). get_or steps i d) back in
-    let more : take (end + 1 - at) (drop at steps) ≡ take n (drop at steps) ++ get_or steps end d ∷ [] =
     ap (λ (m : ℕ). take m (drop at steps)) count ∙ take_more (drop at steps) n d fit ∙ ap (λ (x : Step). take n (drop at steps) ++ x ∷ []) same
-    in
-    subst (λ (xs : List Step). AreOverrides (sequence_tree xs)) (sym more) (overrides-last (take n (drop at steps)) (get_or steps end d) all one)
+
+pub overrides_more : (steps : List Step) (at end : ℕ) (d : Step) → at ≤ end → end < length steps → AreOverrides (sequence_tree (take (end - at) (drop at steps))) → IsOverride (command_tree (get_or steps end d).command) → AreOverrides (sequence_tree (take (end + 1 - at) (drop at steps)))
+overrides_more steps at end d behind lt all one =
+    subst (λ (xs : List Step). AreOverrides (sequence_tree xs)) (sym (taken_more steps at end d behind lt)) (overrides-last (take (end - at) (drop at steps)) (get_or steps end d) all one)
 
 -- ---- what they do
 
@@ -71,44 +69,6 @@ Explores-overrides (StepThen p (Act kind report) rest) all count k = absurd all.
 Explores-overrides (StepThen p (Index selection) rest) all count k = absurd all.0
 Explores-overrides (StepThen p (TryEach _) rest) all count k = absurd all.0
 Explores-overrides (StepThen p (RunSequence inner) rest) all count k = absurd all.0
-
--- ---- in each of several states
-
-pub Pops-overridden : (s : SequenceTree) → AreOverrides s → (count : ℕ) (from old rest rest' next next' made : List Kept) (k to : Kept) → Pops (runs_course s count) from [] old next [] → old ≡ rest ++ k ∷ [] → rest' ≡ rest → next' ≡ next → to ≡ overridden_by k s → made ≡ next' ++ to ∷ [] → Pops (runs_course s count) from [] rest' made []
-Pops-overridden s all count from old rest rest' next next' made k to w popped rest_is next_is is pushed =
-    let m = Pops-moved (runs_course s count) from [] old rest rest' next next' [] k w popped rest_is next_is in
-    Pops-step (runs_course s count) from [] old rest' next' [] k m.0 m.1 made []
-    (Adds-passed (runs_course s count) (k ∷ []) next' made (overridden_by k s ∷ []) [] (Explores-overrides s all count k) (subst (λ (x : Kept). made ≡ next' ++ x ∷ []) is pushed))
-
-pub Explores-popped : (course : Course) (from now next : List Kept) → Pops course from [] now next [] → now ≡ [] → Explores course from next []
-Explores-popped course from now next w none =
-    let a = Pops-end course from [] now next [] w none in
-    subst (λ (m : List Kept). Explores course from m []) (sym a.next_is) (subst (λ (f : List Stopped). Explores course from a.done f) (sym a.failed_is) a.explores)
-
--- ---- an inner sequence of them
-
-pub Adds-run_overrides : (s : SequenceTree) → AreOverrides s → (count c : ℕ) (k to : Kept) (n n' : List Kept) (f : List Stopped) → to ≡ left k.state (overridden_by (entered k.state c false k) s) → n' ≡ n ++ to ∷ [] → Adds (inner_course (runs_course s count) c) (k ∷ []) n n' f f
-Adds-run_overrides s all count c k to n n' f is pushed =
-    let inside : Kept = entered k.state c false k in
-    record {
-      done = left k.state (overridden_by inside s) ∷ [];
-      failed = [];
-      next_is = subst (λ (x : Kept). n' ≡ n ++ x ∷ []) is pushed;
-      failed_is = sym (append-nil f);
-      explores = Explores-inner (runs_course s count) k.state c (k ∷ []) (overridden_by inside s ∷ []) [] (at-one k k.state refl) (Explores-overrides s all count inside);
-    }
-
-pub Adds-try_overrides : (s : SequenceTree) (rest whole : BranchesTree) → AreOverrides s → whole ≡ BranchThen s rest → (count p c : ℕ) (k to : Kept) (n n' : List Kept) (f : List Stopped) → to ≡ left k.state (overridden_by (entered k.state c true k) s) → n' ≡ n ++ to ∷ [] → Adds (rest_course whole count p c) (k ∷ []) n n' f f
-Adds-try_overrides s rest whole all first count p c k to n n' f is pushed =
-    let inside : Kept = entered k.state c true k in
-    let others : ℕ → Course = rest_course rest count p in
-    subst (λ (w : BranchesTree). Adds (rest_course w count p c) (k ∷ []) n n' f f) (sym first) (record {
-      done = left k.state (overridden_by inside s) ∷ [];
-      failed = [];
-      next_is = subst (λ (x : Kept). n' ≡ n ++ x ∷ []) is pushed;
-      failed_is = sym (append-nil f);
-      explores = Explores-branch (runs_course s count) others k.state c (k ∷ []) (overridden_by inside s ∷ []) [] [] [] (at-one k k.state refl) (Explores-overrides s all count inside) (Explores-none (others c));
-    })
 
 -- ---- a sequence in two parts
 
@@ -155,35 +115,58 @@ module _ (xs ys : List Step) (count : ℕ) where
   abbrev all_steps : Course
   all_steps = runs_course (sequence_tree (xs ++ ys)) count
 
-  Walks-parted : (whole : Course) (from now : List Kept) (failed0 failed : List Stopped) → Walks whole from failed0 all_steps now failed → Walks whole from failed0 parts now failed
-  Walks-parted whole from now failed0 failed w =
+  pub Carries-parted : (whole : Course) (from now done : List Kept) (failed : List Stopped) → Carries whole from all_steps now done failed → Carries whole from parts now done failed
+  Carries-parted whole from now done failed w =
       let join : (ids : List Identity) (s : State) (es : List Event) (e : Ending) → parts ids s es e → all_steps ids s es e = λ ids s es e r. joined_run ids count xs ys s es e r in
       let part : (ids : List Identity) (s : State) (es : List Event) (e : Ending) → all_steps ids s es e → parts ids s es e = λ ids s es e r. parted_run ids count xs ys s es e r in
       record {
-        added = w.added;
-        failed_is = w.failed_is;
-        carries = record {
-          explores = λ d g x. w.carries.explores d g (Explores-alike parts all_steps join now d g part x);
-          uncovers = λ facts events u. w.carries.uncovers facts events (Uncovers-alike parts all_steps join now facts events u);
-        };
+        explores = λ d g x. w.explores d g (Explores-alike parts all_steps join now d g part x);
+        uncovers = λ facts events u. w.uncovers facts events (Uncovers-alike parts all_steps join now facts events u);
       }
+
+  Walks-parted : (whole : Course) (from now : List Kept) (failed0 failed : Failures) → Walks whole from failed0 all_steps now failed → Walks whole from failed0 parts now failed
+  Walks-parted whole from now failed0 failed w = record { added = w.added; failed_is = w.failed_is; carries = Carries-parted whole from now [] w.added w.carries }
 
 pub both_parts : (steps xs : List Step) (i : ℕ) → xs ≡ take (length xs) (drop i steps) → drop i steps ≡ xs ++ drop (i + length xs) steps
 both_parts steps xs i part =
     sym (take-append-drop (length xs) (drop i steps)) ∙ ap (λ (t : List Step). t ++ drop (length xs) (drop i steps)) (sym part) ∙ ap (λ (t : List Step). xs ++ t) (drop-drop (length xs) i steps)
 
 -- the next steps of a walk at once
-pub Walks-steps : (steps xs : List Step) (i count : ℕ) (whole : Course) (from now mid : List Kept) (failed0 failed : List Stopped) → Walks whole from failed0 (runs_course (sequence_tree (drop i steps)) count) now failed → xs ≡ take (length xs) (drop i steps) → Explores (runs_course (sequence_tree xs) count) now mid [] → Walks whole from failed0 (runs_course (sequence_tree (drop (i + length xs) steps)) count) mid failed
+pub Walks-steps : (steps xs : List Step) (i count : ℕ) (whole : Course) (from now mid : List Kept) (failed0 failed : Failures) → Walks whole from failed0 (runs_course (sequence_tree (drop i steps)) count) now failed → xs ≡ take (length xs) (drop i steps) → Explores (runs_course (sequence_tree xs) count) now mid [] → Walks whole from failed0 (runs_course (sequence_tree (drop (i + length xs) steps)) count) mid failed
 Walks-steps steps xs i count whole from now mid failed0 failed w part x =
     let ys : List Step = drop (i + length xs) steps in
     let both : drop i steps ≡ xs ++ ys = both_parts steps xs i part in
     let w' = Walks-parted xs ys count whole from now failed0 failed (subst (λ (t : List Step). Walks whole from failed0 (runs_course (sequence_tree t) count) now failed) both w) in
-    Walks-then whole (runs_course (sequence_tree xs) count) (runs_course (sequence_tree ys) count) from now mid failed0 failed failed w' (record { done = mid; failed = []; next_is = refl; failed_is = sym (append-nil failed); explores = x })
+    Walks-then whole (runs_course (sequence_tree xs) count) (runs_course (sequence_tree ys) count) from now mid failed0 failed failed w' (record { done = mid; failed = []; next_is = refl; failed_is = sym (after_none failed); explores = x })
+
+-- and where they halt
+pub Walks-halted : (steps xs : List Step) (i count : ℕ) (whole : Course) (from now : List Kept) (failed0 failed : Failures) → Walks whole from failed0 (runs_course (sequence_tree (drop i steps)) count) now failed → xs ≡ take (length xs) (drop i steps) → (h : Halt) → Halts (runs_course (sequence_tree xs) count) now h → Halts whole from h
+Walks-halted steps xs i count whole from now failed0 failed w part h u =
+    let ys : List Step = drop (i + length xs) steps in
+    let both : drop i steps ≡ xs ++ ys = both_parts steps xs i part in
+    let w' = Walks-parted xs ys count whole from now failed0 failed (subst (λ (t : List Step). Walks whole from failed0 (runs_course (sequence_tree t) count) now failed) both w) in
+    Walks-halt whole (runs_course (sequence_tree xs) count) (runs_course (sequence_tree ys) count) from now failed0 failed w' h u
+
+-- the next steps of a state at once
+pub Carries-steps : (steps xs : List Step) (i count : ℕ) (whole : Course) (from now mid : List Kept) → Carries whole from (runs_course (sequence_tree (drop i steps)) count) now [] [] → xs ≡ take (length xs) (drop i steps) → Explores (runs_course (sequence_tree xs) count) now mid [] → Carries whole from (runs_course (sequence_tree (drop (i + length xs) steps)) count) mid [] []
+Carries-steps steps xs i count whole from now mid w part x =
+    let ys : List Step = drop (i + length xs) steps in
+    let both : drop i steps ≡ xs ++ ys = both_parts steps xs i part in
+    let w' = Carries-parted xs ys count whole from now [] [] (subst (λ (t : List Step). Carries whole from (runs_course (sequence_tree t) count) now [] []) both w) in
+    Carries-then whole (runs_course (sequence_tree xs) count) (runs_course (sequence_tree ys) count) from now mid [] [] [] w' x
 
 -- the rest of small steps
 pub small_rest : (count : ℕ) (xs ys : List Step) → IsSmallSequence count (sequence_tree (xs ++ ys)) → IsSmallSequence count (sequence_tree ys)
 small_rest count [] ys small = small
 small_rest count (x ∷ xs) ys small = small_rest count xs ys small.1
+
+-- and their first part
+pub small_part : (steps xs : List Step) (i count : ℕ) → xs ≡ take (length xs) (drop i steps) → IsSmallSequence count (sequence_tree (drop i steps)) → IsSmallSequence count (sequence_tree xs)
+small_part steps xs i count part small = first_small xs (drop (i + length xs) steps) (subst (λ (t : List Step). IsSmallSequence count (sequence_tree t)) (both_parts steps xs i part) small)
+  where
+    first_small : (xs ys : List Step) → IsSmallSequence count (sequence_tree (xs ++ ys)) → IsSmallSequence count (sequence_tree xs)
+    first_small [] ys all = tt
+    first_small (x ∷ xs) ys all = (all.0, first_small xs ys all.1)
 
 pub small_steps : (steps xs : List Step) (i count : ℕ) → xs ≡ take (length xs) (drop i steps) → IsSmallSequence count (sequence_tree (drop i steps)) → IsSmallSequence count (sequence_tree (drop (i + length xs) steps))
 small_steps steps xs i count part small = small_rest count xs (drop (i + length xs) steps) (subst (λ (t : List Step). IsSmallSequence count (sequence_tree t)) (both_parts steps xs i part) small)

@@ -16,43 +16,44 @@ use Rattle.path_model.proofs.Following.{same_matches}
 use Rattle.path_model.proofs.RunLaws.{at_sole, of_sole}
 use Rattle.path_checker.specs.declared.judge_plan.facts.Knowledge.{Knowledge}
 use Rattle.path_checker.specs.declared.judge_plan.halt.Halt.{Halt}
-use Rattle.path_checker.specs.Exploring.{Course, In, Kept, Stopped, Found, Reaches, Explores, Uncovers, Uncovered, Adds}
+use Rattle.path_checker.specs.Exploring.{Course, In, Kept, Stopped, Failures, after_stops, Found, Reaches, Explores, Uncovers, Uncovered, Adds}
 use Rattle.path_checker.specs.Steps.{At, with_selection}
 use Rattle.path_checker.specs.Halting.{Halts}
 use Rattle.path_checker.proofs.Membership.{In-right}
 use Rattle.path_checker.proofs.Exploring.{then_course, Explores-none, Explores-one}
+use Rattle.path_checker.proofs.Keeping.{after_none, after_both}
 use Rattle.path_checker.proofs.Uncovering.{Uncovered-lift}
 use Rattle.path_checker.proofs.Carrying.{Explores-more}
 use Rattle.path_checker.proofs.Leaves.{Same, Explores-same}
 use Rattle.path_checker.proofs.Walking.{Halts-lift, does_course, Walks, Walks-then, Walks-halt}
 
-pub record Pops (course : Course) (from : List Kept) (failed0 : List Stopped) (now next : List Kept) (failed : List Stopped) : Type 0 where
+pub record Pops (course : Course) (from : List Kept) (failed0 : Failures) (now next : List Kept) (failed : Failures) : Type 0 where
   pub gone : List Kept
   pub added : List Stopped
   pub from_is : from ≡ now ++ gone
-  pub failed_is : failed ≡ failed0 ++ added
+  pub failed_is : failed ≡ after_stops failed0 added
   pub explores : Explores course gone next added
 
 -- at first no state is taken
-pub Pops-start : (course : Course) (from : List Kept) (failed0 : List Stopped) (next : List Kept) → next ≡ [] → Pops course from failed0 from next failed0
+pub Pops-start : (course : Course) (from : List Kept) (failed0 : Failures) (next : List Kept) → next ≡ [] → Pops course from failed0 from next failed0
 Pops-start course from failed0 next none = record {
   gone = [];
   added = [];
   from_is = sym (append-nil from);
-  failed_is = sym (append-nil failed0);
+  failed_is = sym (after_none failed0);
   explores = subst (λ (n : List Kept). Explores course [] n []) (sym none) (Explores-none course);
 }
 
-module _ (course : Course) (from : List Kept) (failed0 : List Stopped) (old rest next : List Kept) (failed : List Stopped) (k : Kept) (w : Pops course from failed0 old next failed) (popped : old ≡ rest ++ k ∷ []) where
+module _ (course : Course) (from : List Kept) (failed0 : Failures) (old rest next : List Kept) (failed : Failures) (k : Kept) (w : Pops course from failed0 old next failed) (popped : old ≡ rest ++ k ∷ []) where
   pub pops-is : from ≡ rest ++ (k ∷ w.gone)
   pops-is = w.from_is ∙ ap (λ (x : List Kept). x ++ w.gone) popped ∙ append_assoc rest (k ∷ []) w.gone
 
-  pub Pops-step : (next' : List Kept) (failed' : List Stopped) → Adds course (k ∷ []) next next' failed failed' → Pops course from failed0 rest next' failed'
+  pub Pops-step : (next' : List Kept) (failed' : Failures) → Adds course (k ∷ []) next next' failed failed' → Pops course from failed0 rest next' failed'
   Pops-step next' failed' a = record {
     gone = k ∷ w.gone;
     added = w.added ++ a.failed;
     from_is = pops-is;
-    failed_is = a.failed_is ∙ ap (λ (x : List Stopped). x ++ a.failed) w.failed_is ∙ append_assoc failed0 w.added a.failed;
+    failed_is = after_both failed0 failed failed' w.added a.failed w.failed_is a.failed_is;
     explores = subst (λ (n : List Kept). Explores course (k ∷ w.gone) n (w.added ++ a.failed)) (sym a.next_is) (Explores-more course k w.gone next a.done w.added a.failed w.explores a.explores);
   }
 
@@ -64,14 +65,14 @@ module _ (course : Course) (from : List Kept) (failed0 : List Stopped) (old rest
       here facts events (k', inr n, v) = absurd n
 
 -- the same lists, in other memory
-pub Pops-moved : (course : Course) (from : List Kept) (failed0 : List Stopped) (old rest rest' next next' : List Kept) (failed : List Stopped) (k : Kept) → Pops course from failed0 old next failed → old ≡ rest ++ k ∷ [] → rest' ≡ rest → next' ≡ next → Pops course from failed0 old next' failed × (old ≡ rest' ++ k ∷ [])
+pub Pops-moved : (course : Course) (from : List Kept) (failed0 : Failures) (old rest rest' next next' : List Kept) (failed : Failures) (k : Kept) → Pops course from failed0 old next failed → old ≡ rest ++ k ∷ [] → rest' ≡ rest → next' ≡ next → Pops course from failed0 old next' failed × (old ≡ rest' ++ k ∷ [])
 Pops-moved course from failed0 old rest rest' next next' failed k w popped rest_is next_is = (
   subst (λ (n : List Kept). Pops course from failed0 old n failed) (sym next_is) w,
   popped ∙ ap (λ (x : List Kept). x ++ k ∷ []) (sym rest_is),
 )
 
 -- where all states are taken
-pub Pops-end : (course : Course) (from : List Kept) (failed0 : List Stopped) (now next : List Kept) (failed : List Stopped) → Pops course from failed0 now next failed → now ≡ [] → Adds course from [] next failed0 failed
+pub Pops-end : (course : Course) (from : List Kept) (failed0 : Failures) (now next : List Kept) (failed : Failures) → Pops course from failed0 now next failed → now ≡ [] → Adds course from [] next failed0 failed
 Pops-end course from failed0 now next failed w none =
     let all : from ≡ w.gone = w.from_is ∙ ap (λ (x : List Kept). x ++ w.gone) none in
     record {
@@ -106,7 +107,7 @@ does_each (commands.Override list) other count p k = record { there = λ ids al 
 does_each (commands.TryEach _) other count p k = record { there = λ ids al es e r. r; back = λ ids al es e r. r }
 does_each (commands.Run inner) other count p k = record { there = λ ids al es e r. r; back = λ ids al es e r. r }
 
-pub Adds-same : (k : Kept) (a b : Course) (n n' : List Kept) (f f' : List Stopped) → Same k a b → Adds a (k ∷ []) n n' f f' → Adds b (k ∷ []) n n' f f'
+pub Adds-same : (k : Kept) (a b : Course) (n n' : List Kept) (f f' : Failures) → Same k a b → Adds a (k ∷ []) n n' f f' → Adds b (k ∷ []) n n' f f'
 Adds-same k a b n n' f f' same x = record { done = x.done; failed = x.failed; next_is = x.next_is; failed_is = x.failed_is; explores = Explores-same k a b x.done x.failed same x.explores }
 
 pub Halts-same : (k : Kept) (a b : Course) → Same k a b → (h : Halt) → Halts a (k ∷ []) h → Halts b (k ∷ []) h
@@ -137,29 +138,29 @@ Explores-becomes course k s only does =
       stopped = λ y h. absurd h;
     })
 
-pub Adds-index : (k to : Kept) (selection : Selection) (count p : ℕ) (cmd : Command) (n n' : List Kept) (f : List Stopped) → cmd ≡ commands.Index selection → to ≡ with_selection k (selected_by selection count) → n' ≡ n ++ to ∷ [] → Adds (does_course (command_tree cmd) count p) (k ∷ []) n n' f f
+pub Adds-index : (k to : Kept) (selection : Selection) (count p : ℕ) (cmd : Command) (n n' : List Kept) (f : Failures) → cmd ≡ commands.Index selection → to ≡ with_selection k (selected_by selection count) → n' ≡ n ++ to ∷ [] → Adds (does_course (command_tree cmd) count p) (k ∷ []) n n' f f
 Adds-index k to selection count p cmd n n' f is made pushed =
     subst (λ (x : Command). Adds (does_course (command_tree x) count p) (k ∷ []) n n' f f) (sym is) (record {
       done = with_selection k (selected_by selection count) ∷ [];
       failed = [];
       next_is = subst (λ (x : Kept). n' ≡ n ++ x ∷ []) made pushed;
-      failed_is = sym (append-nil f);
+      failed_is = sym (after_none f);
       explores = Explores-becomes (does_course (Index selection) count p) k (with_selection k (selected_by selection count)).state (λ ids es e r. r) (λ ids. (refl, refl));
     })
 
-pub Adds-at_index : (k : Kept) (c : ℕ) (selection : Selection) (count p : ℕ) (cmd : Command) (n n' : List Kept) (f : List Stopped) → cmd ≡ commands.Index selection → n' ≡ n ++ k ∷ [] → Adds (At (command_tree cmd) count p c) (k ∷ []) n n' f f
+pub Adds-at_index : (k : Kept) (c : ℕ) (selection : Selection) (count p : ℕ) (cmd : Command) (n n' : List Kept) (f : Failures) → cmd ≡ commands.Index selection → n' ≡ n ++ k ∷ [] → Adds (At (command_tree cmd) count p c) (k ∷ []) n n' f f
 Adds-at_index k c selection count p cmd n n' f is pushed =
     subst (λ (x : Command). Adds (At (command_tree x) count p c) (k ∷ []) n n' f f) (sym is) (record {
       done = k ∷ [];
       failed = [];
       next_is = pushed;
-      failed_is = sym (append-nil f);
+      failed_is = sym (after_none f);
       explores = Explores-becomes (At (Index selection) count p c) k k.state (λ ids es e r. r) (λ ids. (refl, refl));
     })
 
 -- ---- a walk over the components that are selected
 
-module _ (cmd : CommandTree) (count p : ℕ) (cs : List ℕ) (i : ℕ) (d : ℕ) (lt : i < length cs) (whole : Course) (from now : List Kept) (failed0 failed : List Stopped) (w : Walks whole from failed0 (each_course cmd count p (drop i cs)) now failed) where
+module _ (cmd : CommandTree) (count p : ℕ) (cs : List ℕ) (i : ℕ) (d : ℕ) (lt : i < length cs) (whole : Course) (from now : List Kept) (failed0 failed : Failures) (w : Walks whole from failed0 (each_course cmd count p (drop i cs)) now failed) where
   at_each : Walks whole from failed0 (then_course (At cmd count p (get_or cs i d)) (each_course cmd count p (drop (i + 1) cs))) now failed
   at_each =
       let e : each_course cmd count p (drop i cs) ≡ then_course (At cmd count p (get_or cs i d)) (each_course cmd count p (drop (i + 1) cs)) =
@@ -167,7 +168,7 @@ module _ (cmd : CommandTree) (count p : ℕ) (cs : List ℕ) (i : ℕ) (d : ℕ)
       in
       subst (λ (r : Course). Walks whole from failed0 r now failed) e w
 
-  pub Each-step : (mid : List Kept) (failed' : List Stopped) → Adds (At cmd count p (get_or cs i d)) now [] mid failed failed' → Walks whole from failed0 (each_course cmd count p (drop (i + 1) cs)) mid failed'
+  pub Each-step : (mid : List Kept) (failed' : Failures) → Adds (At cmd count p (get_or cs i d)) now [] mid failed failed' → Walks whole from failed0 (each_course cmd count p (drop (i + 1) cs)) mid failed'
   Each-step mid failed' a = Walks-then whole (At cmd count p (get_or cs i d)) (each_course cmd count p (drop (i + 1) cs)) from now mid failed0 failed failed' at_each a
 
   pub Each-stops : (h : Halt) → Halts (At cmd count p (get_or cs i d)) now h → Halts whole from h

@@ -23,9 +23,9 @@ use Rattle.path_checker.specs.Happening.{after_end, sets_at, command_sets, seque
 use Rattle.path_checker.specs.Selecting.{components_of}
 use Rattle.std.specs.Prelude.{◌↔◌, slice_get}
 use Rattle.path_checker.specs.Exploring.{In}
-use Rattle.path_checker.specs.Matches.{Match, match_of}
+use Rattle.path_checker.specs.Matches.{Match, match_of, matches_from}
 use Rattle.path_checker.specs.declared.judge_plan.standing.StandingMatches.{StandingMatches}
-use Rattle.path_checker.specs.Standing.{held_in, held_of, Gains, Loses, SameHeld, Stands, StandsAfter}
+use Rattle.path_checker.specs.Standing.{held_of, Gains, Loses, SameHeld, Stands, StandsAfter}
 
 -- ---- a match stands after one more event that does not end it
 
@@ -155,7 +155,7 @@ told_other standing (tells.SetsAt sets) no_match no_write event one = λ events 
 -- ---- where the same matches are held
 
 pub stands_same : (one other : StandingMatches) (events : List Event) → other.of.items ≡ one.of.items → Stands one events → Stands other events
-stands_same one other events same stand c d s = subst (λ (of : List (Option (List Match))). In (d, s) (held_in (slice_get of c)) ↔ HasMatched events c d s) (sym same) (stand c d s)
+stands_same one other events same stand c d s = subst (λ (of : List (List Match)). In (d, s) (matches_from (slice_get of c)) ↔ HasMatched events c d s) (sym same) (stand c d s)
 
 pub same_standing : (one other : StandingMatches) (events more : List Event) → Stands one events → Stands other more → ((component : ℕ) → SameHeld one other component) → SameMatches events more
 same_standing one other events more a b same c d s =

@@ -1,7 +1,6 @@
 -- The steps of a walk through a sequence.
-use Rattle.std.proofs.Common.{◌≡◌, ℕ, ◌+◌, ◌<◌, add-one, List, [], ◌++◌, length, get_or, drop, refl, sym, ap, ◌∙◌, subst, append_assoc}
+use Rattle.std.proofs.Common.{◌≡◌, ℕ, ◌+◌, ◌<◌, add-one, List, [], ◌++◌, length, get_or, drop, refl, sym, ap, ◌∙◌, subst}
 use Rattle.std.proofs.Math.Seq.{drop-cons}
-use Rattle.std.proofs.lemmas.List.{append-nil}
 use Rattle.suit_commands.specs.declared.command.Step.{Step}
 use Rattle.suit_commands.specs.Tree.{CommandTree, SequenceTree}
 use Rattle.suit_commands.specs.View.{sequence_tree, command_tree}
@@ -10,9 +9,10 @@ use Rattle.path_model.specs.Runs.{Runs, Does}
 use Rattle.path_checker.specs.declared.judge_plan.facts.Knowledge.{Knowledge}
 use Rattle.path_checker.specs.declared.judge_plan.halt.Halt.{Halt}
 use Rattle.path_checker.specs.declared.judge_plan.halt.Halt.TheVariants as halts
-use Rattle.path_checker.specs.Exploring.{Course, Kept, Stopped, Uncovers, Adds}
+use Rattle.path_checker.specs.Exploring.{Course, Kept, Stopped, Failures, after_stops, Uncovers, Adds}
 use Rattle.path_checker.specs.Halting.{Halts}
 use Rattle.path_checker.proofs.Exploring.{then_course}
+use Rattle.path_checker.proofs.Keeping.{after_none, after_both}
 use Rattle.path_checker.proofs.Uncovering.{Uncovers-first}
 use Rattle.path_checker.proofs.Carrying.{Carries, Carries-start, Carries-then, Carries-end, nothing_course}
 
@@ -33,35 +33,35 @@ rest-is steps i count d lt =
     ∙ ap (λ (n : ℕ). then_course (does_course (command_tree (get_or steps i d).command) count (get_or steps i d).place) (runs_course (sequence_tree (drop n steps)) count)) (sym (add-one i))
 
 -- the invariant of a loop while it walks
-pub record Walks (whole : Course) (from : List Kept) (failed0 : List Stopped) (rest : Course) (now : List Kept) (failed : List Stopped) : Type 0 where
+pub record Walks (whole : Course) (from : List Kept) (failed0 : Failures) (rest : Course) (now : List Kept) (failed : Failures) : Type 0 where
   pub added : List Stopped
-  pub failed_is : failed ≡ failed0 ++ added
+  pub failed_is : failed ≡ after_stops failed0 added
   pub carries : Carries whole from rest now [] added
 
-pub Walks-start : (whole : Course) (from : List Kept) (failed0 : List Stopped) → Walks whole from failed0 whole from failed0
-Walks-start whole from failed0 = record { added = []; failed_is = sym (append-nil failed0); carries = Carries-start whole from }
+pub Walks-start : (whole : Course) (from : List Kept) (failed0 : Failures) → Walks whole from failed0 whole from failed0
+Walks-start whole from failed0 = record { added = []; failed_is = sym (after_none failed0); carries = Carries-start whole from }
 
-pub Walks-then : (whole first second : Course) (from now mid : List Kept) (failed0 failed failed' : List Stopped) → Walks whole from failed0 (then_course first second) now failed → Adds first now [] mid failed failed' → Walks whole from failed0 second mid failed'
+pub Walks-then : (whole first second : Course) (from now mid : List Kept) (failed0 failed failed' : Failures) → Walks whole from failed0 (then_course first second) now failed → Adds first now [] mid failed failed' → Walks whole from failed0 second mid failed'
 Walks-then whole first second from now mid failed0 failed failed' w a =
     let c = Carries-then whole first second from now a.done [] w.added a.failed w.carries a.explores in
     record {
       added = w.added ++ a.failed;
-      failed_is = a.failed_is ∙ ap (λ (x : List Stopped). x ++ a.failed) w.failed_is ∙ append_assoc failed0 w.added a.failed;
+      failed_is = after_both failed0 failed failed' w.added a.failed w.failed_is a.failed_is;
       carries = subst (λ (m : List Kept). Carries whole from second m [] (w.added ++ a.failed)) (sym a.next_is) c;
     }
 
-pub Walks-end : (whole : Course) (from now : List Kept) (failed0 failed : List Stopped) → Walks whole from failed0 nothing_course now failed → Adds whole from [] now failed0 failed
+pub Walks-end : (whole : Course) (from now : List Kept) (failed0 failed : Failures) → Walks whole from failed0 nothing_course now failed → Adds whole from [] now failed0 failed
 Walks-end whole from now failed0 failed w = record { done = now; failed = w.added; next_is = refl; failed_is = w.failed_is; explores = Carries-end whole from now [] w.added w.carries }
 
-pub Walks-halt : (whole first second : Course) (from now : List Kept) (failed0 failed : List Stopped) → Walks whole from failed0 (then_course first second) now failed → (h : Halt) → Halts first now h → Halts whole from h
+pub Walks-halt : (whole first second : Course) (from now : List Kept) (failed0 failed : Failures) → Walks whole from failed0 (then_course first second) now failed → (h : Halt) → Halts first now h → Halts whole from h
 Walks-halt whole first second from now failed0 failed w h u =
     Halts-lift first whole now from (λ facts events x. w.carries.uncovers facts events (Uncovers-first first second now facts events x)) h u
 
-module _ (steps : List Step) (i count : ℕ) (d : Step) (lt : i < length steps) (whole : Course) (from now : List Kept) (failed0 failed : List Stopped) (w : Walks whole from failed0 (runs_course (sequence_tree (drop i steps)) count) now failed) where
+module _ (steps : List Step) (i count : ℕ) (d : Step) (lt : i < length steps) (whole : Course) (from now : List Kept) (failed0 failed : Failures) (w : Walks whole from failed0 (runs_course (sequence_tree (drop i steps)) count) now failed) where
   at_step : Walks whole from failed0 (then_course (does_course (command_tree (get_or steps i d).command) count (get_or steps i d).place) (runs_course (sequence_tree (drop (i + 1) steps)) count)) now failed
   at_step = subst (λ (r : Course). Walks whole from failed0 r now failed) (rest-is steps i count d lt) w
 
-  pub Walks-step : (mid : List Kept) (failed' : List Stopped) → Adds (does_course (command_tree (get_or steps i d).command) count (get_or steps i d).place) now [] mid failed failed' → Walks whole from failed0 (runs_course (sequence_tree (drop (i + 1) steps)) count) mid failed'
+  pub Walks-step : (mid : List Kept) (failed' : Failures) → Adds (does_course (command_tree (get_or steps i d).command) count (get_or steps i d).place) now [] mid failed failed' → Walks whole from failed0 (runs_course (sequence_tree (drop (i + 1) steps)) count) mid failed'
   Walks-step mid failed' a = Walks-then whole (does_course (command_tree (get_or steps i d).command) count (get_or steps i d).place) (runs_course (sequence_tree (drop (i + 1) steps)) count) from now mid failed0 failed failed' at_step a
 
   pub Walks-stops : (h : Halt) → Halts (does_course (command_tree (get_or steps i d).command) count (get_or steps i d).place) now h → Halts whole from h

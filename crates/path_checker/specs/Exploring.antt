@@ -91,12 +91,39 @@ pub record Uncovered (course : Course) (k : Kept) (facts : List Knowledge) (even
 abbrev pub Uncovers : Course → List Kept → List Knowledge → List Event → Type 0
 Uncovers course from facts events = (k : Kept) × In k from × Uncovered course k facts events
 
--- two lists have grown by what exploring gives
-pub record Adds (course : Course) (from old_next new_next : List Kept) (old_failed new_failed : List Stopped) : Type 0 where
+-- failed conditions that are kept, and which more of them are: those with soft failure, and those without
+pub record Failures : Type 0 where
+  pub items : List Stopped
+  pub soft : Bool
+  pub hard : Bool
+
+-- whether one with this soft failure is kept
+abbrev pub is_kept : Bool → Bool → Bool → Bool
+is_kept soft hard true = soft
+is_kept soft hard false = hard
+
+abbrev pub keeps : Failures → Bool → Bool
+keeps failures soft_failure = is_kept failures.soft failures.hard soft_failure
+
+abbrev pub stop_if : Bool → Stopped → List Stopped
+stop_if true stop = stop ∷ []
+stop_if false stop = []
+
+-- those that are kept
+abbrev pub all_kept : Bool → Bool → List Stopped → List Stopped
+all_kept soft hard [] = []
+all_kept soft hard (stop ∷ stops) = stop_if (is_kept soft hard stop.soft_failure) stop ++ all_kept soft hard stops
+
+-- after more failed conditions
+abbrev pub after_stops : Failures → List Stopped → Failures
+after_stops failures stops = record { items = failures.items ++ all_kept failures.soft failures.hard stops; soft = failures.soft; hard = failures.hard }
+
+-- states, and failed conditions as far as they are kept, have grown by what exploring gives
+pub record Adds (course : Course) (from old_next new_next : List Kept) (old_failed new_failed : Failures) : Type 0 where
   pub done : List Kept
   pub failed : List Stopped
   pub next_is : new_next ≡ old_next ++ done
-  pub failed_is : new_failed ≡ old_failed ++ failed
+  pub failed_is : new_failed ≡ after_stops old_failed failed
   pub explores : Explores course from done failed
 
 -- the same where failed conditions are not kept

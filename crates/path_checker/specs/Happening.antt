@@ -27,11 +27,12 @@ event_of (lent.Tried component kind passed) = events.Tried component kind passed
 event_of (lent.Matched component digest size) = events.Matched component digest.now size
 event_of (lent.Missed component) = events.Missed component
 event_of (lent.Wrote component) = events.Wrote component
-event_of (lent.Invoked component digest size passed) = events.Invoked component (option_copied digest) size passed
+event_of (lent.Covered component own) = covered_event component (match_of own.now)
+event_of (lent.Uncovered component digest size) = events.Invoked component (option_copied digest) size false
 event_of (lent.Failed place) = events.Failed place
 
 abbrev pub invoke_event : Invoke → Event
-invoke_event invoke = events.Invoked invoke.component (option_copied invoke.digest) invoke.size invoke.passed
+invoke_event invoke = events.Invoked invoke.component (option_copied invoke.digest) invoke.size false
 
 -- those of an override at some components
 abbrev pub sets_at : List ℕ → List Param → List Event

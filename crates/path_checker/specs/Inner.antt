@@ -3,7 +3,7 @@ use Rattle.std.specs.Prelude.{◌≡◌, ℕ, Bool, true, false, List, [], ◌�
 use Rattle.path_model.specs.Behaviour.{State}
 use Rattle.path_model.specs.Runs.{entry_state, completed_state}
 use Rattle.path_model.specs.Path.{start_state}
-use Rattle.path_checker.specs.Exploring.{Course, In, Kept, Stopped, Explores}
+use Rattle.path_checker.specs.Exploring.{Course, In, Kept, Stopped, Explores, Failures, keeps, after_stops, kept_if}
 
 abbrev pub entered : State → ℕ → Bool → Kept → Kept
 entered state component soft_failure k = record { facts = k.facts; events = k.events; state = entry_state state component soft_failure }
@@ -56,14 +56,26 @@ abbrev pub exhausted : State → ℕ → List Kept → List Stopped
 exhausted state place [] = []
 exhausted state place (k ∷ ks) = exhausted_at state place k ∷ exhausted state place ks
 
--- a branch was run from states that are all the one before the try each
-pub record BranchAdds (course : Course) (state : State) (component : ℕ) (from rest old_next new_next : List Kept) (old_failed new_failed : List Stopped) : Type 0 where
+-- no failures of an inner sequence so far: those with soft failure are kept where something goes on from them, or where
+-- those of the outer sequence are
+abbrev pub none_inside : Bool → Failures → State → Failures
+none_inside true failures state = record { items = []; soft = true; hard = keeps failures state.soft_failure }
+none_inside false failures state = record { items = []; soft = keeps failures state.soft_failure; hard = keeps failures state.soft_failure }
+
+-- a branch was run, and left, with these failures kept inside
+pub record BranchAdds (course : Course) (state : State) (inside rest old_next new_next : List Kept) (old_stops : Failures) (old_failed new_failed : Failures) : Type 0 where
   pub done : List Kept
   pub stops : List Stopped
   pub next_is : new_next ≡ old_next ++ all_left state done
-  pub failed_is : new_failed ≡ old_failed ++ hardly state stops
-  pub rest_is : rest ≡ softly state stops
-  pub explores : Explores course (all_entered state component true from) done stops
+  pub failed_is : new_failed ≡ after_stops old_failed (hardly state (after_stops old_stops stops).items)
+  pub rest_is : rest ≡ softly state (after_stops old_stops stops).items
+  pub explores : Explores course inside done stops
+
+-- an inner sequence was run in a state in place, and no failure of it is kept
+pub record RunsInside (course : Course) (component : ℕ) (soft_failure : Bool) (from : Kept) (goes_on : Bool) (to : Kept) : Type 0 where
+  pub inside : Kept
+  pub to_is : to ≡ left from.state inside
+  pub explores : Explores course (entered from.state component soft_failure from ∷ []) (kept_if goes_on inside) []
 
 -- ---- a member or the shared sequence
 

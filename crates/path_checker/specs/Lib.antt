@@ -1,5 +1,6 @@
 pub mod Knowing
 pub mod Matches
+pub mod Holding
 pub mod Happening
 pub mod Chains
 pub mod Forking
@@ -10,8 +11,10 @@ pub mod Standing
 pub mod Merging
 pub mod Inner
 pub mod Keyed
+pub mod Rows
 pub mod Wanting
 pub mod Small
+pub mod Unconditional
 pub mod Selecting
 pub mod Steps
 pub mod Overriding

@@ -1,7 +1,7 @@
 -- Some of a list that stand for all of it.
 use Rattle.std.specs.Prelude.{◌≡◌, List}
 use Rattle.path_model.specs.Following.{SameMatches}
-use Rattle.path_checker.specs.Exploring.{In, Kept, Stopped}
+use Rattle.path_checker.specs.Exploring.{In, Kept, Stopped, Failures}
 
 -- each is one of all, and stands for it each time that one was there
 pub record Merges {A : Type 0} (StandsFor : A → A → Type 0) (all kept : List A) : Type 0 where
@@ -19,3 +19,9 @@ pub record SameStop (stop other : Stopped) : Type 0 where
   pub facts : stop.facts ≡ other.facts
   pub soft_failure : stop.soft_failure ≡ other.soft_failure
   pub matches : SameMatches stop.events other.events
+
+-- fewer failures that stand for all
+pub record Settles (all kept : Failures) : Type 0 where
+  pub soft : kept.soft ≡ all.soft
+  pub hard : kept.hard ≡ all.hard
+  pub merges : Merges SameStop all.items kept.items

@@ -3,6 +3,7 @@ use Rattle.std.specs.Prelude.{◌<◌, ◌≤◌, ℕ, List}
 use Rattle.std.specs.List.{AllByRecursion}
 use Rattle.suit_commands.specs.declared.selection.Selection.{Selection}
 use Rattle.suit_commands.specs.declared.selection.Selection.TheVariants.{One, All, Listed}
+use Rattle.path_checker.specs.Unconditional.{AreUnconditional, FirstIsUnconditional}
 use Rattle.suit_commands.specs.Tree.{CommandTree, Test, Act, Override, Index, TryEach, RunSequence, SequenceTree, NoSteps, StepThen, BranchesTree, NoBranches, BranchThen, NullThen}
 
 abbrev pub AreSmall : List ℕ → Type 0
@@ -29,15 +30,15 @@ abbrev mutual
   AreSmallBranches count (NullThen rest) = AreSmallBranches count rest
   AreSmallBranches count (BranchThen inner rest) = IsSmallSequence count inner × AreSmallBranches count rest
 
--- a command that is done at each selected component, with no sequence inside
+-- a command that is done at each selected component, and is a condition or holds none that is met
 abbrev pub IsAtEach : CommandTree → Type 0
-IsAtEach (Test kind report) = Unit {0}
-IsAtEach (Act kind report) = Unit {0}
-IsAtEach (Override list) = Unit {0}
-IsAtEach _ = ⊥
+IsAtEach (Index selection) = ⊥
+IsAtEach (TryEach branches) = FirstIsUnconditional branches
+IsAtEach (RunSequence inner) = AreUnconditional inner
+IsAtEach _ = Unit {0}
 
--- a command with no sequence inside
+-- a command that is a condition, or holds none that is met
 abbrev pub IsStraight : CommandTree → Type 0
-IsStraight (TryEach _) = ⊥
-IsStraight (RunSequence _) = ⊥
+IsStraight (TryEach branches) = FirstIsUnconditional branches
+IsStraight (RunSequence inner) = AreUnconditional inner
 IsStraight _ = Unit {0}

@@ -18,12 +18,8 @@ with_since past None = past
 with_since past (Some since) = past ++ since
 
 -- the matches of a component
-abbrev pub held_in : Option (Option (List Match)) → List Match
-held_in None = []
-held_in (Some tree) = matches_from tree
-
 abbrev pub held_of : StandingMatches → ℕ → List Match
-held_of standing component = held_in (slice_get standing.of.items component)
+held_of standing component = matches_from (slice_get standing.of.items component)
 
 -- one match of a component more
 abbrev pub Gains : StandingMatches → ℕ → Match → StandingMatches → Type 0

@@ -8,8 +8,9 @@ ghost use Rattle.path_checker.specs.Wanting.{TestsOwn};
 ghost use Rattle.path_checker.specs.Steps.{knowing};
 
 use crate::judge_plan::facts::{Facts, Fork, Own};
+use crate::judge_plan::failures::{Failures, stop, stop_also, stop_knowing};
 use crate::judge_plan::happened::{Ended, Happened};
-use crate::judge_plan::kept::{Kept, Stopped, happens, pass, stop};
+use crate::judge_plan::kept::{Kept, happens, pass};
 use crate::judge_plan::memory::Memory;
 use std::alloc::AllocError;
 use suit_commands::TestKind;
@@ -32,11 +33,11 @@ fn own_test<'a>(
     own: &Own,
     k: Kept<'a>,
     next: &mut Vec<Kept<'a>>,
-    failed: &mut Vec<Stopped<'a>>,
+    failed: &mut Failures<'a>,
 ) -> Result<(), AllocError>
     ensures { OnOk result
         (Adds (TestsOwn kind place component (Some own.now)) (k.entry ∷ []) next.old.items
-        next.new.items failed.old.items failed.new.items) }
+        next.new.items failed.old failed.new) }
 {
     let passed = Happened::Tried {
         component,
@@ -48,9 +49,8 @@ fn own_test<'a>(
         Fork::Has => pass(memory, k, passed, next),
         Fork::HasNot => stop(k, place, missed, failed),
         Fork::Either(has, has_not) => {
-            let other = k.copy_with(memory, has_not)?;
-            pass(memory, under(k, has), passed, next)?;
-            stop(other, place, missed, failed)
+            stop_knowing(memory, &k, has_not, place, missed, failed)?;
+            pass(memory, under(k, has), passed, next)
         }
     }
 }
@@ -63,13 +63,13 @@ fn identity_test<'a>(
     component: u32,
     k: Kept<'a>,
     next: &mut Vec<Kept<'a>>,
-    failed: &mut Vec<Stopped<'a>>,
+    failed: &mut Failures<'a>,
 ) -> Result<(), AllocError>
     requires room { component < 8 }
     requires kinds { IsOnIdentity kind }
     ensures { OnOk result
         (Adds (λ identities. Tests kind identities place component) (k.entry ∷ []) next.old.items
-        next.new.items failed.old.items failed.new.items) }
+        next.new.items failed.old failed.new) }
 {
     match k.params.wanted(kind, component) {
         Some(own) => own_test(memory, place, kind, component, &own, k, next, failed),
@@ -84,12 +84,12 @@ fn image_match<'a>(
     component: u32,
     k: Kept<'a>,
     next: &mut Vec<Kept<'a>>,
-    failed: &mut Vec<Stopped<'a>>,
+    failed: &mut Failures<'a>,
 ) -> Result<(), AllocError>
     requires room { component < 8 }
     ensures { OnOk result
         (Adds (λ identities. Tests TestKind.ImageMatch identities place component) (k.entry ∷ [])
-        next.old.items next.new.items failed.old.items failed.new.items) }
+        next.old.items next.new.items failed.old failed.new) }
 {
     match k.params.digest(component) {
         None => stop(k, place, Ended::Missed { component }, failed),
@@ -100,8 +100,8 @@ fn image_match<'a>(
                 digest,
                 size,
             };
-            pass(memory, k.copy(memory)?, matched, next)?;
-            stop(k, place, Ended::Missed { component }, failed)
+            stop_also(memory, &k, place, Ended::Missed { component }, failed)?;
+            pass(memory, k, matched, next)
         }
     }
 }
@@ -112,12 +112,12 @@ fn check_content<'a>(
     component: u32,
     k: Kept<'a>,
     next: &mut Vec<Kept<'a>>,
-    failed: &mut Vec<Stopped<'a>>,
+    failed: &mut Failures<'a>,
 ) -> Result<(), AllocError>
     requires room { component < 8 }
     ensures { OnOk result
         (Adds (λ identities. Tests TestKind.CheckContent identities place component) (k.entry ∷ [])
-        next.old.items next.new.items failed.old.items failed.new.items) }
+        next.old.items next.new.items failed.old failed.new) }
 {
     let missed = Ended::Tried {
         component,
@@ -129,8 +129,8 @@ fn check_content<'a>(
             kind: TestKind::CheckContent,
             passed: true,
         };
-        pass(memory, k.copy(memory)?, passed, next)?;
-        return stop(k, place, missed, failed);
+        stop_also(memory, &k, place, missed, failed)?;
+        return pass(memory, k, passed, next);
     }
     stop(k, place, missed, failed)
 }
@@ -139,12 +139,12 @@ fn abort<'a>(
     place: u64,
     component: u32,
     k: Kept<'a>,
-    failed: &mut Vec<Stopped<'a>>,
+    failed: &mut Failures<'a>,
 ) -> Result<(), AllocError>
     ensures { OnOk result
         ((n : List TheKept)
         → Adds (λ identities. Tests TestKind.Abort identities place component) (k.entry ∷ []) n
-        n failed.old.items failed.new.items) }
+        n failed.old failed.new) }
 {
     let missed = Ended::Tried {
         component,
@@ -283,12 +283,12 @@ pub(crate) fn test<'a>(
     component: u32,
     k: Kept<'a>,
     next: &mut Vec<Kept<'a>>,
-    failed: &mut Vec<Stopped<'a>>,
+    failed: &mut Failures<'a>,
 ) -> Result<(), AllocError>
     requires room { component < 8 }
     ensures { OnOk result
         (Adds (λ identities. Tests kind identities place component) (k.entry ∷ []) next.old.items
-        next.new.items failed.old.items failed.new.items) }
+        next.new.items failed.old failed.new) }
 {
     match kind {
         TestKind::Vendor => identity_test(memory, place, kind, component, k, next, failed),

@@ -1,9 +1,9 @@
 //! Directives at one component.
 
-ghost use Rattle.std.specs.Prelude.{◌≡◌, ◌<◌, List, [], ◌∷◌, ◌++◌, OnOk, IfOk, IfErr};
+ghost use Rattle.std.specs.Prelude.{◌≡◌, ◌<◌, [], ◌∷◌, OnOk, IfOk, IfErr};
 ghost use Rattle.path_model.specs.Behaviour.{Each};
 ghost use Rattle.path_model.specs.Directives.{Acts, Overrides, soft_after};
-ghost use Rattle.path_checker.specs.Exploring.{Explores, at_most_one, kept_if};
+ghost use Rattle.path_checker.specs.Exploring.{Explores, kept_if};
 ghost use Rattle.path_checker.specs.Steps.{soft_after_all, overridden_at, soft_at};
 ghost use Rattle.path_checker.specs.Small.{AreSmall};
 ghost use Rattle.path_checker.specs.Halting.{Halts};
@@ -12,6 +12,7 @@ use crate::judge_plan::halt::Halt;
 use crate::judge_plan::happened::Happened;
 use crate::judge_plan::in_force::InForce;
 use crate::judge_plan::kept::{Kept, happens};
+use crate::judge_plan::matches::Match;
 use crate::judge_plan::memory::Memory;
 use crate::judge_plan::selected::Components;
 use std::alloc::{AllocError, Global};
@@ -111,29 +112,27 @@ fn invoke<'a>(
     let size = k.params.size(component);
     match k.params.digest(component) {
         None => {
-            let bad = Happened::Invoked {
+            let bad = Happened::Uncovered {
                 component,
                 digest: None,
                 size,
-                passed: false,
             };
             happens(memory, k, bad)?;
             Err(Halt::Uncovered(k.copy(memory)?))
         }
         Some(digest) => {
-            let covered = k.history.has_matched(component, digest, size);
-            let event = Happened::Invoked {
+            let own = Match::lent(memory, digest, size)?;
+            if k.history.has_matched(component, own) {
+                happens(memory, k, Happened::Covered { component, own })?;
+                return Ok(true);
+            }
+            let bad = Happened::Uncovered {
                 component,
                 digest: Some(digest),
                 size,
-                passed: covered,
             };
-            happens(memory, k, event)?;
-            if covered {
-                Ok(true)
-            } else {
-                Err(Halt::Uncovered(k.copy(memory)?))
-            }
+            happens(memory, k, bad)?;
+            Err(Halt::Uncovered(k.copy(memory)?))
         }
     }
 }
@@ -160,29 +159,6 @@ pub(crate) fn act_in<'a>(
         ActKind::Swap => Ok(swap(memory, place, component, k)?),
         ActKind::Invoke => invoke(memory, place, component, k),
     }
-}
-
-/// The same: the state after it, if there is one.
-pub(crate) fn act<'a>(
-    memory: Memory<'a>,
-    place: u64,
-    kind: ActKind,
-    component: u32,
-    k: Kept<'a>,
-) -> Result<Option<Kept<'a>>, Halt<'a>>
-    requires room { component < 8 }
-    ensures ok { IfOk result
-        (λ to. Explores (λ identities. Acts kind place component)
-        (k.entry ∷ []) (at_most_one to) []) }
-    ensures err { IfErr result
-        (λ h. Halts (λ identities. Acts kind place component) (k.entry ∷ []) h) }
-{
-    let mut k = k;
-    let goes_on = act_in(memory, place, kind, component, &mut k)?;
-    if goes_on {
-        return Ok(Some(k));
-    }
-    Ok(None)
 }
 
 // ---- override parameters
@@ -274,53 +250,17 @@ pub(crate) fn override_each_in<'a>(
 
 // ---- where many states are kept at once
 
-/// The same state. Where its parameters were made anew and many states are kept, they are shared with those that were made last.
-pub(crate) fn settled<'a>(
+/// Where the parameters of a state were made anew and many states are kept, shares them with those that were made last.
+pub(crate) fn settle<'a>(
     memory: Memory<'a>,
-    k: Kept<'a>,
     was_own: bool,
-) -> Result<Kept<'a>, AllocError>
-    ensures { IfOk result (λ settled. settled ≡ k.entry) }
+    k: &mut Kept<'a>,
+) -> Result<(), AllocError>
+    ensures { OnOk result (k.new ≡ k.old) }
 {
-    let mut k = k;
-    if !was_own && memory.is_crowded() && memory.may_read(k.params.bytes()) {
-        k.params = k.params.shared(&memory.last.params)?;
+    let made = !was_own && k.params.is_own();
+    if made && memory.is_crowded() && memory.may_read(k.params.bytes()) {
+        k.params.share(&memory.last.params)?;
     }
-    Ok(k)
-}
-
-/// Override parameters: the state after it.
-pub(crate) fn overrides<'a>(
-    memory: Memory<'a>,
-    place: u64,
-    list: &'a ParamList,
-    component: u32,
-    k: Kept<'a>,
-) -> Result<Kept<'a>, AllocError>
-    requires room { component < 8 }
-    ensures { IfOk result
-        (λ to. Explores (λ identities. Overrides list.now component) (k.entry ∷ []) (to ∷ []) []) }
-{
-    let mut k = k;
-    let was_own = k.params.is_own();
-    override_in(memory, place, list, component, &mut k)?;
-    settled(memory, k, was_own)
-}
-
-/// Override parameters at each selected component: the state after it.
-pub(crate) fn overrides_each<'a>(
-    memory: Memory<'a>,
-    place: u64,
-    list: &'a ParamList,
-    k: Kept<'a>,
-) -> Result<Kept<'a>, AllocError>
-    ensures { IfOk result
-        (λ to. Explores
-        (λ identities. Each (λ component. Overrides list.now component) k.entry.state.selection)
-        (k.entry ∷ []) (to ∷ []) []) }
-{
-    let mut k = k;
-    let was_own = k.params.is_own();
-    override_each_in(memory, place, list, &mut k)?;
-    settled(memory, k, was_own)
+    Ok(())
 }

@@ -30,11 +30,12 @@ pub(crate) struct Knowledge {
     pub slot: Known<u64>,
 }
 
-/// Knowledge of one component's identity, and its fingerprint. Copies share it.
+/// Knowledge of one component's identity, its fingerprint, and how many values it is not. Copies share it.
 #[derive(Drop)]
 pub(crate) struct Shared {
     held: Rc<Knowledge>,
     print: u64,
+    others: u64,
 }
 
 impl Model for Shared {
@@ -111,6 +112,13 @@ impl Knowledge {
         )
     }
 
+    // How many values it is not.
+    fn others(&self) -> u64 {
+        let names = self.vendor.others().saturating_add(self.class.others());
+        let numbers = self.device.others().saturating_add(self.slot.others());
+        names.saturating_add(numbers)
+    }
+
     // Whether it has this, where that is known.
     fn tells(&self, own: &Own) -> Option<bool>
         ensures { TellsOne self.now own.now result }
@@ -178,8 +186,13 @@ impl Shared {
         ensures { IfOk result (λ shared. shared ≡ known) }
     {
         let print = known.fingerprint();
+        let others = known.others();
         let held = Rc::new(alloc, known)?;
-        Ok(Shared { held, print })
+        Ok(Shared {
+            held,
+            print,
+            others,
+        })
     }
 
     /// The knowledge.
@@ -197,6 +210,7 @@ impl Shared {
         Ok(Shared {
             held,
             print: self.print,
+            others: self.others,
         })
     }
 
@@ -318,6 +332,15 @@ impl Facts {
             print = mixed(print, known.print);
         }
         print
+    }
+
+    /// What a comparison costs: how many values are left out.
+    pub(crate) fn cost(&self) -> u64 {
+        let mut cost: u64 = 0;
+        for known in self.as_slice() {
+            cost = cost.saturating_add(known.others);
+        }
+        cost
     }
 
     /// The knowledge of each component, lent.

@@ -3,6 +3,7 @@
 ghost use Rattle.std.specs.Prelude.{◌≡◌};
 ghost use Rattle.std.specs.Option.{option_copied};
 
+use crate::judge_plan::matches::Match;
 use suit_commands::TestKind;
 use suit_params::Digest;
 
@@ -25,11 +26,16 @@ pub(crate) enum Happened<'a> {
     Wrote {
         component: u32,
     },
-    Invoked {
+    /// An invoke that a match covers.
+    Covered {
+        component: u32,
+        own: &'a Match<'a>,
+    },
+    /// An invoke that none covers.
+    Uncovered {
         component: u32,
         digest: Option<&'a Digest>,
         size: Option<u64>,
-        passed: bool,
     },
     Failed {
         place: u64,

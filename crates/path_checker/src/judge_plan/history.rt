@@ -21,7 +21,7 @@ use path_model::Events;
 use std::alloc::{AllocError, Global};
 use std::marker::Model;
 use suit_commands::Step;
-use suit_params::{Digest, ParamList};
+use suit_params::ParamList;
 
 /// The events that led to a state, and the matches that stand after them.
 #[derive(Drop)]
@@ -63,15 +63,14 @@ fn stand_after<'a>(
 }
 
 impl<'a> History<'a> {
-    /// Nothing has happened.
-    pub(crate) fn new(alloc: Global) -> Result<History<'a>, AllocError>
-        ensures { IfOk result (λ history. history ≡ []) }
+    /// Nothing has happened. Takes no memory.
+    pub(crate) fn new(alloc: Global) -> History<'a>
+        ensures { result ≡ [] }
     {
-        let standing = StandingMatches::new(alloc)?;
-        Ok(History {
+        History {
             past: Past::new(),
-            standing,
-        })
+            standing: StandingMatches::none(alloc),
+        }
     }
 
     /// The same.
@@ -208,11 +207,12 @@ impl<'a> History<'a> {
         Ok(history)
     }
 
-    /// Whether a component stands as matched under a digest and a size.
-    pub(crate) fn has_matched(&self, component: u32, digest: &Digest, size: Option<u64>) -> bool
-        ensures { IsTrue result ↔ HasMatched self.now component digest.now size }
+    /// Whether a component stands as matched so.
+    pub(crate) fn has_matched(&self, component: u32, own: &Match<'_>) -> bool
+        ensures { IsTrue result
+            ↔ HasMatched self.now component own.now.digest.now own.now.size }
     {
-        self.standing.has(component, &Match::new(digest, size))
+        self.standing.has(component, own)
     }
 
     /// Whether the same matches stand.
@@ -227,9 +227,9 @@ impl<'a> History<'a> {
         self.standing.fingerprint()
     }
 
-    /// How many matches stand, at most.
-    pub(crate) fn most(&self) -> u32 {
-        self.standing.most()
+    /// What a comparison of the matches costs.
+    pub(crate) fn cost(&self) -> u64 {
+        self.standing.cost()
     }
 
     /// The events, in memory of their own.

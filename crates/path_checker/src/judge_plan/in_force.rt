@@ -1,11 +1,11 @@
 //! The parameters in force, and their values.
 
-ghost use Rattle.std.specs.Prelude.{◌≡◌, ◌<◌, Some, is_some, IsTrue, IfOk, OnOk, OnErr};
+ghost use Rattle.std.specs.Prelude.{◌≡◌, ◌<◌, [], length, replicate, slice_get, slice_set, slice_index_or, Some, None, is_some, IsTrue, IfOk, OnOk, OnErr};
 ghost use Rattle.std.specs.Option.{option_copied};
-ghost use Rattle.suit_params.specs.declared.param.ParamKey.{ParamKey as TheKey};
 ghost use Rattle.suit_params.specs.declared.param.ParamKey.TheVariants.{Content, Uri, Source};
 ghost use Rattle.suit_params.specs.ParamKeys.{key_of};
-ghost use Rattle.suit_params.specs.InForce.{none_in_force, in_force, overridden, IsOverridden, identifier_of, number_of, bytes_of, digest_in, size_in};
+ghost use Rattle.suit_params.specs.InForce.{rank, held_at, none_in_force, in_force, overridden, identifier_of, number_of, bytes_of, digest_in, size_in};
+ghost use Rattle.path_checker.specs.Rows.{together, overridden_row, AreKeyed};
 ghost use Rattle.path_checker.specs.Wanting.{wanted_by};
 
 use crate::judge_plan::facts::Own;
@@ -17,14 +17,46 @@ use std::cell::Cell;
 use std::marker::Model;
 use std::rc::Rc;
 use suit_commands::TestKind;
-use suit_params::{
-    Digest, Param, ParamKey, ParamList, Params, identifier_of, in_force_laws, number_of,
-};
+use suit_params::{Digest, Param, ParamKey, ParamList, identifier_of, number_of, rank};
 
-/// The parameters in force, each under its own key. Copies share them until one is overridden.
+/// A component's parameters in force, by the rank of their keys, and their fingerprint, or 0 where none was made.
+#[derive(Drop)]
+pub(crate) struct Cells<'a> {
+    params: [Option<&'a Param>; 12],
+    print: Cell<u64>,
+}
+
+impl<'a> Model for Cells<'a> {
+    ghost use Rattle.std.specs.Prelude.{List, Option};
+    ghost use Rattle.suit_params.specs.declared.param.Param.{Param};
+
+    ghost Value = { List (Option Param) };
+
+    ghost use Rattle.suit_params.specs.Lent.{lent_params};
+
+    ghost view = { λ a. lent_params a.params };
+}
+
+/// A component's parameters in force. Copies share them until one is overridden.
+#[derive(Drop)]
+pub(crate) struct Row<'a> {
+    held: Rc<Cells<'a>>,
+}
+
+impl<'a> Model for Row<'a> {
+    ghost use Rattle.std.specs.Prelude.{List, Option};
+    ghost use Rattle.suit_params.specs.declared.param.Param.{Param};
+
+    ghost Value = { List (Option Param) };
+
+    ghost view = { λ a. a.held.value };
+}
+
+/// The parameters in force, each under its own key. Copies share them, and where one component's are overridden, those of
+/// the others.
 #[derive(Drop)]
 pub(crate) struct InForce<'a> {
-    params: Rc<Params<'a>>,
+    held: Rc<Vec<Row<'a>>>,
 }
 
 impl<'a> Model for InForce<'a> {
@@ -33,11 +65,11 @@ impl<'a> Model for InForce<'a> {
 
     ghost Value = { List (Option Param) };
 
-    ghost view = { λ a. a.params.value };
+    ghost use Rattle.path_checker.specs.Rows.{together, AreKeyed};
 
-    ghost use Rattle.path_checker.specs.Keyed.{IsKeyed};
+    ghost view = { λ a. together a.held.value.items };
 
-    ghost invariant = { λ a. IsKeyed a.params.value };
+    ghost invariant = { λ a. AreKeyed a.held.value.items };
 }
 
 fn has_bytes(param: Option<&Param>) -> bool
@@ -61,180 +93,86 @@ fn source_of(param: &Param) -> Option<u32>
     }
 }
 
-// Overrides them in place, or in a copy where they are shared.
-fn override_shared<'a>(
-    params: &mut Rc<Params<'a>>,
-    alloc: Global,
-    component: u32,
-    list: &'a ParamList,
-) -> Result<(), AllocError>
-    requires room { component < 8 }
-    ensures exact { OnOk result
-        (params.new.value ≡ overridden params.old.value component list.now) }
-    ensures last { OnOk result (IsOverridden params.old.value params.new.value component list.now) }
-    ensures err { OnErr result (params.new.value ≡ params.old.value) }
-{
-    match Rc::get_mut(params) {
-        Some(own) => {
-            own.override_with(component, list);
-            Ok(())
-        }
-        None => {
-            let mut other = params.copy();
-            other.override_with(component, list);
-            *params = Rc::new(alloc, other)?;
-            Ok(())
-        }
+// How many bytes a parameter in force has as its value.
+fn bytes_in(param: Option<&Param>) -> usize {
+    match param {
+        Some(Param::Content(bytes)) => bytes.len(),
+        Some(Param::Uri(text)) => text.len(),
+        Some(Param::Args(bytes)) => bytes.len(),
+        _ => 0,
     }
 }
 
-impl<'a> InForce<'a> {
-    /// Nothing is in force.
-    pub(crate) fn new(alloc: Global) -> Result<InForce<'a>, AllocError>
-        ensures { IfOk result (λ params. params ≡ none_in_force) }
+impl<'a> Cells<'a> {
+    // Nothing is in force.
+    fn new() -> Cells<'a>
+        ensures { result ≡ replicate 12 None }
     {
-        in_force_laws();
-        overriding_laws();
-        let params = Rc::new(alloc, Params::new())?;
-        Ok(InForce { params })
-    }
-
-    /// The same, shared.
-    pub(crate) fn copy(&self) -> Result<InForce<'a>, AllocError>
-        ensures { IfOk result (λ params. params ≡ self.now) }
-    {
-        let params = self.params.clone()?;
-        Ok(InForce { params })
-    }
-
-    /// Overrides a component's parameters by those of a list, in their order.
-    pub(crate) fn override_with(
-        &mut self,
-        alloc: Global,
-        component: u32,
-        list: &'a ParamList,
-    ) -> Result<(), AllocError>
-        requires room { component < 8 }
-        ensures { OnOk result (self.new ≡ overridden self.old component list.now) }
-    {
-        overriding_laws();
-        override_shared(&mut self.params, alloc, component, list)
-    }
-
-    /// Whether no other state shares them.
-    pub(crate) fn is_own(&self) -> bool {
-        Rc::strong_count(&self.params) == 1
-    }
-
-    /// The same, shared with those that were made last where they are equal.
-    pub(crate) fn shared(self, last: &Cell<Option<InForce<'a>>>) -> Result<InForce<'a>, AllocError>
-        ensures { IfOk result (λ params. params ≡ self.entry) }
-    {
-        if let Some(made) = last.replace(None) {
-            if made.is_same(&self) {
-                let same = made.copy()?;
-                last.set(Some(made));
-                return Ok(same);
-            }
-        }
-        last.set(Some(self.copy()?));
-        Ok(self)
-    }
-
-    // How many bytes are in force for a component under a key.
-    fn bytes_under(&self, component: u32, key: ParamKey) -> usize
-        requires room { component < 8 }
-    {
-        match self.params.get(component, key) {
-            Some(Param::Content(bytes)) => bytes.len(),
-            Some(Param::Uri(text)) => text.len(),
-            Some(Param::Args(bytes)) => bytes.len(),
-            _ => 0,
+        Cells {
+            params: [None; 12],
+            print: Cell::new(0),
         }
     }
 
-    // How many bytes are in force for a component.
-    fn bytes_at(&self, component: u32) -> usize
-        requires room { component < 8 }
+    // The same, in memory of its own.
+    fn copy(&self) -> Cells<'a>
+        ensures { result ≡ self.now }
     {
-        let content = self.bytes_under(component, ParamKey::Content);
-        let uri = self.bytes_under(component, ParamKey::Uri);
-        let args = self.bytes_under(component, ParamKey::Args);
-        content.saturating_add(uri).saturating_add(args)
-    }
-
-    /// How many bytes are in force.
-    pub(crate) fn bytes(&self) -> usize {
-        let mut all: usize = 0;
-        for component in 0..8_u32 {
-            all = all.saturating_add(self.bytes_at(component));
+        Cells {
+            params: self.params,
+            print: Cell::new(self.print.get()),
         }
-        all
     }
 
-    // Whether the same is in force for a component under a key.
-    fn is_same_under(&self, other: &InForce<'_>, component: u32, key: ParamKey) -> bool
-        requires room { component < 8 }
-        ensures { IsTrue result
-            → in_force self.now component key ≡ in_force other.now component key }
+    fn get(&self, key: ParamKey) -> Option<&'a Param>
+        ensures { option_copied result ≡ held_at (slice_get self.now (rank key)) }
     {
-        same_param(
-            self.params.get(component, key),
-            other.params.get(component, key),
-        )
+        let params = &self.params[..];
+        params[rank(key)]
     }
 
-    // Whether the same is in force for a component.
-    fn is_same_at(&self, other: &InForce<'_>, component: u32) -> bool
-        requires room { component < 8 }
-        ensures { IsTrue result → (key : TheKey)
-            → in_force self.now component key ≡ in_force other.now component key }
+    // Replaces the value of one key.
+    fn set(&mut self, param: &'a Param)
+        ensures { self.new ≡ slice_set self.old (rank (key_of param.now)) (Some param.now) }
     {
-        self.is_same_under(other, component, ParamKey::Vendor)
-            && self.is_same_under(other, component, ParamKey::Class)
-            && self.is_same_under(other, component, ParamKey::Device)
-            && self.is_same_under(other, component, ParamKey::Digest)
-            && self.is_same_under(other, component, ParamKey::Slot)
-            && self.is_same_under(other, component, ParamKey::Strict)
-            && self.is_same_under(other, component, ParamKey::Soft)
-            && self.is_same_under(other, component, ParamKey::Size)
-            && self.is_same_under(other, component, ParamKey::Content)
-            && self.is_same_under(other, component, ParamKey::Uri)
-            && self.is_same_under(other, component, ParamKey::Source)
-            && self.is_same_under(other, component, ParamKey::Args)
+        let params = &mut self.params[..];
+        params[rank(param.key())] = Some(param);
     }
 
-    /// Whether the same is in force.
-    pub(crate) fn is_same(&self, other: &InForce<'_>) -> bool
+    // Overrides them by those of a list, in their order.
+    fn override_with(&mut self, list: &'a ParamList)
+        ensures { self.new ≡ overridden_row self.old list.now }
+    {
+        for param in list.as_slice() {
+            self.set(param);
+        }
+        self.print = Cell::new(0);
+    }
+
+    // Whether the same is in force.
+    fn is_same(&self, other: &Cells<'_>) -> bool
         ensures { IsTrue result → self.now ≡ other.now }
     {
-        overriding_laws();
-        let _ = &self.params;
-        let _ = &other.params;
-        let mut component = 0;
-        while component < 8 {
-            if !self.is_same_at(other, component) {
+        let (mine, theirs) = (&self.params[..], &other.params[..]);
+        let mut index = 0;
+        while index < 12 {
+            if !same_param(mine[index], theirs[index]) {
                 return false;
             }
-            component += 1;
+            index += 1;
         }
         true
     }
 
-    /// A fingerprint: equal where the same is in force. Looks at so many components only.
-    pub(crate) fn fingerprint(&self, count: usize) -> u64 {
-        let mut print = 0;
-        let mut component: u32 = 0;
-        while component < 8 && (component as usize) < count {
-            print = mixed(print, self.fingerprint_at(component));
-            component += 1;
-        }
-        print
+    // How many bytes are in force.
+    fn bytes(&self) -> usize {
+        let content = bytes_in(self.get(ParamKey::Content));
+        let uri = bytes_in(self.get(ParamKey::Uri));
+        let args = bytes_in(self.get(ParamKey::Args));
+        content.saturating_add(uri).saturating_add(args)
     }
 
-    fn fingerprint_at(&self, component: u32) -> u64
-        requires room { component < 8 }
-    {
+    fn fingerprint(&self) -> u64 {
         let mut print = 0;
         for key in &[
             ParamKey::Vendor,
@@ -248,7 +186,233 @@ impl<'a> InForce<'a> {
             ParamKey::Source,
             ParamKey::Args,
         ] {
-            print = mixed(print, of_param(self.params.get(component, *key)));
+            print = mixed(print, of_param(self.get(*key)));
+        }
+        print
+    }
+}
+
+impl<'a> Row<'a> {
+    // Nothing is in force.
+    fn new(alloc: Global) -> Result<Row<'a>, AllocError>
+        ensures { IfOk result (λ row. row ≡ replicate 12 None) }
+    {
+        let held = Rc::new(alloc, Cells::new())?;
+        Ok(Row { held })
+    }
+
+    // The same, shared.
+    fn copy(&self) -> Result<Row<'a>, AllocError>
+        ensures { IfOk result (λ row. row ≡ self.now) }
+    {
+        let held = self.held.clone()?;
+        Ok(Row { held })
+    }
+
+    fn get(&self, key: ParamKey) -> Option<&'a Param>
+        ensures { option_copied result ≡ held_at (slice_get self.now (rank key)) }
+    {
+        self.held.get(key)
+    }
+
+    // Overrides them in place, or in a copy where they are shared.
+    fn override_with(&mut self, alloc: Global, list: &'a ParamList) -> Result<(), AllocError>
+        ensures exact { OnOk result (self.new ≡ overridden_row self.old list.now) }
+        ensures err { OnErr result (self.new ≡ self.old) }
+    {
+        match Rc::get_mut(&mut self.held) {
+            Some(own) => {
+                own.override_with(list);
+                Ok(())
+            }
+            None => {
+                let mut other = self.held.copy();
+                other.override_with(list);
+                self.held = Rc::new(alloc, other)?;
+                Ok(())
+            }
+        }
+    }
+
+    // Whether the same is in force.
+    fn is_same(&self, other: &Row<'_>) -> bool
+        ensures { IsTrue result → self.now ≡ other.now }
+    {
+        self.held.is_same(&other.held)
+    }
+
+    fn bytes(&self) -> usize {
+        self.held.bytes()
+    }
+
+    // A fingerprint, made once.
+    fn fingerprint(&self) -> u64 {
+        let made = self.held.print.get();
+        if made != 0 {
+            return made;
+        }
+        let print = self.held.fingerprint();
+        self.held.print.set(print);
+        print
+    }
+}
+
+// Eight rows with nothing in force. They are shared.
+fn empty_rows<'a>(alloc: Global) -> Result<Vec<Row<'a>>, AllocError>
+    ensures { IfOk result (λ rows. rows.items ≡ replicate 8 (replicate 12 None)) }
+{
+    let row = Row::new(alloc)?;
+    let mut rows = Vec::new(alloc);
+    for _ in 0..8_u32 {
+        rows.push(row.copy()?)?;
+    }
+    Ok(rows)
+}
+
+// The same rows, shared, in a list of its own.
+fn copied<'a>(alloc: Global, rows: &[Row<'a>]) -> Result<Vec<Row<'a>>, AllocError>
+    ensures { IfOk result (λ other. other.items ≡ rows.now) }
+{
+    let mut all = Vec::new(alloc);
+    for row in rows {
+        all.push(row.copy()?)?;
+    }
+    Ok(all)
+}
+
+// Overrides one in place, or in a copy where they are shared.
+fn override_shared<'a>(
+    held: &mut Rc<Vec<Row<'a>>>,
+    alloc: Global,
+    component: usize,
+    list: &'a ParamList,
+) -> Result<(), AllocError>
+    requires room { component < length held.now.value.items }
+    ensures exact { OnOk result (held.new.value.items
+        ≡ slice_set held.old.value.items component
+        (overridden_row (slice_index_or held.old.value.items component []) list.now)) }
+    ensures err { OnErr result (held.new.value.items ≡ held.old.value.items) }
+{
+    match Rc::get_mut(held) {
+        Some(own) => own[component].override_with(alloc, list),
+        None => {
+            let mut other = copied(alloc, held.as_slice())?;
+            other[component].override_with(alloc, list)?;
+            *held = Rc::new(alloc, other)?;
+            Ok(())
+        }
+    }
+}
+
+impl<'a> InForce<'a> {
+    /// Nothing is in force.
+    pub(crate) fn new(alloc: Global) -> Result<InForce<'a>, AllocError>
+        ensures { IfOk result (λ params. params ≡ none_in_force) }
+    {
+        overriding_laws();
+        let held = Rc::new(alloc, empty_rows(alloc)?)?;
+        Ok(InForce { held })
+    }
+
+    /// The same, shared.
+    pub(crate) fn copy(&self) -> Result<InForce<'a>, AllocError>
+        ensures { IfOk result (λ params. params ≡ self.now) }
+    {
+        let held = self.held.clone()?;
+        Ok(InForce { held })
+    }
+
+    fn rows(&self) -> &[Row<'a>]
+        ensures is { together result.now ≡ self.now }
+        ensures keyed { AreKeyed result.now }
+    {
+        self.held.as_slice()
+    }
+
+    // The value in force for a component and a key.
+    fn get(&self, component: u32, key: ParamKey) -> Option<&'a Param>
+        requires room { component < 8 }
+        ensures { option_copied result ≡ in_force self.now component key }
+    {
+        let index = component as usize;
+        let rows = self.rows();
+        rows[index].get(key)
+    }
+
+    /// Overrides a component's parameters by those of a list, in their order.
+    pub(crate) fn override_with(
+        &mut self,
+        alloc: Global,
+        component: u32,
+        list: &'a ParamList,
+    ) -> Result<(), AllocError>
+        requires room { component < 8 }
+        ensures { OnOk result (self.new ≡ overridden self.old component list.now) }
+    {
+        overriding_laws();
+        override_shared(&mut self.held, alloc, component as usize, list)
+    }
+
+    /// Whether no other state shares them.
+    pub(crate) fn is_own(&self) -> bool {
+        Rc::strong_count(&self.held) == 1
+    }
+
+    /// Shares them with those that were made last, where they are equal.
+    pub(crate) fn share(&mut self, last: &Cell<Option<InForce<'a>>>) -> Result<(), AllocError>
+        ensures { OnOk result (self.new ≡ self.old) }
+    {
+        if let Some(made) = last.replace(None) {
+            if made.is_same(self) {
+                self.held = made.held.clone()?;
+                last.set(Some(made));
+                return Ok(());
+            }
+        }
+        last.set(Some(self.copy()?));
+        Ok(())
+    }
+
+    /// How many bytes are in force.
+    pub(crate) fn bytes(&self) -> usize {
+        let mut all: usize = 0;
+        for row in self.rows() {
+            all = all.saturating_add(row.bytes());
+        }
+        all
+    }
+
+    /// What a comparison costs: 1 for 64 bytes.
+    pub(crate) fn cost(&self) -> u64 {
+        self.bytes() as u64 / 64
+    }
+
+    /// Whether the same is in force.
+    pub(crate) fn is_same(&self, other: &InForce<'_>) -> bool
+        ensures { IsTrue result → self.now ≡ other.now }
+    {
+        let (mine, theirs) = (self.rows(), other.rows());
+        if mine.len() != theirs.len() {
+            return false;
+        }
+        let mut index = 0;
+        while index < mine.len() {
+            if !mine[index].is_same(&theirs[index]) {
+                return false;
+            }
+            index += 1;
+        }
+        true
+    }
+
+    /// A fingerprint: equal where the same is in force. Looks at so many components only.
+    pub(crate) fn fingerprint(&self, count: usize) -> u64 {
+        let rows = self.rows();
+        let mut print = 0;
+        let mut index = 0;
+        while index < rows.len() && index < count {
+            print = mixed(print, rows[index].fingerprint());
+            index += 1;
         }
         print
     }
@@ -258,7 +422,7 @@ impl<'a> InForce<'a> {
         requires room { component < 8 }
         ensures { option_copied result ≡ digest_in self.now component }
     {
-        match self.params.get(component, ParamKey::Digest) {
+        match self.get(component, ParamKey::Digest) {
             Some(Param::Digest(digest)) => Some(digest),
             _ => None,
         }
@@ -269,7 +433,7 @@ impl<'a> InForce<'a> {
         requires room { component < 8 }
         ensures { result ≡ size_in self.now component }
     {
-        number_of(self.params.get(component, ParamKey::Size))
+        number_of(self.get(component, ParamKey::Size))
     }
 
     /// Whether a component has a content.
@@ -277,7 +441,7 @@ impl<'a> InForce<'a> {
         requires room { component < 8 }
         ensures { result ≡ is_some (bytes_of (in_force self.now component Content)) }
     {
-        has_bytes(self.params.get(component, ParamKey::Content))
+        has_bytes(self.get(component, ParamKey::Content))
     }
 
     /// Whether a component has a URI.
@@ -285,7 +449,7 @@ impl<'a> InForce<'a> {
         requires room { component < 8 }
         ensures { result ≡ is_some (bytes_of (in_force self.now component Uri)) }
     {
-        has_bytes(self.params.get(component, ParamKey::Uri))
+        has_bytes(self.get(component, ParamKey::Uri))
     }
 
     /// The source of a component.
@@ -293,7 +457,8 @@ impl<'a> InForce<'a> {
         requires room { component < 8 }
         ensures { result ≡ number_of (in_force self.now component Source) }
     {
-        match self.params.get(component, ParamKey::Source) {
+        let _ = &self.held;
+        match self.get(component, ParamKey::Source) {
             Some(param) => source_of(param),
             None => None,
         }
@@ -303,7 +468,7 @@ impl<'a> InForce<'a> {
         requires room { component < 8 }
         ensures { result ≡ identifier_of (in_force self.now component key) }
     {
-        identifier_of(self.params.get(component, key))
+        identifier_of(self.get(component, key))
     }
 
     /// The identity that a condition asks for.
@@ -324,7 +489,7 @@ impl<'a> InForce<'a> {
                 Some(id) => Some(Own::Device(id)),
                 None => None,
             },
-            TestKind::Slot => match number_of(self.params.get(component, ParamKey::Slot)) {
+            TestKind::Slot => match number_of(self.get(component, ParamKey::Slot)) {
                 Some(number) => Some(Own::Slot(number)),
                 None => None,
             },

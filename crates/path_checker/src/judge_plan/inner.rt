@@ -1,8 +1,10 @@
 //! Entering and leaving inner sequences.
 
 ghost use Rattle.std.specs.Prelude.{◌≡◌, ◌<◌, true, [], ◌∷◌, ◌++◌, OnOk, IfOk};
-ghost use Rattle.path_checker.specs.Inner.{entered, all_entered, all_left, resumed, if_soft, if_hard, softly, hardly, exhausted_at, exhausted, restarted, all_restarted};
+ghost use Rattle.path_checker.specs.Inner.{entered, all_entered, all_left, resumed, if_soft, if_hard, softly, hardly, exhausted_at, exhausted, restarted, all_restarted, none_inside};
+ghost use Rattle.path_checker.specs.Exploring.{after_stops};
 
+use crate::judge_plan::failures::Failures;
 use crate::judge_plan::happened::Ended;
 use crate::judge_plan::in_force::InForce;
 use crate::judge_plan::kept::{Kept, Stopped};
@@ -46,6 +48,19 @@ pub(crate) fn only<'a>(alloc: Global, k: Kept<'a>) -> Result<Vec<Kept<'a>>, Allo
     let mut one = Vec::new(alloc);
     one.push(k)?;
     Ok(one)
+}
+
+/// None of an inner sequence so far. Those with soft failure are kept where something goes on from them.
+pub(crate) fn none_inside<'a>(
+    alloc: Global,
+    goes_on: bool,
+    failed: &Failures<'a>,
+    outer: &Outer<'a>,
+) -> Failures<'a>
+    ensures { result ≡ none_inside goes_on failed.now outer.now }
+{
+    let passed_on = failed.keeps(outer.soft_failure);
+    Failures::none(alloc, goes_on || passed_on, passed_on)
 }
 
 /// Enters an inner sequence, with one component selected.
@@ -133,20 +148,20 @@ fn split_one<'a>(
     outer: &Outer<'a>,
     stop: Stopped<'a>,
     next: &mut Vec<Kept<'a>>,
-    failed: &mut Vec<Stopped<'a>>,
+    failed: &mut Failures<'a>,
 ) -> Result<(), AllocError>
     ensures soft { OnOk result
         (next.new.items ≡ next.old.items ++ if_soft outer.now stop.entry stop.entry.soft_failure) }
     ensures hard { OnOk result
-        (failed.new.items
-        ≡ failed.old.items ++ if_hard outer.now stop.entry stop.entry.soft_failure) }
+        (failed.new
+        ≡ after_stops failed.old (if_hard outer.now stop.entry stop.entry.soft_failure)) }
 {
     if stop.soft_failure {
         next.push(resume(memory, outer, stop)?)?;
     } else {
         let mut stop = stop;
         stop.soft_failure = outer.soft_failure;
-        failed.push(stop)?;
+        failed.add(stop)?;
     }
     Ok(())
 }
@@ -155,16 +170,16 @@ fn split_one<'a>(
 fn split<'a>(
     memory: Memory<'a>,
     outer: &Outer<'a>,
-    stops: Vec<Stopped<'a>>,
+    stops: Failures<'a>,
     next: &mut Vec<Kept<'a>>,
-    failed: &mut Vec<Stopped<'a>>,
+    failed: &mut Failures<'a>,
 ) -> Result<(), AllocError>
     ensures soft { OnOk result
         (next.new.items ≡ next.old.items ++ softly outer.now stops.entry.items) }
     ensures hard { OnOk result
-        (failed.new.items ≡ failed.old.items ++ hardly outer.now stops.entry.items) }
+        (failed.new ≡ after_stops failed.old (hardly outer.now stops.entry.items)) }
 {
-    for stop in stops {
+    for stop in stops.list {
         split_one(memory, outer, stop, next, failed)?;
     }
     Ok(())
@@ -175,16 +190,16 @@ pub(crate) fn leave<'a>(
     memory: Memory<'a>,
     outer: &Outer<'a>,
     done: Vec<Kept<'a>>,
-    stops: Vec<Stopped<'a>>,
+    stops: Failures<'a>,
     next: &mut Vec<Kept<'a>>,
-    failed: &mut Vec<Stopped<'a>>,
+    failed: &mut Failures<'a>,
 ) -> Result<(), AllocError>
     ensures on { OnOk result
         (next.new.items
         ≡ (next.old.items ++ all_left outer.now done.entry.items)
         ++ softly outer.now stops.entry.items) }
     ensures hard { OnOk result
-        (failed.new.items ≡ failed.old.items ++ hardly outer.now stops.entry.items) }
+        (failed.new ≡ after_stops failed.old (hardly outer.now stops.entry.items)) }
 {
     leave_all(outer, done, next)?;
     split(memory, outer, stops, next, failed)
@@ -195,15 +210,15 @@ pub(crate) fn leave_branch<'a>(
     memory: Memory<'a>,
     outer: &Outer<'a>,
     done: Vec<Kept<'a>>,
-    stops: Vec<Stopped<'a>>,
+    stops: Failures<'a>,
     next: &mut Vec<Kept<'a>>,
-    failed: &mut Vec<Stopped<'a>>,
+    failed: &mut Failures<'a>,
 ) -> Result<Vec<Kept<'a>>, AllocError>
     ensures done { OnOk result
         (next.new.items ≡ next.old.items ++ all_left outer.now done.entry.items) }
     ensures soft { IfOk result (λ rest. rest.items ≡ softly outer.now stops.entry.items) }
     ensures hard { OnOk result
-        (failed.new.items ≡ failed.old.items ++ hardly outer.now stops.entry.items) }
+        (failed.new ≡ after_stops failed.old (hardly outer.now stops.entry.items)) }
 {
     leave_all(outer, done, next)?;
     let mut rest = Vec::new(memory.alloc);
@@ -229,13 +244,13 @@ pub(crate) fn exhaust<'a>(
     place: u64,
     outer: &Outer<'a>,
     from: Vec<Kept<'a>>,
-    failed: &mut Vec<Stopped<'a>>,
+    failed: &mut Failures<'a>,
 ) -> Result<(), AllocError>
     ensures { OnOk result
-        (failed.new.items ≡ failed.old.items ++ exhausted outer.now place from.entry.items) }
+        (failed.new ≡ after_stops failed.old (exhausted outer.now place from.entry.items)) }
 {
     for k in from {
-        failed.push(exhaust_one(place, outer, k))?;
+        failed.add(exhaust_one(place, outer, k))?;
     }
     Ok(())
 }

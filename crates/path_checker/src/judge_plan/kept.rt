@@ -2,10 +2,10 @@
 
 ghost use Rattle.std.specs.Prelude.{◌≡◌, [], ◌∷◌, ◌++◌, IsTrue, IfOk, OnOk};
 ghost use Rattle.path_model.specs.Following.{SameMatches};
-ghost use Rattle.path_checker.specs.Exploring.{Kept as TheKept, Stopped as TheStopped, at_most_one, kept_if, kept_of, state_of};
+ghost use Rattle.path_checker.specs.Exploring.{Kept as TheKept, Stopped as TheStopped, kept_if, kept_of, state_of};
 ghost use Rattle.path_checker.specs.Happening.{event_of, after_end};
 ghost use Rattle.path_checker.specs.Merging.{SameState, SameStop};
-ghost use Rattle.path_checker.specs.Steps.{with_events, knowing, stopped_after};
+ghost use Rattle.path_checker.specs.Steps.{with_events, knowing};
 
 use crate::judge_plan::facts::Facts;
 use crate::judge_plan::fingerprint::mixed;
@@ -65,8 +65,8 @@ pub(crate) trait Standing: Drop {
     /// A fingerprint: equal where they are the same.
     fn fingerprint(&self) -> u64;
 
-    /// How many matches stand, at most.
-    fn most(&self) -> u32;
+    /// What a comparison costs: 1 for each match, and for 64 bytes of parameters.
+    fn cost(&self) -> u64;
 }
 
 impl<'a> Stopped<'a> {
@@ -94,8 +94,8 @@ impl<'a> Standing for Stopped<'a> {
         )
     }
 
-    fn most(&self) -> u32 {
-        self.history.most()
+    fn cost(&self) -> u64 {
+        self.history.cost().saturating_add(self.facts.cost())
     }
 }
 
@@ -119,8 +119,9 @@ impl<'a> Standing for Kept<'a> {
         )
     }
 
-    fn most(&self) -> u32 {
-        self.history.most()
+    fn cost(&self) -> u64 {
+        let known = self.history.cost().saturating_add(self.facts.cost());
+        known.saturating_add(self.params.cost())
     }
 }
 
@@ -194,43 +195,6 @@ pub(crate) fn pass<'a>(
     Ok(())
 }
 
-// The end of a state by a failed condition.
-fn failed_at<'a>(k: Kept<'a>, place: u64, ended: Ended) -> Stopped<'a>
-    ensures { result ≡ stopped_after k.entry ended place }
-{
-    Stopped {
-        facts: k.facts,
-        history: k.history,
-        ended,
-        place,
-        soft_failure: k.soft_failure,
-    }
-}
-
-/// Keeps the end by a failed condition.
-pub(crate) fn stop<'a>(
-    k: Kept<'a>,
-    place: u64,
-    ended: Ended,
-    failed: &mut Vec<Stopped<'a>>,
-) -> Result<(), AllocError>
-    ensures { OnOk result
-        (failed.new.items ≡ failed.old.items ++ stopped_after k.entry ended place ∷ []) }
-{
-    failed.push(failed_at(k, place, ended))?;
-    Ok(())
-}
-
-/// Adds a state, if there is one.
-pub(crate) fn add<'a>(more: Option<Kept<'a>>, next: &mut Vec<Kept<'a>>) -> Result<(), AllocError>
-    ensures { OnOk result (next.new.items ≡ next.old.items ++ at_most_one more.entry) }
-{
-    if let Some(k) = more {
-        next.push(k)?;
-    }
-    Ok(())
-}
-
 /// Adds a state, if it goes on.
 pub(crate) fn add_if<'a>(
     goes_on: bool,
@@ -242,13 +206,5 @@ pub(crate) fn add_if<'a>(
     if goes_on {
         next.push(k)?;
     }
-    Ok(())
-}
-
-/// Adds a state.
-pub(crate) fn put<'a>(k: Kept<'a>, next: &mut Vec<Kept<'a>>) -> Result<(), AllocError>
-    ensures { OnOk result (next.new.items ≡ next.old.items ++ k.entry ∷ []) }
-{
-    next.push(k)?;
     Ok(())
 }

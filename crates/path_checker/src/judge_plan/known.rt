@@ -141,10 +141,19 @@ impl<T: Fact> Known<T> {
 
     /// A fingerprint: equal where the same is known.
     pub(crate) fn fingerprint(&self) -> u64 {
-        match &self.value {
-            Some(value) => value.fingerprint(),
-            None => self.others.len() as u64,
+        if let Some(value) = &self.value {
+            return value.fingerprint();
         }
+        let mut print = 0;
+        for other in self.others.as_slice() {
+            print = mixed(print, other.fingerprint());
+        }
+        print
+    }
+
+    /// How many values it is not.
+    pub(crate) fn others(&self) -> u64 {
+        self.others.len() as u64
     }
 
     /// Whether it is this one, where that is known.

@@ -2,8 +2,9 @@
 
 ghost use Rattle.std.specs.Prelude.{◌≡◌, ◌↔◌, [], ◌∷◌, IsTrue, IfSome, IfOk, OnOk};
 ghost use Rattle.path_checker.specs.Exploring.{In};
-ghost use Rattle.path_checker.specs.Matches.{Match as TheMatch, match_of, matches_from, match_event, covered_event, SameMembers};
+ghost use Rattle.path_checker.specs.Matches.{Match as TheMatch, match_of, match_event, covered_event, SameMembers};
 
+use crate::judge_plan::fingerprint::mixed;
 use crate::judge_plan::links::{Ended, Links};
 use crate::judge_plan::memory::Memory;
 use crate::judge_plan::same_param::same_digest;
@@ -32,6 +33,15 @@ fn print_of(digest: &Digest, size: Option<u64>) -> u64 {
     hasher.finish()
 }
 
+// A number that is soon found. Other matches with the same one are easily made.
+fn number_of(digest: &Digest, size: Option<u64>) -> u64 {
+    let first = match digest.bytes().split_first_chunk::<8>() {
+        Some((eight, _)) => u64::from_le_bytes(*eight),
+        None => 0,
+    };
+    mixed(first, size.unwrap_or(0))
+}
+
 // A bit of a digest. Behind the last one they come again.
 fn bit_of(digest: &Digest, depth: u32) -> Option<bool> {
     let bytes = digest.bytes();
@@ -52,8 +62,8 @@ impl<'a> Match<'a> {
         }
     }
 
-    /// In memory that all states share, where it is made once.
-    pub(crate) fn lent(
+    // In memory that all states share, where it is made once.
+    fn made(
         memory: Memory<'a>,
         digest: &'a Digest,
         size: Option<u64>,
@@ -75,6 +85,25 @@ impl<'a> Match<'a> {
                 Ok(lent)
             }
         }
+    }
+
+    /// In memory that all states share. The one used last of those with its number is looked at first.
+    pub(crate) fn lent(
+        memory: Memory<'a>,
+        digest: &'a Digest,
+        size: Option<u64>,
+    ) -> Result<&'a Match<'a>, AllocError>
+        ensures { IfOk result (λ own. match_of own.now ≡ (digest.now, size)) }
+    {
+        let number = number_of(digest, size);
+        if let Some(last) = memory.used(number) {
+            if last.is_of(digest, size) {
+                return Ok(last);
+            }
+        }
+        let own = Match::made(memory, digest, size)?;
+        memory.keep_used(number, own);
+        Ok(own)
     }
 
     /// The event that a component matched so.
@@ -100,11 +129,18 @@ impl<'a> Match<'a> {
         }
     }
 
+    // Whether it is of this digest and this size.
+    fn is_of(&self, digest: &Digest, size: Option<u64>) -> bool
+        ensures { IsTrue result ↔ (match_of self.now ≡ (digest.now, size)) }
+    {
+        self.size == size && same_digest(self.digest, digest)
+    }
+
     /// Whether it is the other.
     pub(crate) fn is(&self, other: &Match<'_>) -> bool
         ensures { IsTrue result ↔ (match_of self.now ≡ match_of other.now) }
     {
-        self.size == other.size && same_digest(self.digest, other.digest)
+        self.is_of(other.digest, other.size)
     }
 
     /// Some bits of the fingerprint.
@@ -172,11 +208,18 @@ impl<'a> Matches<'a> {
         })
     }
 
+    // Searches a match.
+    fn search(&self, wanted: &Match<'_>) -> Ended
+        ensures { IsTrue result.found → In (match_of wanted.now) self.now }
+    {
+        self.links.search(self.all.as_slice(), wanted)
+    }
+
     // Whether a match is found.
     fn finds(&self, wanted: &Match<'_>) -> bool
         ensures { IsTrue result → In (match_of wanted.now) self.now }
     {
-        self.links.search(self.all.as_slice(), wanted).found
+        self.search(wanted).found
     }
 
     // One match more, where a search for it ended.
@@ -187,17 +230,6 @@ impl<'a> Matches<'a> {
         self.sum = self.sum.wrapping_add(own.print);
         self.links.add(alloc, self.all.as_slice(), own, ended)?;
         Ok(())
-    }
-
-    // One match more, if it is not found.
-    fn add(&mut self, alloc: Global, own: &'a Match<'a>) -> Result<(), AllocError>
-        ensures { OnOk result (SameMembers self.new (match_of own.now ∷ self.old)) }
-    {
-        let ended = self.links.search(self.all.as_slice(), own);
-        if ended.found {
-            return Ok(());
-        }
-        self.put(alloc, own, ended)
     }
 
     // The match at which a search ended, if it is the wanted one.
@@ -222,7 +254,7 @@ impl<'a> Matches<'a> {
     fn lent(&mut self, memory: Memory<'a>, own: Match<'a>) -> Result<&'a Match<'a>, AllocError>
         ensures { IfOk result (λ lent. match_of lent.now ≡ match_of own.entry) }
     {
-        let ended = self.links.search(self.all.as_slice(), &own);
+        let ended = self.search(&own);
         if let Some(made) = self.found(ended, &own) {
             return Ok(made);
         }
@@ -257,127 +289,176 @@ impl<'a> Matches<'a> {
     }
 }
 
-/// The matches of a component, of which there is one at least. Copies share them until one is added.
+// No match or one, which take no memory, or several, which copies share until one is added.
+#[derive(Drop)]
+enum Holding<'a> {
+    Nothing,
+    One(&'a Match<'a>),
+    Several(Rc<Matches<'a>>),
+}
+
+/// The matches of a component, of which there may be none.
 #[derive(Drop)]
 pub(crate) struct Held<'a> {
-    held: Rc<Matches<'a>>,
+    held: Holding<'a>,
 }
 
 impl<'a> Model for Held<'a> {
     ghost use Rattle.std.specs.Prelude.{List};
     ghost use Rattle.path_checker.specs.Matches.{Match as TheMatch};
+    ghost use Rattle.path_checker.specs.Holding.{held_matches};
 
     ghost Value = { List TheMatch };
 
-    ghost view = { λ a. a.held.value };
+    ghost view = { λ a. held_matches a.held };
 }
 
-impl<'a> Held<'a> {
-    fn of(alloc: Global, own: &'a Match<'a>) -> Result<Held<'a>, AllocError>
-        ensures { IfOk result (λ held. held ≡ match_of own.now ∷ []) }
-    {
-        let one = Matches::of(alloc, own)?;
-        let held = Rc::new(alloc, one)?;
-        Ok(Held { held })
-    }
-
-    // The same, shared.
-    fn copy(&self) -> Result<Held<'a>, AllocError>
-        ensures { IfOk result (λ held. held ≡ self.now) }
-    {
-        let held = self.held.clone()?;
-        Ok(Held { held })
-    }
-
-    // Whether a match is among them. All are looked at only where it is not found.
-    fn has(&self, wanted: &Match<'_>) -> bool
-        ensures { IsTrue result ↔ In (match_of wanted.now) self.now }
-    {
-        self.held.finds(wanted) || self.held.is_among(wanted)
-    }
-
-    // Whether each is found among the others.
-    fn is_within(&self, others: &Held<'_>) -> bool
-        ensures { IsTrue result
-            → (one : TheMatch) → In one self.now → In one others.now }
-    {
-        self.held.is_within(&others.held)
-    }
-
-    // One match more, in place or in a copy where they are shared.
-    fn add(&mut self, alloc: Global, own: &'a Match<'a>) -> Result<(), AllocError>
-        ensures { OnOk result (SameMembers self.new (match_of own.now ∷ self.old)) }
-    {
-        match Rc::get_mut(&mut self.held) {
-            Some(all) => all.add(alloc, own),
-            None => {
-                let mut all = self.held.copy(alloc)?;
-                all.add(alloc, own)?;
-                self.held = Rc::new(alloc, all)?;
-                Ok(())
-            }
-        }
-    }
-}
-
-// ---- the matches of a component, of which there may be none
-
-/// The same, shared.
-pub(crate) fn shared<'a>(held: &Option<Held<'a>>) -> Result<Option<Held<'a>>, AllocError>
-    ensures { IfOk result (λ other. other ≡ held.now) }
-{
-    match held {
-        Some(held) => Ok(Some(held.copy()?)),
-        None => Ok(None),
-    }
-}
-
-/// One match more.
-pub(crate) fn add<'a>(
-    held: &mut Option<Held<'a>>,
+// One match more, in place or in a copy where they are shared. Where it is found, nothing is copied.
+fn add_shared<'a>(
+    held: &mut Rc<Matches<'a>>,
     alloc: Global,
     own: &'a Match<'a>,
 ) -> Result<(), AllocError>
-    ensures { OnOk result
-        (SameMembers (matches_from held.new) (match_of own.now ∷ matches_from held.old)) }
+    ensures { OnOk result (SameMembers held.new.value (match_of own.now ∷ held.old.value)) }
 {
-    match held {
-        Some(held) => held.add(alloc, own),
+    let ended = held.search(own);
+    if ended.found {
+        return Ok(());
+    }
+    match Rc::get_mut(held) {
+        Some(all) => all.put(alloc, own, ended),
         None => {
-            *held = Some(Held::of(alloc, own)?);
+            let mut all = held.copy(alloc)?;
+            all.put(alloc, own, ended)?;
+            *held = Rc::new(alloc, all)?;
             Ok(())
         }
     }
 }
 
-/// The fingerprints of all matches, added up.
-pub(crate) fn sum(held: &Option<Held<'_>>) -> u64 {
-    match held {
-        Some(held) => held.held.sum,
-        None => 0,
-    }
+// Two matches.
+fn both<'a>(
+    alloc: Global,
+    one: &'a Match<'a>,
+    other: &'a Match<'a>,
+) -> Result<Rc<Matches<'a>>, AllocError>
+    ensures { IfOk result
+        (λ held. SameMembers held.value (match_of other.now ∷ match_of one.now ∷ [])) }
+{
+    let mut all = Matches::of(alloc, one)?;
+    let ended = all.search(other);
+    all.put(alloc, other, ended)?;
+    let held = Rc::new(alloc, all)?;
+    Ok(held)
 }
 
-/// Whether a match is among them.
-pub(crate) fn has(held: &Option<Held<'_>>, wanted: &Match<'_>) -> bool
-    ensures { IsTrue result ↔ In (match_of wanted.now) (matches_from held.now) }
-{
-    match held {
-        Some(held) => held.has(wanted),
-        None => false,
+impl<'a> Held<'a> {
+    /// None.
+    pub(crate) fn none() -> Held<'a>
+        ensures { result ≡ [] }
+    {
+        Held {
+            held: Holding::Nothing,
+        }
     }
-}
 
-/// Whether each is found among the others.
-pub(crate) fn is_within(held: &Option<Held<'_>>, others: &Option<Held<'_>>) -> bool
-    ensures { IsTrue result
-        → (one : TheMatch) → In one (matches_from held.now) → In one (matches_from others.now) }
-{
-    match held {
-        Some(held) => match others {
-            Some(others) => held.is_within(others),
-            None => false,
-        },
-        None => true,
+    fn of(own: &'a Match<'a>) -> Held<'a>
+        ensures { result ≡ match_of own.now ∷ [] }
+    {
+        Held {
+            held: Holding::One(own),
+        }
+    }
+
+    /// Whether there is none. May be false where there is none.
+    pub(crate) fn is_none(&self) -> bool
+        ensures { IsTrue result → self.now ≡ [] }
+    {
+        match &self.held {
+            Holding::Nothing => true,
+            _ => false,
+        }
+    }
+
+    /// The same, shared.
+    pub(crate) fn copy(&self) -> Result<Held<'a>, AllocError>
+        ensures { IfOk result (λ held. held ≡ self.now) }
+    {
+        match &self.held {
+            Holding::Nothing => Ok(Held::none()),
+            Holding::One(own) => Ok(Held::of(*own)),
+            Holding::Several(all) => {
+                let all = all.clone()?;
+                Ok(Held {
+                    held: Holding::Several(all),
+                })
+            }
+        }
+    }
+
+    /// The fingerprints of all, added up.
+    pub(crate) fn sum(&self) -> u64 {
+        match &self.held {
+            Holding::Nothing => 0,
+            Holding::One(own) => own.print,
+            Holding::Several(all) => all.sum,
+        }
+    }
+
+    // Whether a match is found.
+    fn finds(&self, wanted: &Match<'_>) -> bool
+        ensures { IsTrue result → In (match_of wanted.now) self.now }
+    {
+        match &self.held {
+            Holding::Nothing => false,
+            Holding::One(own) => own.is(wanted),
+            Holding::Several(all) => all.finds(wanted),
+        }
+    }
+
+    /// Whether a match is among them. All are looked at only where it is not found.
+    pub(crate) fn has(&self, wanted: &Match<'_>) -> bool
+        ensures { IsTrue result ↔ In (match_of wanted.now) self.now }
+    {
+        match &self.held {
+            Holding::Nothing => false,
+            Holding::One(own) => own.is(wanted),
+            Holding::Several(all) => all.finds(wanted) || all.is_among(wanted),
+        }
+    }
+
+    /// Whether each is found among the others.
+    pub(crate) fn is_within(&self, others: &Held<'_>) -> bool
+        ensures { IsTrue result
+            → (one : TheMatch) → In one self.now → In one others.now }
+    {
+        match &self.held {
+            Holding::Nothing => true,
+            Holding::One(own) => others.finds(own),
+            Holding::Several(all) => match &others.held {
+                Holding::Several(others) => all.is_within(others),
+                _ => false,
+            },
+        }
+    }
+
+    /// One match more.
+    pub(crate) fn add(&mut self, alloc: Global, own: &'a Match<'a>) -> Result<(), AllocError>
+        ensures { OnOk result (SameMembers self.new (match_of own.now ∷ self.old)) }
+    {
+        match &mut self.held {
+            Holding::Nothing => {
+                *self = Held::of(own);
+                Ok(())
+            }
+            Holding::One(one) => {
+                let one = *one;
+                if !one.is(own) {
+                    self.held = Holding::Several(both(alloc, one, own)?);
+                }
+                Ok(())
+            }
+            Holding::Several(all) => add_shared(all, alloc, own),
+        }
     }
 }

@@ -3,17 +3,17 @@
 use crate::judge_plan::facts::Shared;
 use crate::judge_plan::fingerprint::mixed;
 use crate::judge_plan::in_force::InForce;
-use crate::judge_plan::matches::Matches;
+use crate::judge_plan::matches::{Match, Matches};
 use crate::judge_plan::trace::Told;
 use bumpalo::Bump;
 use std::alloc::{AllocError, Global};
 use std::cell::Cell;
 
-/// How many matches are compared in all to find equal states. States that are not compared are all kept, and then the width
-/// alone bounds the work.
+/// How much is compared in all to find equal states: the cost of a match is 1. States that are not compared are all kept, and
+/// then the width alone bounds the work.
 pub(crate) const COMPARED: u64 = 4_194_304;
 
-// The cost of comparing two states that hold no match.
+// The cost of comparing two states that hold no match and no bytes.
 const LEAST: u64 = 32;
 
 // More states than these share their parameters, even where each has to be compared for it.
@@ -32,10 +32,13 @@ const FIRST: usize = 8;
 // By how much they become more where more are made.
 const MORE: usize = 16;
 
+// How many of the matches used last are kept: a power of two.
+const USED: usize = 1024;
+
 /// How many places there are for one that is kept.
 pub(crate) const WAYS: u32 = 8;
 
-/// The allocators of a judgement, and how many matches it may still compare. Events are freed together, when it ends.
+/// The allocators of a judgement, and how much it may still compare. Events are freed together, when it ends.
 #[derive(Clone, Copy)]
 pub(crate) struct Memory<'a> {
     pub alloc: Global,
@@ -53,6 +56,8 @@ pub(crate) struct Last<'a> {
     made: Cell<usize>,
     /// All matches.
     pub matches: Cell<Option<Matches<'a>>>,
+    // The matches used last.
+    used: Cell<&'a [Cell<Option<&'a Match<'a>>>]>,
     // How many states are kept at once.
     states: Cell<usize>,
     // How many bytes of parameters may still be compared so that states share them.
@@ -84,6 +89,7 @@ impl<'a> Last<'a> {
             told: Cell::new(&[]),
             made: Cell::new(0),
             matches: Cell::new(None),
+            used: Cell::new(&[]),
             states: Cell::new(0),
             left: Cell::new(READ),
             params: Cell::new(None),
@@ -113,6 +119,8 @@ impl<'a> Memory<'a> {
             last,
         };
         memory.keep_lent(FIRST)?;
+        let used = events.try_alloc_slice_fill_clone(USED, Cell::new(None))?;
+        last.used.set(used);
         Ok(memory)
     }
 
@@ -152,6 +160,23 @@ impl<'a> Memory<'a> {
     /// Whether so many states are kept at once that each is to share what it holds.
     pub(crate) fn is_crowded(&self) -> bool {
         self.last.states.get() > CROWD
+    }
+
+    /// The match that was used last of those with such a number.
+    pub(crate) fn used(&self, number: u64) -> Option<&'a Match<'a>> {
+        let used = self.last.used.get();
+        match used.get(number as usize % USED) {
+            Some(at) => at.get(),
+            None => None,
+        }
+    }
+
+    /// A match is used that has such a number.
+    pub(crate) fn keep_used(&self, number: u64, own: &'a Match<'a>) {
+        let used = self.last.used.get();
+        if let Some(at) = used.get(number as usize % USED) {
+            at.set(Some(own));
+        }
     }
 
     /// The knowledge that was made last of a component that has something of its own.
@@ -203,10 +228,9 @@ impl<'a> Memory<'a> {
         Ok(())
     }
 
-    /// Whether two states may be compared, one of which holds so many matches.
-    pub(crate) fn may_compare(&self, matches: u32) -> bool {
-        let cost = LEAST + u64::from(matches);
-        match self.left.get().checked_sub(cost) {
+    /// Whether two states may be compared, where what one of them holds has such a cost.
+    pub(crate) fn may_compare(&self, cost: u64) -> bool {
+        match self.left.get().checked_sub(cost.saturating_add(LEAST)) {
             Some(left) => {
                 self.left.set(left);
                 true

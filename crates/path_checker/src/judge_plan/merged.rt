@@ -6,37 +6,101 @@ ghost use Rattle.path_checker.specs.Merging.{Merges, SameState, SameStop};
 
 use crate::judge_plan::kept::{Kept, Standing, Stopped};
 use crate::judge_plan::memory::Memory;
-use crate::judge_plan::overriding::{are_overrides, first_overrides};
-use std::alloc::AllocError;
-use std::collections::HashMap;
+use std::alloc::{AllocError, Global};
 use suit_commands::Command;
 
 // The smallest number of failures that are searched for equal ones.
 const FEW: usize = 32;
 
-// Whether the one at an index stands for this one, or an earlier one of the same fingerprint.
-fn stands_for<T: Standing>(
-    memory: Memory<'_>,
-    kept: &[T],
-    earlier: &[Option<usize>],
-    last: Option<&usize>,
-    one: &T,
-) -> bool
+// How many of other fingerprints are passed over.
+const FAR: u32 = 64;
+
+// Those that are kept, found by their fingerprints.
+#[derive(Drop)]
+struct Seen {
+    // By some bits of a fingerprint, where the last one with these is: one more than its index, or 0. Its length is a power of two.
+    last: Vec<usize>,
+    // Of each that is kept, its fingerprint, and where the one before it is.
+    prints: Vec<u64>,
+    before: Vec<usize>,
+}
+
+impl Seen {
+    // None of so many.
+    fn new(alloc: Global, count: usize) -> Result<Seen, AllocError> {
+        let mut last = Vec::new(alloc);
+        last.resize(count.checked_next_power_of_two().unwrap_or(1), 0)?;
+        Ok(Seen {
+            last,
+            prints: Vec::with_capacity(alloc, count)?,
+            before: Vec::with_capacity(alloc, count)?,
+        })
+    }
+
+    fn bits(&self, print: u64) -> usize {
+        print as usize & self.last.len().wrapping_sub(1)
+    }
+
+    // The index of the last one that may have a fingerprint.
+    fn last(&self, print: u64) -> Option<usize> {
+        match self.last.get(self.bits(print)) {
+            Some(last) => last.checked_sub(1),
+            None => None,
+        }
+    }
+
+    // The index of the one before that may have the same one.
+    fn before(&self, index: usize) -> Option<usize> {
+        match self.before.get(index) {
+            Some(before) => before.checked_sub(1),
+            None => None,
+        }
+    }
+
+    fn has(&self, index: usize, print: u64) -> bool {
+        match self.prints.get(index) {
+            Some(own) => *own == print,
+            None => false,
+        }
+    }
+
+    // One more is kept.
+    fn add(&mut self, print: u64) -> Result<(), AllocError> {
+        let bits = self.bits(print);
+        self.prints.push(print)?;
+        if let Some(last) = self.last.get_mut(bits) {
+            self.before.push(*last)?;
+            *last = self.prints.len();
+        }
+        Ok(())
+    }
+}
+
+// Whether one of these stands for this one.
+fn stands_for<T: Standing>(memory: Memory<'_>, kept: &[T], seen: &Seen, print: u64, one: &T) -> bool
     ensures { IsTrue result → (other : T) × In other kept.now × T.same other one.now }
 {
+    let mut far = FAR;
     let mut left = kept.len();
-    let mut at = last.copied();
+    let mut at = seen.last(print);
     while let Some(index) = at {
-        if index >= left || !memory.may_compare(one.most()) {
+        if index >= left {
             return false;
         }
-        if kept[index].is_same(one) {
-            return true;
+        if seen.has(index, print) {
+            if !memory.may_compare(one.cost()) {
+                return false;
+            }
+            if kept[index].is_same(one) {
+                return true;
+            }
+        } else {
+            let Some(fewer) = far.checked_sub(1) else {
+                return false;
+            };
+            far = fewer;
         }
-        at = match earlier.get(index) {
-            Some(before) => *before,
-            None => None,
-        };
+        at = seen.before(index);
         left = index;
     }
     false
@@ -47,18 +111,15 @@ fn merged<T: Standing>(memory: Memory<'_>, from: Vec<T>) -> Result<Vec<T>, Alloc
     requires { (one : T) → T.same one one }
     ensures { IfOk result (λ v. Merges T.same from.items v.items) }
 {
-    let mut seen = HashMap::new(memory.alloc);
+    let mut seen = Seen::new(memory.alloc, from.len())?;
     let mut kept = Vec::new(memory.alloc);
-    // Of each that is kept, the index of the one before it with its fingerprint.
-    let mut earlier = Vec::new(memory.alloc);
     for one in from {
         let print = one.fingerprint();
-        if stands_for(memory, &kept, &earlier, seen.get(&print), &one) {
+        if stands_for(memory, &kept, &seen, print, &one) {
             continue;
         }
-        let before = seen.insert(print, kept.len())?;
         kept.push(one)?;
-        earlier.push(before)?;
+        seen.add(print)?;
     }
     Ok(kept)
 }
@@ -66,8 +127,8 @@ fn merged<T: Standing>(memory: Memory<'_>, from: Vec<T>) -> Result<Vec<T>, Alloc
 // Whether a command runs other sequences: where none is run, a state is followed by one state at most.
 fn has_inner(command: &Command) -> bool {
     match command {
-        Command::TryEach(branches) => first_overrides(branches).is_none(),
-        Command::Run(inner) => !are_overrides(inner.as_slice()),
+        Command::TryEach(_) => true,
+        Command::Run(_) => true,
         _ => false,
     }
 }

@@ -10,6 +10,7 @@ ghost use Rattle.path_checker.specs.Procedures.{RunsParts, RunsThen, AreSmallPar
 ghost use Rattle.path_checker.specs.Small.{IsSmallSequence, IsSmallCommand, IsStraight};
 ghost use Rattle.path_checker.specs.Halting.{Halts};
 
+use crate::judge_plan::failures::Failures;
 use crate::judge_plan::halt::Halt;
 use crate::judge_plan::inner::{only, restart, restart_all};
 use crate::judge_plan::kept::Kept;
@@ -41,7 +42,7 @@ fn outermost<'a>(
     if is_straight(&step.command) {
         return straight(memory, count, step, from);
     }
-    let mut ended = Vec::new(memory.alloc);
+    let mut ended = Failures::none(memory.alloc, false, false);
     command(memory, count, step, from, &mut ended)
 }
 
@@ -125,7 +126,7 @@ fn each_alone<'a>(
     Ok(())
 }
 
-// The same from one state: in place, as long as they hold no sequence.
+// The same from one state: in place, as long as it is followed by one at most.
 #[cycle(alone)]
 fn alone<'a>(
     memory: Memory<'a>,
@@ -177,7 +178,7 @@ fn parts_alone<'a>(
     alone(memory, count, steps_of(*lent), rest, started)
 }
 
-// The command at an index, if it holds no sequence.
+// The command at an index, if it is a condition, or holds none that is met.
 fn straight_at(steps: &[Step], at: usize) -> Option<&Step>
     ensures within { IfSome result (λ step. at < length steps.now) }
     ensures is { IfSome result (λ step. step.now ≡ get_or steps.now at step.now) }

@@ -25,7 +25,7 @@ pub(crate) fn first<'a>(alloc: Global, count: u32) -> Result<Vec<Kept<'a>>, Allo
 {
     let facts = Facts::unknown(alloc, count)?;
     let params = InForce::new(alloc)?;
-    let history = History::new(alloc)?;
+    let history = History::new(alloc);
     let mut from = Vec::new(alloc);
     from.push(Kept {
         facts,

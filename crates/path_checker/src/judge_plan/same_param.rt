@@ -39,7 +39,9 @@ fn same(one: &Param, other: &Param) -> bool
         (Param::Content(bytes), Param::Content(other)) => {
             same_bytes(bytes.as_slice(), other.as_slice())
         }
-        (Param::Uri(text), Param::Uri(other)) => text.as_str() == other.as_str(),
+        (Param::Uri(text), Param::Uri(other)) => {
+            same_bytes(text.as_str().as_bytes(), other.as_str().as_bytes())
+        }
         (Param::Source(component), Param::Source(other)) => *component == *other,
         (Param::Args(bytes), Param::Args(other)) => same_bytes(bytes.as_slice(), other.as_slice()),
         _ => false,

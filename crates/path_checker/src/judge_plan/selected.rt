@@ -1,6 +1,6 @@
 //! The selected components.
 
-ghost use Rattle.std.specs.Prelude.{◌≡◌, ◌<◌, ◌≤◌, [], ◌∷◌, IsTrue, IfOk, IfSome};
+ghost use Rattle.std.specs.Prelude.{◌≡◌, ◌<◌, ◌≤◌, [], ◌∷◌, IsTrue, IfOk, IfSome, length, get_or};
 ghost use Rattle.std.specs.List.{range_with_len};
 ghost use Rattle.suit_commands.specs.Selections.{selected_by};
 ghost use Rattle.path_checker.specs.Selecting.{components_of};
@@ -147,6 +147,33 @@ impl<'a> Selected<'a> {
             Components::First(1) => Some(0),
             Components::Listed([component]) => Some(*component),
             _ => None,
+        }
+    }
+
+    /// How many are selected.
+    pub(crate) fn len(&self) -> usize
+        ensures { result ≡ length self.now }
+    {
+        match self.held {
+            Components::One(_) => 1,
+            Components::First(count) => count as usize,
+            Components::Listed(components) => components.len(),
+        }
+    }
+
+    /// The component at an index.
+    pub(crate) fn at(&self, index: usize) -> u32
+        requires within { index < length self.now }
+        ensures value { result ≡ get_or self.now index result }
+        ensures small { result < 8 }
+    {
+        match self.held {
+            Components::One(component) => component,
+            Components::First(_count) => index as u32,
+            Components::Listed(components) => match components.get(index) {
+                Some(component) => *component,
+                None => 0,
+            },
         }
     }
 

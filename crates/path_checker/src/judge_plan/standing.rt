@@ -1,24 +1,27 @@
 //! The matches that stand.
 
-ghost use Rattle.std.specs.Prelude.{◌≡◌, ◌↔◌, ℕ, [], IsTrue, IfOk, OnOk};
+ghost use Rattle.std.specs.Prelude.{◌≡◌, ◌↔◌, ◌<◌, ℕ, [], IsTrue, IfOk, OnOk, length};
 ghost use Rattle.path_checker.specs.Exploring.{In};
-ghost use Rattle.path_checker.specs.Matches.{match_of, matches_from, SameMembers};
+ghost use Rattle.path_checker.specs.Matches.{match_of, SameMembers};
 ghost use Rattle.path_checker.specs.Standing.{held_of, Gains, Loses, SameHeld};
 
 use crate::judge_plan::fingerprint::mixed;
-use crate::judge_plan::matches::{Held, Match, add, has, is_within, shared, sum};
+use crate::judge_plan::matches::{Held, Match};
 use std::alloc::{AllocError, Global};
 
-/// The matches that stand, of each component that there is room for.
+// How many components there is room for.
+const ROOM: usize = 8;
+
+/// The matches that stand, of each component up to the last one of which any stands.
 #[derive(Drop)]
 pub(crate) struct StandingMatches<'a> {
-    of: Vec<Option<Held<'a>>>,
+    of: Vec<Held<'a>>,
     // How many were added, whether or not they still stand.
     added: u32,
 }
 
 impl<'a> StandingMatches<'a> {
-    /// None stands, and none ever will. Takes no memory.
+    /// None stands. Takes no memory.
     pub(crate) fn none(alloc: Global) -> StandingMatches<'a>
         ensures { (component : ℕ) → held_of result component ≡ [] }
     {
@@ -28,24 +31,13 @@ impl<'a> StandingMatches<'a> {
         }
     }
 
-    /// None stands.
-    pub(crate) fn new(alloc: Global) -> Result<StandingMatches<'a>, AllocError>
-        ensures { IfOk result (λ standing. (component : ℕ) → held_of standing component ≡ []) }
-    {
-        let mut of = Vec::with_capacity(alloc, 8)?;
-        for _ in 0..8_u32 {
-            of.push(None)?;
-        }
-        Ok(StandingMatches { of, added: 0 })
-    }
-
     /// The same. What stands is shared.
     pub(crate) fn copy(&self, alloc: Global) -> Result<StandingMatches<'a>, AllocError>
         ensures { IfOk result (λ other. other.of.items ≡ self.now.of.items) }
     {
         let mut of = Vec::with_capacity(alloc, self.of.len())?;
         for held in self.of.as_slice() {
-            of.push(shared(held)?)?;
+            of.push(held.copy()?)?;
         }
         Ok(StandingMatches {
             of,
@@ -58,12 +50,50 @@ impl<'a> StandingMatches<'a> {
         ensures { IsTrue result ↔ In (match_of wanted.now) (held_of self.now component) }
     {
         match self.of.get(component as usize) {
-            Some(held) => has(held, wanted),
+            Some(held) => held.has(wanted),
             None => false,
         }
     }
 
-    /// One match more. There is no memory for those of a ninth component.
+    // One component more, of which none stands.
+    fn more(&mut self) -> Result<(), AllocError>
+        ensures { OnOk result
+            ((component : ℕ) → held_of self.new component ≡ held_of self.old component) }
+    {
+        self.of.push(Held::none())?;
+        Ok(())
+    }
+
+    // The same, with a place for the matches of a component. There is no memory for those of a ninth one.
+    fn widen(&mut self, index: usize) -> Result<(), AllocError>
+        ensures room { OnOk result (index < length self.new.of.items) }
+        ensures same { OnOk result
+            ((component : ℕ) → held_of self.new component ≡ held_of self.old component) }
+    {
+        for _ in 0..ROOM {
+            if index < self.of.len() {
+                return Ok(());
+            }
+            self.more()?;
+        }
+        if index < self.of.len() {
+            return Ok(());
+        }
+        Err(AllocError)
+    }
+
+    // The same, without the last components, of which none stands.
+    fn narrow(&mut self)
+        ensures { (component : ℕ) → held_of self.new component ≡ held_of self.old component }
+    {
+        let mut len = self.of.len();
+        while len > 0 && self.of[len - 1].is_none() {
+            len -= 1;
+        }
+        self.of.truncate(len);
+    }
+
+    /// One match more.
     pub(crate) fn gain(
         &mut self,
         alloc: Global,
@@ -73,10 +103,8 @@ impl<'a> StandingMatches<'a> {
         ensures { OnOk result (Gains self.old component (match_of own.now) self.new) }
     {
         let index = component as usize;
-        if index >= self.of.len() {
-            return Err(AllocError);
-        }
-        add(&mut self.of[index], alloc, own)?;
+        self.widen(index)?;
+        self.of[index].add(alloc, own)?;
         self.added = self.added.saturating_add(1);
         Ok(())
     }
@@ -86,9 +114,11 @@ impl<'a> StandingMatches<'a> {
         ensures { Loses self.old component self.new }
     {
         let index = component as usize;
-        if index < self.of.len() {
-            self.of[index] = None;
+        if index >= self.of.len() {
+            return;
         }
+        self.of[index] = Held::none();
+        self.narrow();
     }
 
     /// Whether the same matches stand.
@@ -109,27 +139,27 @@ impl<'a> StandingMatches<'a> {
         true
     }
 
-    /// How many they are at most.
-    pub(crate) fn most(&self) -> u32 {
-        self.added
+    /// What a comparison costs: how many they are, at most.
+    pub(crate) fn cost(&self) -> u64 {
+        u64::from(self.added)
     }
 
     /// A fingerprint: equal where the same matches stand.
     pub(crate) fn fingerprint(&self) -> u64 {
         let mut print = 0;
         for held in self.of.as_slice() {
-            print = mixed(print, sum(held));
+            print = mixed(print, held.sum());
         }
         print
     }
 }
 
 // Whether the same matches of a component stand, each of them found.
-fn is_same_held<'a>(one: &Option<Held<'a>>, other: &Option<Held<'a>>) -> bool
-    ensures { IsTrue result → SameMembers (matches_from one.now) (matches_from other.now) }
+fn is_same_held<'a>(one: &Held<'a>, other: &Held<'a>) -> bool
+    ensures { IsTrue result → SameMembers one.now other.now }
 {
-    if sum(one) != sum(other) {
+    if one.sum() != other.sum() {
         return false;
     }
-    is_within(one, other) && is_within(other, one)
+    one.is_within(other) && other.is_within(one)
 }

@@ -1,6 +1,7 @@
-//! Commands that hold no sequence, done where a failed condition ends the procedure: each state is followed by one at most.
+//! Conditions, and commands in which none is met, done where a failed condition ends the procedure: each state is followed by one at
+//! most.
 
-ghost use Rattle.std.specs.Prelude.{◌<◌, [], ◌∷◌, IsTrue, IfOk, IfErr};
+ghost use Rattle.std.specs.Prelude.{◌↔◌, ◌<◌, [], ◌∷◌, IsTrue, IfOk, IfErr};
 ghost use Rattle.suit_commands.specs.View.{command_tree};
 ghost use Rattle.path_model.specs.Behaviour.{Each};
 ghost use Rattle.path_model.specs.Runs.{Does};
@@ -10,24 +11,23 @@ ghost use Rattle.path_checker.specs.Steps.{At};
 ghost use Rattle.path_checker.specs.Halting.{Halts};
 
 use crate::judge_plan::conditions::pass_test;
-use crate::judge_plan::directives::{act_in, override_each_in, override_in};
+use crate::judge_plan::directives::override_each_in;
 use crate::judge_plan::halt::Halt;
+use crate::judge_plan::in_place::one_in;
 use crate::judge_plan::kept::{Kept, add_if};
 use crate::judge_plan::memory::Memory;
 use crate::judge_plan::reuse::reuse;
 use crate::judge_plan::selected::Selected;
+use crate::judge_plan::unconditional::is_unconditional;
 use suit_commands::{Command, Step};
 
-/// Whether a command holds no sequence.
+/// Whether a command is a condition, or holds none that is met.
 pub(crate) fn is_straight(command: &Command) -> bool
-    ensures { IsTrue result → IsStraight (command_tree command.now) }
+    ensures { IsTrue result ↔ IsStraight (command_tree command.now) }
 {
     match command {
         Command::Test { .. } => true,
-        Command::Act { .. } => true,
-        Command::Index(_) => true,
-        Command::Override(_) => true,
-        _ => false,
+        _ => is_unconditional(command),
     }
 }
 
@@ -40,6 +40,7 @@ fn at_one<'a>(
     k: &mut Kept<'a>,
 ) -> Result<bool, Halt<'a>>
     requires room { component < 8 }
+    requires small { IsSmallCommand count (command_tree step.now.command) }
     requires straight { IsAtEach (command_tree step.now.command) }
     ensures ok { IfOk result
         (λ goes_on. Passes (At (command_tree step.now.command) count step.now.place component)
@@ -50,12 +51,7 @@ fn at_one<'a>(
 {
     match &step.command {
         Command::Test { kind, .. } => Ok(pass_test(memory, step.place, *kind, component, k)?),
-        Command::Act { kind, .. } => act_in(memory, step.place, *kind, component, k),
-        Command::Override(list) => {
-            override_in(memory, step.place, list, component, k)?;
-            Ok(true)
-        }
-        _ => Ok(true),
+        _ => one_in(memory, count, step, component, k),
     }
 }
 
@@ -69,6 +65,7 @@ fn at_next<'a>(
     k: &mut Kept<'a>,
 ) -> Result<bool, Halt<'a>>
     requires room { component < 8 }
+    requires small { IsSmallCommand count (command_tree step.now.command) }
     requires straight { IsAtEach (command_tree step.now.command) }
     ensures ok { IfOk result
         (λ still. Passes (At (command_tree step.now.command) count step.now.place component)
@@ -90,6 +87,7 @@ fn at_each<'a>(
     step: &'a Step,
     k: &mut Kept<'a>,
 ) -> Result<bool, Halt<'a>>
+    requires small { IsSmallCommand count (command_tree step.now.command) }
     requires straight { IsAtEach (command_tree step.now.command) }
     ensures ok { IfOk result
         (λ goes_on. Passes

@@ -19,13 +19,12 @@ use std::marker::Model;
 use suit_commands::{Command, Step, TestKind};
 use suit_params::{Digest, ParamList};
 
-/// An invoke, as it is told.
+/// An invoke that no match covers.
 #[derive(Clone, Copy)]
 pub(crate) struct Invoke<'a> {
     component: u32,
     digest: Option<&'a Digest>,
     size: Option<u64>,
-    passed: bool,
 }
 
 /// Events that follow one another, in sixteen bytes: one alone, or all of overrides.
@@ -53,7 +52,7 @@ pub(crate) enum Told<'a> {
     Failed {
         place: u64,
     },
-    // An invoke that is covered.
+    // An invoke that a match covers.
     Covered {
         component: u32,
         own: &'a Match<'a>,
@@ -145,24 +144,8 @@ impl<'a> Invoke<'a> {
             component: self.component,
             digest: copied(self.digest),
             size: self.size,
-            passed: self.passed,
+            passed: false,
         }
-    }
-}
-
-// An invoke. One that is covered has a match.
-fn invoked<'a>(memory: Memory<'a>, invoke: Invoke<'a>) -> Result<Told<'a>, AllocError>
-    ensures { IfOk result (λ told. told_by told ≡ invoke_event invoke.entry ∷ []) }
-{
-    match invoke.digest {
-        Some(digest) if invoke.passed => {
-            let own = Match::lent(memory, digest, invoke.size)?;
-            Ok(Told::Covered {
-                component: invoke.component,
-                own,
-            })
-        }
-        _ => Ok(Told::Invoked(memory.events.try_alloc(invoke)?)),
     }
 }
 
@@ -233,19 +216,18 @@ impl<'a> Told<'a> {
                 let own = Match::lent(memory, digest, size)?;
                 Ok(Told::Matched { component, own })
             }
-            Happened::Invoked {
+            Happened::Covered { component, own } => Ok(Told::Covered { component, own }),
+            Happened::Uncovered {
                 component,
                 digest,
                 size,
-                passed,
             } => {
-                let invoke = Invoke {
+                let invoke = memory.events.try_alloc(Invoke {
                     component,
                     digest,
                     size,
-                    passed,
-                };
-                invoked(memory, invoke)
+                })?;
+                Ok(Told::Invoked(invoke))
             }
         }
     }

@@ -7,10 +7,10 @@ use Rattle.path_checker.specs.Exploring.{Adds}
 use Rattle.path_checker.proofs.judge_plan.conditions.test.Goals as goal
 
 pub returns-in-ImageMatch : goal.returns-in-ImageMatch
-returns-in-ImageMatch c = subst (λ (m : TestKind). OnOk c.image_match.result (Adds (λ ids. Tests m ids c.args.place c.args.component) (c.args.k ∷ []) c.args.next.now.items c.image_match.new.next.items c.args.failed.now.items c.image_match.new.failed.items)) (sym c.in-ImageMatch.is) c.image_match.ensures
+returns-in-ImageMatch c = subst (λ (m : TestKind). OnOk c.image_match.result (Adds (λ ids. Tests m ids c.args.place c.args.component) (c.args.k ∷ []) c.args.next.now.items c.image_match.new.next.items c.args.failed.now c.image_match.new.failed)) (sym c.in-ImageMatch.is) c.image_match.ensures
 
 pub returns-in-CheckContent : goal.returns-in-CheckContent
-returns-in-CheckContent c = subst (λ (m : TestKind). OnOk c.check_content.result (Adds (λ ids. Tests m ids c.args.place c.args.component) (c.args.k ∷ []) c.args.next.now.items c.check_content.new.next.items c.args.failed.now.items c.check_content.new.failed.items)) (sym c.in-CheckContent.is) c.check_content.ensures
+returns-in-CheckContent c = subst (λ (m : TestKind). OnOk c.check_content.result (Adds (λ ids. Tests m ids c.args.place c.args.component) (c.args.k ∷ []) c.args.next.now.items c.check_content.new.next.items c.args.failed.now c.check_content.new.failed)) (sym c.in-CheckContent.is) c.check_content.ensures
 
 pub returns-in-Abort : goal.returns-in-Abort
-returns-in-Abort c = subst (λ (m : TestKind). OnOk c.abort.result (Adds (λ ids. Tests m ids c.args.place c.args.component) (c.args.k ∷ []) c.args.next.now.items c.args.next.now.items c.args.failed.now.items c.abort.new.failed.items)) (sym c.in-Abort.is) (on_ok_weaker c.abort.result (λ h. h c.args.next.now.items) c.abort.ensures)
+returns-in-Abort c = subst (λ (m : TestKind). OnOk c.abort.result (Adds (λ ids. Tests m ids c.args.place c.args.component) (c.args.k ∷ []) c.args.next.now.items c.args.next.now.items c.args.failed.now c.abort.new.failed)) (sym c.in-Abort.is) (on_ok_weaker c.abort.result (λ h. h c.args.next.now.items) c.abort.ensures)

@@ -3,7 +3,7 @@ use Rattle.std.proofs.lemmas.Result.{IfOk-weaker, IfErr-weaker}
 use Rattle.suit_commands.specs.View.{command_tree}
 use Rattle.path_checker.specs.Exploring.{Passes, kept_if}
 use Rattle.path_checker.specs.Halting.{Halts}
-use Rattle.path_checker.proofs.Passing.{Passes-same, Passes-added, straight_each, at_each_of}
+use Rattle.path_checker.proofs.Passing.{none_yet, Passes-same, Passes-added, straight_each, at_each_of}
 use Rattle.path_checker.proofs.Popping.{each_course, Halts-same, Adds-index}
 use Rattle.path_checker.proofs.Walking.{does_course}
 use Rattle.path_checker.proofs.judge_plan.straight.straight_in.Goals as goal
@@ -23,9 +23,9 @@ returns-clause-err c =
     (λ h u. Halts-same c.args.k.now each does (straight_each c.args.step.now.command (at_each_of c.args.step.now.command c.requires.straight c.in_default.not-Index) c.args.count c.args.step.now.place c.args.k.now) h u) c.at_each.ensures.err
 
 pub at_each-requires : goal.at_each-requires
-at_each-requires c = record { straight = at_each_of c.args.step.now.command c.requires.straight c.in_default.not-Index }
+at_each-requires c = record { small = c.requires.small; straight = at_each_of c.args.step.now.command c.requires.straight c.in_default.not-Index }
 
 pub returns-in-Index-clause-ok : goal.returns-in-Index-clause-ok
 returns-in-Index-clause-ok c =
-    Passes-added (does_course (command_tree c.args.step.now.command) c.args.count c.args.step.now.place) (c.args.k.now ∷ []) _ []
-    (Adds-index c.args.k.now _ c.in-Index.selection c.args.count c.args.step.now.place c.args.step.now.command [] _ [] c.in-Index.is (rw (← c.k.view_is, c.by-k-inside.ensures) refl) refl)
+    Passes-added (does_course (command_tree c.args.step.now.command) c.args.count c.args.step.now.place) (c.args.k.now ∷ []) _ none_yet none_yet
+    (Adds-index c.args.k.now _ c.in-Index.selection c.args.count c.args.step.now.place c.args.step.now.command [] _ none_yet c.in-Index.is (rw (← c.k.view_is, c.by-k-inside.ensures) refl) refl)

@@ -1,4 +1,5 @@
-use Rattle.std.proofs.Common.{rules, refl, true, false, ◌≡◌, ◌<◌, ◌≤◌, ◌+◌, [], ◌∷◌, ◌++◌, List, drop, sym, ap, ◌∙◌, subst, arith}
+use Rattle.std.proofs.Common.{rules, refl, true, false, ◌≡◌, ◌<◌, ◌≤◌, ◌+◌, ◌-◌, ltb, [], ◌∷◌, ◌++◌, length, drop, sym, ap, ◌∙◌, subst, arith}
+use Rattle.std.proofs.lemmas.Bool.{lt-ltb}
 use Rattle.std.proofs.lemmas.List.{drop_all}
 use Rattle.std.proofs.lemmas.Result.{err_from_is_err_and, on_ok_weaker, IfErr-weaker}
 use Rattle.std.specs.Prelude.{OnOk, IfErr}
@@ -10,55 +11,50 @@ use Rattle.suit_commands.specs.declared.command.Step.{Step}
 use Rattle.suit_commands.specs.declared.command.Command.{Command}
 use Rattle.suit_commands.specs.declared.command.Branches.TheDeep.{deep-Step}
 use Rattle.suit_commands.specs.Smaller.{step_smaller, branch_smaller}
-use Rattle.path_checker.specs.Exploring.{Course, Stopped, Adds}
+use Rattle.path_checker.specs.Exploring.{Course, Failures, Adds}
 use Rattle.path_checker.specs.Steps.{At}
 use Rattle.path_checker.specs.Halting.{Halts}
 use Rattle.path_checker.specs.Small.{IsSmallSequence, IsSmallCommand, AreSmallBranches, AreSmall}
 use Rattle.path_checker.proofs.DirectiveLeaves.{never_true}
-use Rattle.path_checker.specs.Inner.{all_left, entered, left}
-use Rattle.path_checker.specs.Overriding.{AreOverrides, overridden_by}
-use Rattle.path_checker.proofs.Overriding.{Walks-steps, small_steps, Adds-run_overrides, Adds-try_overrides}
+use Rattle.path_checker.specs.Inner.{all_left, left}
+use Rattle.path_checker.proofs.Overriding.{Walks-steps, Walks-halted, small_part, small_steps}
+use Rattle.path_checker.proofs.Unconditional.{conditional_each, conditional_holds, conditional_next}
 use Rattle.path_checker.proofs.Smallness.{small_step, small_index, small_branch}
 use Rattle.path_checker.proofs.Walking.{Walks, Walks-start, Walks-step, Walks-stops, Walks-end, runs_course, does_course}
-use Rattle.path_checker.proofs.Popping.{Pops-start, Pops-step, Pops-halt, Pops-moved, Pops-end, none_left, each_course, each_sole, does_each, Adds-same, Halts-same, Adds-index, Adds-at_index, Each-step, Each-stops}
+use Rattle.path_checker.proofs.Popping.{Pops-start, Pops-step, Pops-halt, Pops-moved, Pops-end, none_left, each_course, each_sole, does_each, Adds-same, Halts-same, Each-step, Each-stops}
 use Rattle.path_checker.proofs.Branching.{Trying, Trying-start, Trying-branch, Trying-halt, Trying-null, Trying-end, rest_course, at_some, at_none, Adds-run, Halts-run, Adds-branch, Adds-appended}
-use Rattle.path_checker.proofs.Passing.{Adds-passed}
-use Rattle.path_checker.proofs.Merging.{Adds-states, Adds-behind, Walks-stops_merged}
+use Rattle.path_checker.proofs.Merging.{Adds-states, Adds-behind, Walks-settled}
+use Rattle.path_checker.proofs.Keeping.{none_of}
 use Rattle.path_checker.proofs.judge_plan.walk.+walk.Goals as goal
 
 pub all_at-loop-k-init : goal.all_at-loop-k-init
-all_at-loop-k-init t c = Pops-start (At (command_tree c.args.step.now.command) c.args.count c.args.step.now.place c.args.component) c.args.from.items c.args.failed.now.items c.new-next.result.items c.new-next.ensures.items
+all_at-loop-k-init t c = Pops-start (At (command_tree c.args.step.now.command) c.args.count c.args.step.now.place c.args.component) c.args.from.items c.args.failed.now c.new-next.result.items c.new-next.ensures.items
 
 pub all_at-loop-k-preserved : goal.all_at-loop-k-preserved
-all_at-loop-k-preserved t c = Pops-step (At (command_tree c.args.step.now.command) c.args.count c.args.step.now.place c.args.component) c.args.from.items c.args.failed.now.items c.loop-k.now.items c.pop.new.self.items c.loop-k.next.items c.loop-k.failed.items c.in-Some.k c.loop-k.invariant c.in-Some.ensures.items c.one.new.next.items c.one.new.failed.items c.in_ok-one.ensures.ok
+all_at-loop-k-preserved t c = Pops-step (At (command_tree c.args.step.now.command) c.args.count c.args.step.now.place c.args.component) c.args.from.items c.args.failed.now c.loop-k.now.items c.pop.new.self.items c.loop-k.next.items c.loop-k.failed c.in-Some.k c.loop-k.invariant c.in-Some.ensures.items c.one.new.next.items c.one.new.failed c.in_ok-one.ensures.ok
 
 pub all_at-returns-in_err-one-clause-err : goal.all_at-returns-in_err-one-clause-err
 all_at-returns-in_err-one-clause-err t c =
-    let p = err_from_is_err_and c.from_residual.result c.from_residual.ensures.1 in rw (p.1, p.2) (Pops-halt (At (command_tree c.args.step.now.command) c.args.count c.args.step.now.place c.args.component) c.args.from.items c.args.failed.now.items c.loop-k.now.items c.pop.new.self.items c.loop-k.next.items c.loop-k.failed.items c.in-Some.k c.loop-k.invariant c.in-Some.ensures.items c.in_err-one.field-0.0 c.in_err-one.ensures.err)
+    let p = err_from_is_err_and c.from_residual.result c.from_residual.ensures.1 in rw (p.1, p.2) (Pops-halt (At (command_tree c.args.step.now.command) c.args.count c.args.step.now.place c.args.component) c.args.from.items c.args.failed.now c.loop-k.now.items c.pop.new.self.items c.loop-k.next.items c.loop-k.failed c.in-Some.k c.loop-k.invariant c.in-Some.ensures.items c.in_err-one.field-0.0 c.in_err-one.ensures.err)
 
 pub command-loop-k-init : goal.command-loop-k-init
-command-loop-k-init t c = Pops-start (does_course (command_tree c.args.step.now.command) c.args.count c.args.step.now.place) c.args.from.items c.args.failed.now.items c.new-next.result.items c.new-next.ensures.items
-
-pub command-loop-k-preserved-in-Continue-1 : goal.command-loop-k-preserved-in-Continue-1
-command-loop-k-preserved-in-Continue-1 t c =
-    let w = Pops-moved (does_course (command_tree c.args.step.now.command) c.args.count c.args.step.now.place) c.args.from.items c.args.failed.now.items c.loop-k.now.items c.pop.new.self.items c.reuse.new.now.items c.loop-k.next.items c.reuse.new.next.items c.loop-k.failed.items c.in-Some.k c.loop-k.invariant c.in-Some.ensures.items c.reuse.ensures.now c.reuse.ensures.next in
-    Pops-step (does_course (command_tree c.args.step.now.command) c.args.count c.args.step.now.place) c.args.from.items c.args.failed.now.items c.loop-k.now.items c.reuse.new.now.items c.reuse.new.next.items c.loop-k.failed.items c.in-Some.k w.0 w.1 c.push.new.self.items c.loop-k.failed.items (Adds-index c.in-Some.k _ c.in-Index.selection c.args.count c.args.step.now.place c.args.step.now.command c.reuse.new.next.items c.push.new.self.items c.loop-k.failed.items c.in-Index.is c.select.ensures c.in_ok-push-in-Index.ensures.items)
+command-loop-k-init t c = Pops-start (does_course (command_tree c.args.step.now.command) c.args.count c.args.step.now.place) c.args.from.items c.args.failed.now c.new-next.result.items c.new-next.ensures.items
 
 pub command-loop-k-preserved : goal.command-loop-k-preserved
 command-loop-k-preserved t c =
-    let w = Pops-moved (does_course (command_tree c.args.step.now.command) c.args.count c.args.step.now.place) c.args.from.items c.args.failed.now.items c.loop-k.now.items c.pop.new.self.items c.reuse.new.now.items c.loop-k.next.items c.reuse.new.next.items c.loop-k.failed.items c.in-Some.k c.loop-k.invariant c.in-Some.ensures.items c.reuse.ensures.now c.reuse.ensures.next in
-    Pops-step (does_course (command_tree c.args.step.now.command) c.args.count c.args.step.now.place) c.args.from.items c.args.failed.now.items c.loop-k.now.items c.reuse.new.now.items c.reuse.new.next.items c.loop-k.failed.items c.in-Some.k w.0 w.1 c.each.new.next.items c.each.new.failed.items (Adds-same c.in-Some.k (each_course (command_tree c.args.step.now.command) c.args.count c.args.step.now.place c.in-Some.k.state.selection) (does_course (command_tree c.args.step.now.command) c.args.count c.args.step.now.place) c.reuse.new.next.items c.each.new.next.items c.loop-k.failed.items c.each.new.failed.items (does_each c.args.step.now.command c.in_default-command.not-Index c.args.count c.args.step.now.place c.in-Some.k) c.in_ok-each-in_default-command.ensures.ok)
+    let w = Pops-moved (does_course (command_tree c.args.step.now.command) c.args.count c.args.step.now.place) c.args.from.items c.args.failed.now c.loop-k.now.items c.pop.new.self.items c.reuse.new.now.items c.loop-k.next.items c.reuse.new.next.items c.loop-k.failed c.in-Some.k c.loop-k.invariant c.in-Some.ensures.items c.reuse.ensures.now c.reuse.ensures.next in
+    Pops-step (does_course (command_tree c.args.step.now.command) c.args.count c.args.step.now.place) c.args.from.items c.args.failed.now c.loop-k.now.items c.reuse.new.now.items c.reuse.new.next.items c.loop-k.failed c.in-Some.k w.0 w.1 c.each.new.next.items c.each.new.failed (Adds-same c.in-Some.k (each_course (command_tree c.args.step.now.command) c.args.count c.args.step.now.place c.in-Some.k.state.selection) (does_course (command_tree c.args.step.now.command) c.args.count c.args.step.now.place) c.reuse.new.next.items c.each.new.next.items c.loop-k.failed c.each.new.failed (does_each c.args.step.now.command (conditional_each c.args.step.now.command c.requires.conditional) c.args.count c.args.step.now.place c.in-Some.k) c.in_ok-each.ensures.ok)
 
-pub command-returns-in_err-each-in_default-command : goal.command-returns-in_err-each-in_default-command
-command-returns-in_err-each-in_default-command t c =
-    let p = err_from_is_err_and c.from_residual-in_err-each-in_default-command.result c.from_residual-in_err-each-in_default-command.ensures.1 in
-    let w = Pops-moved (does_course (command_tree c.args.step.now.command) c.args.count c.args.step.now.place) c.args.from.items c.args.failed.now.items c.loop-k.now.items c.pop.new.self.items c.reuse.new.now.items c.loop-k.next.items c.reuse.new.next.items c.loop-k.failed.items c.in-Some.k c.loop-k.invariant c.in-Some.ensures.items c.reuse.ensures.now c.reuse.ensures.next in
-    rw (p.1, p.2) (record { ok = tt; err = Pops-halt (does_course (command_tree c.args.step.now.command) c.args.count c.args.step.now.place) c.args.from.items c.args.failed.now.items c.loop-k.now.items c.reuse.new.now.items c.reuse.new.next.items c.loop-k.failed.items c.in-Some.k w.0 w.1 c.in_err-each-in_default-command.field-0.0 (Halts-same c.in-Some.k (each_course (command_tree c.args.step.now.command) c.args.count c.args.step.now.place c.in-Some.k.state.selection) (does_course (command_tree c.args.step.now.command) c.args.count c.args.step.now.place) (does_each c.args.step.now.command c.in_default-command.not-Index c.args.count c.args.step.now.place c.in-Some.k) c.in_err-each-in_default-command.field-0.0 c.in_err-each-in_default-command.ensures.err) })
+pub command-returns-in_err-each : goal.command-returns-in_err-each
+command-returns-in_err-each t c =
+    let p = err_from_is_err_and c.from_residual.result c.from_residual.ensures.1 in
+    let w = Pops-moved (does_course (command_tree c.args.step.now.command) c.args.count c.args.step.now.place) c.args.from.items c.args.failed.now c.loop-k.now.items c.pop.new.self.items c.reuse.new.now.items c.loop-k.next.items c.reuse.new.next.items c.loop-k.failed c.in-Some.k c.loop-k.invariant c.in-Some.ensures.items c.reuse.ensures.now c.reuse.ensures.next in
+    rw (p.1, p.2) (record { ok = tt; err = Pops-halt (does_course (command_tree c.args.step.now.command) c.args.count c.args.step.now.place) c.args.from.items c.args.failed.now c.loop-k.now.items c.reuse.new.now.items c.reuse.new.next.items c.loop-k.failed c.in-Some.k w.0 w.1 c.in_err-each.field-0.0 (Halts-same c.in-Some.k (each_course (command_tree c.args.step.now.command) c.args.count c.args.step.now.place c.in-Some.k.state.selection) (does_course (command_tree c.args.step.now.command) c.args.count c.args.step.now.place) (does_each c.args.step.now.command (conditional_each c.args.step.now.command c.requires.conditional) c.args.count c.args.step.now.place c.in-Some.k) c.in_err-each.field-0.0 c.in_err-each.ensures.err) })
 
 pub each-returns-in-Some-clause-ok : goal.each-returns-in-Some-clause-ok
 each-returns-in-Some-clause-ok t c =
     let sole = sym (ap (λ k. k.state.selection) c.k.view_is) ∙ c.in-Some.ensures.sole in
-    on_ok_weaker c.one.result (λ h. Adds-same c.args.k (At (command_tree c.args.step.now.command) c.args.count c.args.step.now.place c.in-Some.component) (each_course (command_tree c.args.step.now.command) c.args.count c.args.step.now.place c.args.k.state.selection) c.args.next.now.items c.one.new.next.items c.args.failed.now.items c.one.new.failed.items (each_sole (command_tree c.args.step.now.command) c.args.count c.args.step.now.place c.in-Some.component c.args.k sole) h) c.one.ensures.ok
+    on_ok_weaker c.one.result (λ h. Adds-same c.args.k (At (command_tree c.args.step.now.command) c.args.count c.args.step.now.place c.in-Some.component) (each_course (command_tree c.args.step.now.command) c.args.count c.args.step.now.place c.args.k.state.selection) c.args.next.now.items c.one.new.next.items c.args.failed.now c.one.new.failed (each_sole (command_tree c.args.step.now.command) c.args.count c.args.step.now.place c.in-Some.component c.args.k sole) h) c.one.ensures.ok
 
 pub each-returns-in-Some-clause-err : goal.each-returns-in-Some-clause-err
 each-returns-in-Some-clause-err t c =
@@ -72,52 +68,39 @@ each-loop-component-init t c =
     record {
       whole = whole;
       small = subst AreSmall (sym c.as_slice-component-items.ensures.value) c.in_ok-selection.ensures.small;
-      walks = subst (λ cs. Walks (each_course (command_tree c.args.step.now.command) c.args.count c.args.step.now.place c.args.k.state.selection) (c.args.k ∷ []) c.args.failed.now.items (each_course (command_tree c.args.step.now.command) c.args.count c.args.step.now.place cs) c.in_ok-now.now.items c.args.failed.now.items) (sym whole) (subst (λ n. Walks (each_course (command_tree c.args.step.now.command) c.args.count c.args.step.now.place c.args.k.state.selection) (c.args.k ∷ []) c.args.failed.now.items (each_course (command_tree c.args.step.now.command) c.args.count c.args.step.now.place c.args.k.state.selection) n c.args.failed.now.items) (sym one) (Walks-start (each_course (command_tree c.args.step.now.command) c.args.count c.args.step.now.place c.args.k.state.selection) (c.args.k ∷ []) c.args.failed.now.items));
+      walks = subst (λ cs. Walks (each_course (command_tree c.args.step.now.command) c.args.count c.args.step.now.place c.args.k.state.selection) (c.args.k ∷ []) c.args.failed.now (each_course (command_tree c.args.step.now.command) c.args.count c.args.step.now.place cs) c.in_ok-now.now.items c.args.failed.now) (sym whole) (subst (λ n. Walks (each_course (command_tree c.args.step.now.command) c.args.count c.args.step.now.place c.args.k.state.selection) (c.args.k ∷ []) c.args.failed.now (each_course (command_tree c.args.step.now.command) c.args.count c.args.step.now.place c.args.k.state.selection) n c.args.failed.now) (sym one) (Walks-start (each_course (command_tree c.args.step.now.command) c.args.count c.args.step.now.place c.args.k.state.selection) (c.args.k ∷ []) c.args.failed.now));
     }
 
 pub each-returns-in_err-now-2-clause-err : goal.each-returns-in_err-now-2-clause-err
 each-returns-in_err-now-2-clause-err t c =
-    let p = err_from_is_err_and c.from_residual-in_err-now-2.result c.from_residual-in_err-now-2.ensures.1 in rw (p.1, p.2) (Each-stops (command_tree c.args.step.now.command) c.args.count c.args.step.now.place c.as_slice-component-items.result.now c.loop-component.component-index _ c.loop-component-test.true (each_course (command_tree c.args.step.now.command) c.args.count c.args.step.now.place c.args.k.state.selection) (c.args.k ∷ []) c.loop-component.now.items c.args.failed.now.items c.loop-component.failed.items c.loop-component.invariant.walks c.in_err-now-2.field-0.0 c.in_err-now-2.ensures.err)
+    let p = err_from_is_err_and c.from_residual-in_err-now-2.result c.from_residual-in_err-now-2.ensures.1 in rw (p.1, p.2) (Each-stops (command_tree c.args.step.now.command) c.args.count c.args.step.now.place c.as_slice-component-items.result.now c.loop-component.component-index _ c.loop-component-test.true (each_course (command_tree c.args.step.now.command) c.args.count c.args.step.now.place c.args.k.state.selection) (c.args.k ∷ []) c.loop-component.now.items c.args.failed.now c.loop-component.failed c.loop-component.invariant.walks c.in_err-now-2.field-0.0 c.in_err-now-2.ensures.err)
 
 pub each-loop-component-preserved : goal.each-loop-component-preserved
 each-loop-component-preserved t c = record {
   whole = c.loop-component.invariant.whole;
   small = (small_index c.as_slice-component-items.result.now c.loop-component.component-index 0 c.loop-component-test.true c.loop-component.invariant.small).1;
-  walks = Each-step (command_tree c.args.step.now.command) c.args.count c.args.step.now.place c.as_slice-component-items.result.now c.loop-component.component-index _ c.loop-component-test.true (each_course (command_tree c.args.step.now.command) c.args.count c.args.step.now.place c.args.k.state.selection) (c.args.k ∷ []) c.loop-component.now.items c.args.failed.now.items c.loop-component.failed.items c.loop-component.invariant.walks c.in_ok-now-2.now.items c.all_at.new.failed.items c.in_ok-now-2.ensures.ok;
+  walks = Each-step (command_tree c.args.step.now.command) c.args.count c.args.step.now.place c.as_slice-component-items.result.now c.loop-component.component-index _ c.loop-component-test.true (each_course (command_tree c.args.step.now.command) c.args.count c.args.step.now.place c.args.k.state.selection) (c.args.k ∷ []) c.loop-component.now.items c.args.failed.now c.loop-component.failed c.loop-component.invariant.walks c.in_ok-now-2.now.items c.all_at.new.failed c.in_ok-now-2.ensures.ok;
 }
 
 pub each-returns-clause-ok : goal.each-returns-clause-ok
 each-returns-clause-ok t c =
     let none : drop c.loop-component.component-index c.as_slice-component-items.result.now ≡ [] = drop_all c.loop-component.component-index c.as_slice-component-items.result.now c.loop-component-test.false in
-    Adds-appended (each_course (command_tree c.args.step.now.command) c.args.count c.args.step.now.place c.args.k.state.selection) (c.args.k ∷ []) c.args.next.now.items c.append.new.self.items c.loop-component.now.items c.args.failed.now.items c.loop-component.failed.items (Walks-end (each_course (command_tree c.args.step.now.command) c.args.count c.args.step.now.place c.args.k.state.selection) (c.args.k ∷ []) c.loop-component.now.items c.args.failed.now.items c.loop-component.failed.items (subst (λ cs. Walks (each_course (command_tree c.args.step.now.command) c.args.count c.args.step.now.place c.args.k.state.selection) (c.args.k ∷ []) c.args.failed.now.items (each_course (command_tree c.args.step.now.command) c.args.count c.args.step.now.place cs) c.loop-component.now.items c.loop-component.failed.items) none c.loop-component.invariant.walks)) c.in_ok-append.ensures.items
+    Adds-appended (each_course (command_tree c.args.step.now.command) c.args.count c.args.step.now.place c.args.k.state.selection) (c.args.k ∷ []) c.args.next.now.items c.append.new.self.items c.loop-component.now.items c.args.failed.now c.loop-component.failed (Walks-end (each_course (command_tree c.args.step.now.command) c.args.count c.args.step.now.place c.args.k.state.selection) (c.args.k ∷ []) c.loop-component.now.items c.args.failed.now c.loop-component.failed (subst (λ cs. Walks (each_course (command_tree c.args.step.now.command) c.args.count c.args.step.now.place c.args.k.state.selection) (c.args.k ∷ []) c.args.failed.now (each_course (command_tree c.args.step.now.command) c.args.count c.args.step.now.place cs) c.loop-component.now.items c.loop-component.failed) none c.loop-component.invariant.walks)) c.in_ok-append.ensures.items
 
 pub one-returns-in_ok-test-in-Test-clause-ok : goal.one-returns-in_ok-test-in-Test-clause-ok
-one-returns-in_ok-test-in-Test-clause-ok t c = subst (λ (m : Command). Adds (At (command_tree m) c.args.count c.args.step.now.place c.args.component) (c.args.k ∷ []) c.args.next.now.items c.test.new.next.items c.args.failed.now.items c.test.new.failed.items) (sym c.in-Test.is) c.in_ok-test-in-Test.ensures
+one-returns-in_ok-test-in-Test-clause-ok t c = subst (λ (m : Command). Adds (At (command_tree m) c.args.count c.args.step.now.place c.args.component) (c.args.k ∷ []) c.args.next.now.items c.test.new.next.items c.args.failed.now c.test.new.failed) (sym c.in-Test.is) c.in_ok-test-in-Test.ensures
 
-pub one-returns-in_ok-add-in-Act-clause-ok : goal.one-returns-in_ok-add-in-Act-clause-ok
-one-returns-in_ok-add-in-Act-clause-ok t c = subst (λ (m : Command). Adds (At (command_tree m) c.args.count c.args.step.now.place c.args.component) (c.args.k ∷ []) c.args.next.now.items c.add.new.next.items c.args.failed.now.items c.args.failed.now.items) (sym c.in-Act.is) (Adds-passed _ (c.args.k ∷ []) c.args.next.now.items c.add.new.next.items _ c.args.failed.now.items c.in_ok-act-in-Act.ensures.ok c.in_ok-add-in-Act.ensures)
-
-pub one-returns-in_err-act-in-Act-clause-err : goal.one-returns-in_err-act-in-Act-clause-err
-one-returns-in_err-act-in-Act-clause-err t c =
-    let p = err_from_is_err_and c.from_residual-in_err-act-in-Act.result c.from_residual-in_err-act-in-Act.ensures.1 in rw (p.1, p.2) (subst (λ (m : Command). Halts (At (command_tree m) c.args.count c.args.step.now.place c.args.component) (c.args.k ∷ []) c.in_err-act-in-Act.field-0.0) (sym c.in-Act.is) c.in_err-act-in-Act.ensures.err)
-
-pub one-returns-in_ok-push-in-Index-clause-ok : goal.one-returns-in_ok-push-in-Index-clause-ok
-one-returns-in_ok-push-in-Index-clause-ok t c = Adds-at_index c.args.k c.args.component c.in-Index.field-0 c.args.count c.args.step.now.place c.args.step.now.command c.args.next.now.items c.push.new.self.items c.args.failed.now.items c.in-Index.is c.in_ok-push-in-Index.ensures.items
-
-pub one-returns-in_ok-put-in-Override-clause-ok : goal.one-returns-in_ok-put-in-Override-clause-ok
-one-returns-in_ok-put-in-Override-clause-ok t c = subst (λ (m : Command). Adds (At (command_tree m) c.args.count c.args.step.now.place c.args.component) (c.args.k ∷ []) c.args.next.now.items c.put.new.next.items c.args.failed.now.items c.args.failed.now.items) (sym c.in-Override.is) (Adds-passed _ (c.args.k ∷ []) c.args.next.now.items c.put.new.next.items _ c.args.failed.now.items c.in_ok-overrides-in-Override.ensures c.in_ok-put-in-Override.ensures)
-
-pub each-returns-in-Override-clause-ok : goal.each-returns-in-Override-clause-ok
-each-returns-in-Override-clause-ok t c = subst (λ (m : Command). Adds (each_course (command_tree m) c.args.count c.args.step.now.place c.args.k.state.selection) (c.args.k ∷ []) c.args.next.now.items c.put.new.next.items c.args.failed.now.items c.args.failed.now.items) (sym c.in-Override.is) (Adds-passed _ (c.args.k ∷ []) c.args.next.now.items c.put.new.next.items _ c.args.failed.now.items c.in_ok-overrides_each.ensures c.in_ok-put.ensures)
+pub one-unreachable-requires : goal.one-unreachable-requires
+one-unreachable-requires t c = conditional_holds c.args.step.now.command c.in_default.not-Test c.in_default.not-TryEach c.in_default.not-Run c.requires.conditional
 
 pub one-returns-in-TryEach-clause-ok : goal.one-returns-in-TryEach-clause-ok
-one-returns-in-TryEach-clause-ok t c = subst (λ (m : Command). OnOk c.try_each.result (Adds (At (command_tree m) c.args.count c.args.step.now.place c.args.component) (c.args.k ∷ []) c.args.next.now.items c.try_each.new.next.items c.args.failed.now.items c.try_each.new.failed.items)) (sym c.in-TryEach.is) c.try_each.ensures.ok
+one-returns-in-TryEach-clause-ok t c = subst (λ (m : Command). OnOk c.try_each.result (Adds (At (command_tree m) c.args.count c.args.step.now.place c.args.component) (c.args.k ∷ []) c.args.next.now.items c.try_each.new.next.items c.args.failed.now c.try_each.new.failed)) (sym c.in-TryEach.is) c.try_each.ensures.ok
 
 pub one-returns-in-TryEach-clause-err : goal.one-returns-in-TryEach-clause-err
 one-returns-in-TryEach-clause-err t c = subst (λ (m : Command). IfErr c.try_each.result (λ h. Halts (At (command_tree m) c.args.count c.args.step.now.place c.args.component) (c.args.k ∷ []) h)) (sym c.in-TryEach.is) c.try_each.ensures.err
 
 pub one-returns-in-Run-clause-ok : goal.one-returns-in-Run-clause-ok
-one-returns-in-Run-clause-ok t c = subst (λ (m : Command). OnOk c.run.result (Adds (At (command_tree m) c.args.count c.args.step.now.place c.args.component) (c.args.k ∷ []) c.args.next.now.items c.run.new.next.items c.args.failed.now.items c.run.new.failed.items)) (sym c.in-Run.is) c.run.ensures.ok
+one-returns-in-Run-clause-ok t c = subst (λ (m : Command). OnOk c.run.result (Adds (At (command_tree m) c.args.count c.args.step.now.place c.args.component) (c.args.k ∷ []) c.args.next.now.items c.run.new.next.items c.args.failed.now c.run.new.failed)) (sym c.in-Run.is) c.run.ensures.ok
 
 pub one-returns-in-Run-clause-err : goal.one-returns-in-Run-clause-err
 one-returns-in-Run-clause-err t c = subst (λ (m : Command). IfErr c.run.result (λ h. Halts (At (command_tree m) c.args.count c.args.step.now.place c.args.component) (c.args.k ∷ []) h)) (sym c.in-Run.is) c.run.ensures.err
@@ -128,98 +111,105 @@ run-returns-in_err-done-clause-err t c =
 
 pub run-returns-clause-ok : goal.run-returns-clause-ok
 run-returns-clause-ok t c =
-    Adds-run (runs_course c.args.inner.now c.args.count) c.in_ok-outer.outer c.args.component c.args.k c.enter.result c.in_ok-from.from.items c.in_ok-done.done.items c.args.next.now.items (c.args.next.now.items ++ all_left c.in_ok-outer.outer c.in_ok-done.done.items) c.leave.new.next.items c.sequence.new.failed.items c.args.failed.now.items c.leave.new.failed.items c.new-stops.result.items c.in_ok-outer.ensures c.enter.ensures c.in_ok-from.ensures c.new-stops.ensures.items c.in_ok-done.ensures.ok refl c.in_ok-leave.ensures.on c.in_ok-leave.ensures.hard
+    Adds-run (runs_course c.args.inner.now c.args.count) c.in_ok-outer.outer c.args.component c.args.k c.enter.result c.in_ok-from.from.items c.in_ok-done.done.items c.args.next.now.items (c.args.next.now.items ++ all_left c.in_ok-outer.outer c.in_ok-done.done.items) c.leave.new.next.items c.sequence.new.failed c.args.failed.now c.leave.new.failed c.none_inside-stops.result c.in_ok-outer.ensures c.enter.ensures c.in_ok-from.ensures c.none_inside-stops.ensures c.in_ok-done.ensures.ok refl c.in_ok-leave.ensures.on c.in_ok-leave.ensures.hard
 
 pub sequence-loop-at-init : goal.sequence-loop-at-init
 sequence-loop-at-init t c = record {
   within = search rules;
   small = subst (λ (s : SequenceTree). IsSmallSequence c.args.count s) (sym c.as_slice-steps.ensures) c.requires.small;
-  walks = subst (λ (s : SequenceTree). Walks (runs_course c.args.sequence.now c.args.count) c.args.from.items [] (runs_course s c.args.count) c.args.from.items c.new-stops.result.items) (sym c.as_slice-steps.ensures) (subst (λ (f : List Stopped). Walks (runs_course c.args.sequence.now c.args.count) c.args.from.items [] (runs_course c.args.sequence.now c.args.count) c.args.from.items f) (sym c.new-stops.ensures.items) (Walks-start (runs_course c.args.sequence.now c.args.count) c.args.from.items []));
+  walks = subst (λ (s : SequenceTree). Walks (runs_course c.args.sequence.now c.args.count) c.args.from.items (none_of c.args.failed.now) (runs_course s c.args.count) c.args.from.items c.none_like-stops.result) (sym c.as_slice-steps.ensures) (subst (λ (f : Failures). Walks (runs_course c.args.sequence.now c.args.count) c.args.from.items (none_of c.args.failed.now) (runs_course c.args.sequence.now c.args.count) c.args.from.items f) (sym c.none_like-stops.ensures) (Walks-start (runs_course c.args.sequence.now c.args.count) c.args.from.items (none_of c.args.failed.now)));
 }
 
 pub sequence-command-requires : goal.sequence-command-requires
 sequence-command-requires t c =
     let e : deep-Step c.index-steps-at.result ≤ sequence_size c.args.sequence.now = step_smaller c.as_slice-steps.result.now c.loop-at.at c.index-steps-at.result c.index-steps-at.result c.args.sequence.now c.loop-at-test.true c.index-steps-at.is c.as_slice-steps.ensures in
     let small : IsSmallCommand c.args.count (command_tree c.index-steps-at.result.command) = subst (λ (s : Step). IsSmallCommand c.args.count (command_tree s.command)) (sym c.index-steps-at.is) (small_step c.args.count c.as_slice-steps.result.now c.loop-at.at c.index-steps-at.result c.loop-at-test.true c.loop-at.invariant.small).0 in
-    (omega (arith, e, c.decreases), small)
+    let conditional = conditional_next c.as_slice-steps.result.now c.unconditional_from-unconditional.result.now c.loop-at.at c.index-steps-at.result c.if-unconditional-gt0.false c.loop-at-test.true c.index-steps-at.is c.unconditional_from-unconditional.ensures.next in
+    (omega (arith, e, c.decreases), (small, conditional))
 
 pub sequence-returns-in_err-now-2-clause-err : goal.sequence-returns-in_err-now-2-clause-err
 sequence-returns-in_err-now-2-clause-err t c =
     let p = err_from_is_err_and c.from_residual-in_err-now-2.result c.from_residual-in_err-now-2.ensures.1 in
-    rw (p.1, p.2) (Walks-stops c.as_slice-steps.result.now c.loop-at.at c.args.count c.index-steps-at.result c.loop-at-test.true (runs_course c.args.sequence.now c.args.count) c.args.from.items c.loop-at.now.items [] c.loop-at.stops.items c.loop-at.invariant.walks c.in_err-now-2.field-0.0 (subst (λ (s : Step). Halts (does_course (command_tree s.command) c.args.count s.place) c.loop-at.now.items c.in_err-now-2.field-0.0) c.index-steps-at.is c.in_err-now-2.ensures.err))
+    rw (p.1, p.2) (Walks-stops c.as_slice-steps.result.now c.loop-at.at c.args.count c.index-steps-at.result c.loop-at-test.true (runs_course c.args.sequence.now c.args.count) c.args.from.items c.loop-at.now.items (none_of c.args.failed.now) c.loop-at.stops c.loop-at.invariant.walks c.in_err-now-2.field-0.0 (subst (λ (s : Step). Halts (does_course (command_tree s.command) c.args.count s.place) c.loop-at.now.items c.in_err-now-2.field-0.0) c.index-steps-at.is c.in_err-now-2.ensures.err))
 
-pub sequence-loop-at-preserved-then-overrides-gt-FEW : goal.sequence-loop-at-preserved-then-overrides-gt-FEW
-sequence-loop-at-preserved-then-overrides-gt-FEW t c = record {
-  within = omega (arith, c.overrides_from-overrides.ensures.fits);
-  small = small_steps c.as_slice-steps.result.now c.overrides_from-overrides.result.now c.loop-at.at c.args.count c.overrides_from-overrides.ensures.part c.loop-at.invariant.small;
-  walks = Walks-steps c.as_slice-steps.result.now c.overrides_from-overrides.result.now c.loop-at.at c.args.count (runs_course c.args.sequence.now c.args.count) c.args.from.items c.loop-at.now.items c.in_ok-now.now.items [] c.loop-at.stops.items c.loop-at.invariant.walks c.overrides_from-overrides.ensures.part (c.in_ok-now.ensures c.args.count);
+pub sequence-steps_in_all-requires : goal.sequence-steps_in_all-requires
+sequence-steps_in_all-requires t c = record {
+  small = small_part c.as_slice-steps.result.now c.unconditional_from-unconditional.result.now c.loop-at.at c.args.count c.unconditional_from-unconditional.ensures.part c.loop-at.invariant.small;
+  unconditional = c.unconditional_from-unconditional.ensures.unconditional;
+}
+
+pub sequence-returns-in_err-now-clause-err : goal.sequence-returns-in_err-now-clause-err
+sequence-returns-in_err-now-clause-err t c =
+    let p = err_from_is_err_and c.from_residual.result c.from_residual.ensures.1 in
+    rw (p.1, p.2) (Walks-halted c.as_slice-steps.result.now c.unconditional_from-unconditional.result.now c.loop-at.at c.args.count (runs_course c.args.sequence.now c.args.count) c.args.from.items c.loop-at.now.items (none_of c.args.failed.now) c.loop-at.stops c.loop-at.invariant.walks c.unconditional_from-unconditional.ensures.part c.in_err-now.field-0.0 c.in_err-now.ensures.err)
+
+pub sequence-loop-at-preserved-then-unconditional-gt0 : goal.sequence-loop-at-preserved-then-unconditional-gt0
+sequence-loop-at-preserved-then-unconditional-gt0 t c = record {
+  within = omega (arith, c.unconditional_from-unconditional.ensures.fits);
+  small = small_steps c.as_slice-steps.result.now c.unconditional_from-unconditional.result.now c.loop-at.at c.args.count c.unconditional_from-unconditional.ensures.part c.loop-at.invariant.small;
+  walks = Walks-steps c.as_slice-steps.result.now c.unconditional_from-unconditional.result.now c.loop-at.at c.args.count (runs_course c.args.sequence.now c.args.count) c.args.from.items c.loop-at.now.items c.in_ok-now.now.items (none_of c.args.failed.now) c.loop-at.stops c.loop-at.invariant.walks c.unconditional_from-unconditional.ensures.part c.in_ok-now.ensures.ok;
 }
 
 pub sequence-loop-at-preserved : goal.sequence-loop-at-preserved
 sequence-loop-at-preserved t c = record {
   within = omega (arith, c.loop-at-test.true);
   small = (small_step c.args.count c.as_slice-steps.result.now c.loop-at.at c.index-steps-at.result c.loop-at-test.true c.loop-at.invariant.small).1;
-  walks = Walks-stops_merged (runs_course c.args.sequence.now c.args.count) _ c.args.from.items c.in_ok-now-2.now.items c.command.new.failed.items c.in_ok-stops.stops.items (Walks-step c.as_slice-steps.result.now c.loop-at.at c.args.count c.index-steps-at.result c.loop-at-test.true (runs_course c.args.sequence.now c.args.count) c.args.from.items c.loop-at.now.items [] c.loop-at.stops.items c.loop-at.invariant.walks c.in_ok-now-2.now.items c.command.new.failed.items (subst (λ (s : Step). Adds (does_course (command_tree s.command) c.args.count s.place) c.loop-at.now.items [] c.in_ok-now-2.now.items c.loop-at.stops.items c.command.new.failed.items) c.index-steps-at.is c.in_ok-now-2.ensures.ok)) c.in_ok-stops.ensures;
+  walks = Walks-settled (runs_course c.args.sequence.now c.args.count) _ c.args.from.items c.in_ok-now-2.now.items c.args.failed.now c.command.new.failed c.in_ok-stops.stops (Walks-step c.as_slice-steps.result.now c.loop-at.at c.args.count c.index-steps-at.result c.loop-at-test.true (runs_course c.args.sequence.now c.args.count) c.args.from.items c.loop-at.now.items (none_of c.args.failed.now) c.loop-at.stops c.loop-at.invariant.walks c.in_ok-now-2.now.items c.command.new.failed (subst (λ (s : Step). Adds (does_course (command_tree s.command) c.args.count s.place) c.loop-at.now.items [] c.in_ok-now-2.now.items c.loop-at.stops c.command.new.failed) c.index-steps-at.is c.in_ok-now-2.ensures.ok)) c.in_ok-stops.ensures;
 }
 
 pub sequence-returns-clause-ok : goal.sequence-returns-clause-ok
 sequence-returns-clause-ok t c =
     let none : drop c.loop-at.at c.as_slice-steps.result.now ≡ [] = drop_all c.loop-at.at c.as_slice-steps.result.now c.loop-at-test.false in
-    Adds-behind (runs_course c.args.sequence.now c.args.count) c.args.from.items c.loop-at.now.items c.args.failed.now.items c.join.new.failed.items c.loop-at.stops.items
-    (Walks-end (runs_course c.args.sequence.now c.args.count) c.args.from.items c.loop-at.now.items [] c.loop-at.stops.items (subst (λ xs. Walks (runs_course c.args.sequence.now c.args.count) c.args.from.items [] (runs_course (sequence_tree xs) c.args.count) c.loop-at.now.items c.loop-at.stops.items) none c.loop-at.invariant.walks)) c.in_ok-join.ensures
-
-pub run-returns-then-are_overrides-clause-ok : goal.run-returns-then-are_overrides-clause-ok
-run-returns-then-are_overrides-clause-ok t c =
-    Adds-run_overrides c.args.inner.now (subst AreOverrides c.as_slice-steps.ensures (c.are_overrides.ensures c.if-are_overrides.true)) c.args.count c.args.component c.args.k (left c.args.k.state (overridden_by (entered c.args.k.state c.args.component false c.args.k) c.args.inner.now)) c.args.next.now.items c.run_overrides.new.next.items c.args.failed.now.items refl (subst (λ (s : SequenceTree). c.run_overrides.new.next.items ≡ c.args.next.now.items ++ left c.args.k.state (overridden_by (entered c.args.k.state c.args.component false c.args.k) s) ∷ []) c.as_slice-steps.ensures c.in_ok-run_overrides.ensures)
+    Adds-behind (runs_course c.args.sequence.now c.args.count) c.args.from.items c.loop-at.now.items c.args.failed.now c.join.new.self c.loop-at.stops
+    (Walks-end (runs_course c.args.sequence.now c.args.count) c.args.from.items c.loop-at.now.items (none_of c.args.failed.now) c.loop-at.stops (subst (λ xs. Walks (runs_course c.args.sequence.now c.args.count) c.args.from.items (none_of c.args.failed.now) (runs_course (sequence_tree xs) c.args.count) c.loop-at.now.items c.loop-at.stops) none c.loop-at.invariant.walks)) c.in_ok-join.ensures
 
 pub try_each-loop-branch-init : goal.try_each-loop-branch-init
 try_each-loop-branch-init t c =
     let one : c.in_ok-now.now.items ≡ c.args.k ∷ [] = c.in_ok-now.ensures in
     record {
-      whole = c.as_slice-branch-items.ensures;
-      small = subst (λ (b : BranchesTree). AreSmallBranches c.args.count b) (sym c.as_slice-branch-items.ensures) c.requires.small;
-      trying = subst (λ b. Trying (rest_course c.args.branches.now c.args.count c.args.place c.args.component) c.args.k c.in_ok-outer.outer c.args.next.now.items c.args.next.now.items c.args.failed.now.items c.args.failed.now.items (rest_course b c.args.count c.args.place c.args.component) c.in_ok-now.now.items) (sym c.as_slice-branch-items.ensures) (Trying-start (rest_course c.args.branches.now c.args.count c.args.place c.args.component) c.args.k c.in_ok-outer.outer c.args.next.now.items c.args.failed.now.items c.in_ok-now.now.items c.in_ok-outer.ensures one);
+      whole = c.as_slice-all.ensures;
+      left = omega arith;
+      small = subst (λ (b : BranchesTree). AreSmallBranches c.args.count b) (sym c.as_slice-all.ensures) c.requires.small;
+      trying = subst (λ b. Trying (rest_course c.args.branches.now c.args.count c.args.place c.args.component) c.args.k c.in_ok-outer.outer c.args.next.now.items c.args.next.now.items c.args.failed.now c.args.failed.now (rest_course b c.args.count c.args.place c.args.component) c.in_ok-now.now.items (0 < length c.as_slice-all.result.now)) (sym c.as_slice-all.ensures) (Trying-start (rest_course c.args.branches.now c.args.count c.args.place c.args.component) c.args.k c.in_ok-outer.outer c.args.next.now.items c.args.failed.now c.in_ok-now.now.items (0 < length c.as_slice-all.result.now) c.in_ok-outer.ensures one);
     }
 
 pub try_each-returns-in-None-clause-ok : goal.try_each-returns-in-None-clause-ok
-try_each-returns-in-None-clause-ok t c = Trying-null (rest_course c.args.branches.now c.args.count c.args.place c.args.component) c.args.k c.in_ok-outer.outer c.args.next.now.items c.loop-branch.next.items c.append.new.self.items c.args.failed.now.items c.loop-branch.failed.items c.loop-branch.now.items (subst (λ (r : Course). Trying (rest_course c.args.branches.now c.args.count c.args.place c.args.component) c.args.k c.in_ok-outer.outer c.args.next.now.items c.loop-branch.next.items c.args.failed.now.items c.loop-branch.failed.items r c.loop-branch.now.items) (at_none c.as_slice-branch-items.result.now c.loop-branch.branch-index c.args.count c.args.place c.args.component c.branch-item.result c.loop-branch-test.true (sym c.branch-item.is ∙ c.in-None.is)) c.loop-branch.invariant.trying) c.in_ok-append-in-None.ensures.items
+try_each-returns-in-None-clause-ok t c = Trying-null (rest_course c.args.branches.now c.args.count c.args.place c.args.component) c.args.k c.in_ok-outer.outer c.args.next.now.items c.loop-branch.next.items c.append.new.self.items c.args.failed.now c.loop-branch.failed c.loop-branch.now.items (c.loop-branch.branch-index < length c.as_slice-all.result.now) (subst (λ (r : Course). Trying (rest_course c.args.branches.now c.args.count c.args.place c.args.component) c.args.k c.in_ok-outer.outer c.args.next.now.items c.loop-branch.next.items c.args.failed.now c.loop-branch.failed r c.loop-branch.now.items (c.loop-branch.branch-index < length c.as_slice-all.result.now)) (at_none c.as_slice-all.result.now c.loop-branch.branch-index c.args.count c.args.place c.args.component c.branch-item.result c.loop-branch-test.true (sym c.branch-item.is ∙ c.in-None.is)) c.loop-branch.invariant.trying) c.loop-branch-test.true c.in_ok-append-in-None.ensures.items
 
-pub try_each-returns-in-Some-clause-ok : goal.try_each-returns-in-Some-clause-ok
-try_each-returns-in-Some-clause-ok t c =
-    Adds-try_overrides (sequence_tree c.in-Some.steps.now) c.in-Some.ensures.first.0 c.args.branches.now c.in-Some.ensures.overrides c.in-Some.ensures.first.1 c.args.count c.args.place c.args.component c.args.k (left c.args.k.state (overridden_by (entered c.args.k.state c.args.component true c.args.k) (sequence_tree c.in-Some.steps.now))) c.args.next.now.items c.run_overrides.new.next.items c.args.failed.now.items refl c.in_ok-run_overrides.ensures
-
-pub try_each-returns-in_err-now-in-Some-branch-clause-err : goal.try_each-returns-in_err-now-in-Some-branch-clause-err
-try_each-returns-in_err-now-in-Some-branch-clause-err t c =
-    let p = err_from_is_err_and c.from_residual-in_err-now-in-Some-branch.result c.from_residual-in_err-now-in-Some-branch.ensures.1 in rw (p.1, p.2) (Trying-halt (rest_course c.args.branches.now c.args.count c.args.place c.args.component) (runs_course c.in-Some-branch.inner c.args.count) (rest_course (branches_tree (drop (c.loop-branch.branch-index + 1) c.as_slice-branch-items.result.now)) c.args.count c.args.place) c.args.k c.in_ok-outer.outer c.args.component c.args.next.now.items c.loop-branch.next.items c.args.failed.now.items c.loop-branch.failed.items c.loop-branch.now.items (subst (λ (r : Course). Trying (rest_course c.args.branches.now c.args.count c.args.place c.args.component) c.args.k c.in_ok-outer.outer c.args.next.now.items c.loop-branch.next.items c.args.failed.now.items c.loop-branch.failed.items r c.loop-branch.now.items) (at_some c.as_slice-branch-items.result.now c.loop-branch.branch-index c.args.count c.args.place c.args.component c.branch-item.result c.in-Some-branch.inner c.loop-branch-test.true (sym c.branch-item.is ∙ c.in-Some-branch.is)) c.loop-branch.invariant.trying) c.in_err-now-in-Some-branch.field-0.0 c.in_err-now-in-Some-branch.ensures.err)
+pub try_each-returns-in_err-now-in-Some-clause-err : goal.try_each-returns-in_err-now-in-Some-clause-err
+try_each-returns-in_err-now-in-Some-clause-err t c =
+    let p = err_from_is_err_and c.from_residual-in_err-now-in-Some.result c.from_residual-in_err-now-in-Some.ensures.1 in
+    rw (p.1, p.2) (Trying-halt (rest_course c.args.branches.now c.args.count c.args.place c.args.component) (runs_course c.in-Some.inner c.args.count) (rest_course (branches_tree (drop (c.loop-branch.branch-index + 1) c.as_slice-all.result.now)) c.args.count c.args.place) c.args.k c.in_ok-outer.outer c.args.component c.args.next.now.items c.loop-branch.next.items c.args.failed.now c.loop-branch.failed c.loop-branch.now.items c.in_ok-inside-in-Some.inside.items (c.loop-branch.branch-index < length c.as_slice-all.result.now) (subst (λ (r : Course). Trying (rest_course c.args.branches.now c.args.count c.args.place c.args.component) c.args.k c.in_ok-outer.outer c.args.next.now.items c.loop-branch.next.items c.args.failed.now c.loop-branch.failed r c.loop-branch.now.items (c.loop-branch.branch-index < length c.as_slice-all.result.now)) (at_some c.as_slice-all.result.now c.loop-branch.branch-index c.args.count c.args.place c.args.component c.branch-item.result c.in-Some.inner c.loop-branch-test.true (sym c.branch-item.is ∙ c.in-Some.is)) c.loop-branch.invariant.trying) c.loop-branch-test.true c.in_ok-inside-in-Some.ensures c.in_err-now-in-Some.field-0.0 c.in_err-now-in-Some.ensures.err)
 
 pub try_each-loop-branch-preserved : goal.try_each-loop-branch-preserved
 try_each-loop-branch-preserved t c = record {
   whole = c.loop-branch.invariant.whole;
-  small = (small_branch c.args.count c.as_slice-branch-items.result.now c.loop-branch.branch-index c.branch-item.result c.in-Some-branch.inner c.loop-branch-test.true (sym c.branch-item.is ∙ c.in-Some-branch.is) c.loop-branch.invariant.small).1;
-  trying = Trying-branch (rest_course c.args.branches.now c.args.count c.args.place c.args.component) (runs_course c.in-Some-branch.inner c.args.count) (rest_course (branches_tree (drop (c.loop-branch.branch-index + 1) c.as_slice-branch-items.result.now)) c.args.count c.args.place) c.args.k c.in_ok-outer.outer c.args.component c.args.next.now.items c.loop-branch.next.items c.one_branch.new.next.items c.args.failed.now.items c.loop-branch.failed.items c.one_branch.new.failed.items c.loop-branch.now.items c.in_ok-now-in-Some-branch.now.items (subst (λ (r : Course). Trying (rest_course c.args.branches.now c.args.count c.args.place c.args.component) c.args.k c.in_ok-outer.outer c.args.next.now.items c.loop-branch.next.items c.args.failed.now.items c.loop-branch.failed.items r c.loop-branch.now.items) (at_some c.as_slice-branch-items.result.now c.loop-branch.branch-index c.args.count c.args.place c.args.component c.branch-item.result c.in-Some-branch.inner c.loop-branch-test.true (sym c.branch-item.is ∙ c.in-Some-branch.is)) c.loop-branch.invariant.trying) c.in_ok-now-in-Some-branch.ensures.ok;
+  left = omega (arith, c.loop-branch.invariant.left, c.loop-branch-test.true);
+  small = (small_branch c.args.count c.as_slice-all.result.now c.loop-branch.branch-index c.branch-item.result c.in-Some.inner c.loop-branch-test.true (sym c.branch-item.is ∙ c.in-Some.is) c.loop-branch.invariant.small).1;
+  trying = Trying-branch (rest_course c.args.branches.now c.args.count c.args.place c.args.component) (runs_course c.in-Some.inner c.args.count) (rest_course (branches_tree (drop (c.loop-branch.branch-index + 1) c.as_slice-all.result.now)) c.args.count c.args.place) c.args.k c.in_ok-outer.outer c.args.component c.args.next.now.items c.loop-branch.next.items c.one_branch.new.next.items c.args.failed.now c.loop-branch.failed c.one_branch.new.failed c.none_inside-stops.result c.loop-branch.now.items c.in_ok-inside-in-Some.inside.items c.in_ok-now-in-Some.now.items (c.loop-branch.branch-index < length c.as_slice-all.result.now) (c.loop-branch.branch-index + 1 < length c.as_slice-all.result.now) (ltb 0 (c.loop-branch.left - 1)) (subst (λ (r : Course). Trying (rest_course c.args.branches.now c.args.count c.args.place c.args.component) c.args.k c.in_ok-outer.outer c.args.next.now.items c.loop-branch.next.items c.args.failed.now c.loop-branch.failed r c.loop-branch.now.items (c.loop-branch.branch-index < length c.as_slice-all.result.now)) (at_some c.as_slice-all.result.now c.loop-branch.branch-index c.args.count c.args.place c.args.component c.branch-item.result c.in-Some.inner c.loop-branch-test.true (sym c.branch-item.is ∙ c.in-Some.is)) c.loop-branch.invariant.trying) c.loop-branch-test.true (λ goes. lt-ltb 0 (c.loop-branch.left - 1) (omega (arith, c.loop-branch.invariant.left, goes))) c.in_ok-inside-in-Some.ensures c.none_inside-stops.ensures c.in_ok-now-in-Some.ensures.ok;
 }
 
 pub try_each-returns-clause-ok : goal.try_each-returns-clause-ok
 try_each-returns-clause-ok t c =
-    let none : drop c.loop-branch.branch-index c.as_slice-branch-items.result.now ≡ [] = drop_all c.loop-branch.branch-index c.as_slice-branch-items.result.now c.loop-branch-test.false in
-    Trying-end (rest_course c.args.branches.now c.args.count c.args.place c.args.component) c.args.k c.in_ok-outer.outer c.args.place c.args.next.now.items c.loop-branch.next.items c.args.failed.now.items c.loop-branch.failed.items c.exhaust.new.failed.items c.loop-branch.now.items (subst (λ bs. Trying (rest_course c.args.branches.now c.args.count c.args.place c.args.component) c.args.k c.in_ok-outer.outer c.args.next.now.items c.loop-branch.next.items c.args.failed.now.items c.loop-branch.failed.items (rest_course (branches_tree bs) c.args.count c.args.place c.args.component) c.loop-branch.now.items) none c.loop-branch.invariant.trying) c.in_ok-exhaust.ensures
+    let none : drop c.loop-branch.branch-index c.as_slice-all.result.now ≡ [] = drop_all c.loop-branch.branch-index c.as_slice-all.result.now c.loop-branch-test.false in
+    Trying-end (rest_course c.args.branches.now c.args.count c.args.place c.args.component) c.args.k c.in_ok-outer.outer c.args.place c.args.next.now.items c.loop-branch.next.items c.args.failed.now c.loop-branch.failed c.exhaust.new.failed c.loop-branch.now.items (c.loop-branch.branch-index < length c.as_slice-all.result.now) (subst (λ bs. Trying (rest_course c.args.branches.now c.args.count c.args.place c.args.component) c.args.k c.in_ok-outer.outer c.args.next.now.items c.loop-branch.next.items c.args.failed.now c.loop-branch.failed (rest_course (branches_tree bs) c.args.count c.args.place c.args.component) c.loop-branch.now.items (c.loop-branch.branch-index < length c.as_slice-all.result.now)) none c.loop-branch.invariant.trying) c.in_ok-exhaust.ensures
 
 pub try_each-one_branch-requires : goal.try_each-one_branch-requires
 try_each-one_branch-requires t c =
-    let e : sequence_size c.in-Some-branch.inner + 1 ≤ branches_size (branches_tree c.as_slice-branch-items.result.now) = branch_smaller c.as_slice-branch-items.result.now c.loop-branch.branch-index c.branch-item.result c.in-Some-branch.inner c.loop-branch-test.true (sym c.branch-item.is ∙ c.in-Some-branch.is) in
-    let w : branches_size (branches_tree c.as_slice-branch-items.result.now) ≡ branches_size c.args.branches.now = ap branches_size c.loop-branch.invariant.whole in
-    let small : IsSmallSequence c.args.count c.in-Some-branch.inner = (small_branch c.args.count c.as_slice-branch-items.result.now c.loop-branch.branch-index c.branch-item.result c.in-Some-branch.inner c.loop-branch-test.true (sym c.branch-item.is ∙ c.in-Some-branch.is) c.loop-branch.invariant.small).0 in
-    (omega (arith, e, w, c.decreases), (c.requires.room, small))
+    let e : sequence_size c.in-Some.inner + 1 ≤ branches_size (branches_tree c.as_slice-all.result.now) = branch_smaller c.as_slice-all.result.now c.loop-branch.branch-index c.branch-item.result c.in-Some.inner c.loop-branch-test.true (sym c.branch-item.is ∙ c.in-Some.is) in
+    let w : branches_size (branches_tree c.as_slice-all.result.now) ≡ branches_size c.args.branches.now = ap branches_size c.loop-branch.invariant.whole in
+    let small : IsSmallSequence c.args.count c.in-Some.inner = (small_branch c.args.count c.as_slice-all.result.now c.loop-branch.branch-index c.branch-item.result c.in-Some.inner c.loop-branch-test.true (sym c.branch-item.is ∙ c.in-Some.is) c.loop-branch.invariant.small).0 in
+    (omega (arith, e, w, c.decreases), small)
 
 pub command-returns-clause-ok : goal.command-returns-clause-ok
 command-returns-clause-ok t c =
     let none : c.loop-k.now.items ≡ [] = none_left c.loop-k.now.items (λ lt. let l : 0 < vec_len c.loop-k.now = search rules in never_true (c.in_default.ensures.variant.1 l)) in
-    Adds-states (does_course (command_tree c.args.step.now.command) c.args.count c.args.step.now.place) c.args.from.items c.loop-k.next.items c.in_ok-merged.merged.items c.args.failed.now.items c.loop-k.failed.items
-    (Pops-end (does_course (command_tree c.args.step.now.command) c.args.count c.args.step.now.place) c.args.from.items c.args.failed.now.items c.loop-k.now.items c.loop-k.next.items c.loop-k.failed.items c.loop-k.invariant none) c.in_ok-merged.ensures
+    Adds-states (does_course (command_tree c.args.step.now.command) c.args.count c.args.step.now.place) c.args.from.items c.loop-k.next.items c.in_ok-merged.merged.items c.args.failed.now c.loop-k.failed
+    (Pops-end (does_course (command_tree c.args.step.now.command) c.args.count c.args.step.now.place) c.args.from.items c.args.failed.now c.loop-k.now.items c.loop-k.next.items c.loop-k.failed c.loop-k.invariant none) c.in_ok-merged.ensures
 
 pub one_branch-returns-clause-ok : goal.one_branch-returns-clause-ok
-one_branch-returns-clause-ok t c = Adds-branch (runs_course c.args.inner.now c.args.count) c.args.outer.now c.args.component c.args.from.items c.in_ok-inside.inside.items c.in_ok-done.done.items c.args.next.now.items c.leave_branch.new.next.items [] c.in_ok-leave_branch.field-0.items c.new-stops.result.items c.sequence.new.failed.items c.args.failed.now.items c.leave_branch.new.failed.items c.in_ok-inside.ensures c.new-stops.ensures.items c.in_ok-done.ensures.ok c.in_ok-leave_branch.ensures.done refl c.in_ok-leave_branch.ensures.soft c.in_ok-leave_branch.ensures.hard
+one_branch-returns-clause-ok t c = Adds-branch (runs_course c.args.inner.now c.args.count) c.args.outer.now c.args.inside.items c.in_ok-done.done.items c.args.next.now.items c.leave_branch.new.next.items c.in_ok-leave_branch.field-0.items c.args.stops c.sequence.new.failed c.args.failed.now c.leave_branch.new.failed c.in_ok-done.ensures.ok c.in_ok-leave_branch.ensures.done c.in_ok-leave_branch.ensures.soft c.in_ok-leave_branch.ensures.hard
 
 pub one_branch-returns-in_err-done-clause-err : goal.one_branch-returns-in_err-done-clause-err
 one_branch-returns-in_err-done-clause-err t c =
-    let p = err_from_is_err_and c.from_residual-in_err-done.result c.from_residual-in_err-done.ensures.1 in rw (p.1, p.2) (subst (λ ks. Halts (runs_course c.args.inner.now c.args.count) ks c.in_err-done.field-0.0) c.in_ok-inside.ensures c.in_err-done.ensures.err)
+    let p = err_from_is_err_and c.from_residual.result c.from_residual.ensures.1 in rw (p.1, p.2) c.in_err-done.ensures.err

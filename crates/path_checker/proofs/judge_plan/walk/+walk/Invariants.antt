@@ -1,21 +1,22 @@
-use Rattle.std.proofs.Common.{◌≡◌, ◌≤◌, ◌-◌, [], ◌∷◌, drop, length}
+use Rattle.std.proofs.Common.{◌≡◌, ◌<◌, ◌≤◌, ◌+◌, ◌-◌, [], ◌∷◌, drop, length}
 use Rattle.suit_commands.specs.View.{sequence_tree, branches_tree, command_tree}
 use Rattle.path_checker.specs.Small.{AreSmall, IsSmallSequence, AreSmallBranches}
 use Rattle.path_checker.specs.Steps.{At}
 use Rattle.path_checker.proofs.Walking.{Walks, runs_course, does_course}
 use Rattle.path_checker.proofs.Popping.{Pops, each_course}
 use Rattle.path_checker.proofs.Branching.{Trying, rest_course}
+use Rattle.path_checker.proofs.Keeping.{none_of}
 use Rattle.path_checker.proofs.judge_plan.walk.+walk.Given as goal
 
 -- the states that are done with the command, and those that wait
 abbrev pub invariant-command-loop-k : goal.invariant-command-loop-k
-invariant-command-loop-k l = Pops (does_course (command_tree l.step.command) l.count l.step.place) l.fn.from.items l.initial.failed.items l.now.items l.next.items l.failed.items
+invariant-command-loop-k l = Pops (does_course (command_tree l.step.command) l.count l.step.place) l.fn.from.items l.initial.failed l.now.items l.next.items l.failed
 
 abbrev pub decreases-command-loop-k : goal.decreases-command-loop-k
 decreases-command-loop-k l = length l.now.items
 
 abbrev pub invariant-all_at-loop-k : goal.invariant-all_at-loop-k
-invariant-all_at-loop-k l = Pops (At (command_tree l.step.command) l.count l.step.place l.component) l.fn.from.items l.initial.failed.items l.now.items l.next.items l.failed.items
+invariant-all_at-loop-k l = Pops (At (command_tree l.step.command) l.count l.step.place l.component) l.fn.from.items l.initial.failed l.now.items l.next.items l.failed
 
 abbrev pub decreases-all_at-loop-k : goal.decreases-all_at-loop-k
 decreases-all_at-loop-k l = length l.now.items
@@ -24,7 +25,7 @@ abbrev pub invariant-sequence-loop-at : goal.invariant-sequence-loop-at
 invariant-sequence-loop-at l = record {
   within : l.at ≤ length l.steps;
   small : IsSmallSequence l.count (sequence_tree (drop l.at l.steps));
-  walks : Walks (runs_course l.sequence l.count) l.fn.from.items [] (runs_course (sequence_tree (drop l.at l.steps)) l.count) l.now.items l.stops.items;
+  walks : Walks (runs_course l.sequence l.count) l.fn.from.items (none_of l.failed) (runs_course (sequence_tree (drop l.at l.steps)) l.count) l.now.items l.stops;
 }
 
 abbrev pub decreases-sequence-loop-at : goal.decreases-sequence-loop-at
@@ -34,12 +35,13 @@ abbrev pub invariant-each-loop-component : goal.invariant-each-loop-component
 invariant-each-loop-component l = record {
   whole : l.component-items ≡ l.fn.k.state.selection;
   small : AreSmall (drop l.component-index l.component-items);
-  walks : Walks (each_course (command_tree l.step.command) l.count l.step.place l.fn.k.state.selection) (l.fn.k ∷ []) l.initial.failed.items (each_course (command_tree l.step.command) l.count l.step.place (drop l.component-index l.component-items)) l.now.items l.failed.items;
+  walks : Walks (each_course (command_tree l.step.command) l.count l.step.place l.fn.k.state.selection) (l.fn.k ∷ []) l.initial.failed (each_course (command_tree l.step.command) l.count l.step.place (drop l.component-index l.component-items)) l.now.items l.failed;
 }
 
 abbrev pub invariant-try_each-loop-branch : goal.invariant-try_each-loop-branch
 invariant-try_each-loop-branch l = record {
-  whole : branches_tree l.branch-items ≡ l.branches;
-  small : AreSmallBranches l.count (branches_tree (drop l.branch-index l.branch-items));
-  trying : Trying (rest_course l.branches l.count l.place l.component) l.fn.k l.outer l.initial.next.items l.next.items l.initial.failed.items l.failed.items (rest_course (branches_tree (drop l.branch-index l.branch-items)) l.count l.place l.component) l.now.items;
+  whole : branches_tree l.all ≡ l.branches;
+  left : l.left + l.branch-index ≡ length l.all;
+  small : AreSmallBranches l.count (branches_tree (drop l.branch-index l.all));
+  trying : Trying (rest_course l.branches l.count l.place l.component) l.fn.k l.outer l.initial.next.items l.next.items l.initial.failed l.failed (rest_course (branches_tree (drop l.branch-index l.all)) l.count l.place l.component) l.now.items (l.branch-index < length l.all);
 }

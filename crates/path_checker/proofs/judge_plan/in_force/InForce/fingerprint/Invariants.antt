@@ -1,5 +1,5 @@
-use Rattle.std.proofs.Common.{◌-◌}
+use Rattle.std.proofs.Common.{◌-◌, length}
 use Rattle.path_checker.proofs.judge_plan.in_force.InForce.fingerprint.Given as goal
 
-abbrev pub decreases-loop-component : goal.decreases-loop-component
-decreases-loop-component l = 8 - l.component
+abbrev pub decreases-loop-index : goal.decreases-loop-index
+decreases-loop-index l = length l.rows - l.index

@@ -1,10 +1,9 @@
-use Rattle.std.proofs.Common.{◌≡◌, ◌-◌, ◌<◌, ℕ}
-use Rattle.suit_params.specs.declared.param.ParamKey.{ParamKey}
-use Rattle.suit_params.specs.InForce.{in_force}
+use Rattle.std.proofs.Common.{◌-◌, length}
+use Rattle.path_checker.proofs.Merging.{SameSoFar}
 use Rattle.path_checker.proofs.judge_plan.in_force.InForce.is_same.Given as goal
 
-abbrev pub invariant-loop-component : goal.invariant-loop-component
-invariant-loop-component l = (component : ℕ) (key : ParamKey) → component < l.component → in_force l.self component key ≡ in_force l.other component key
+abbrev pub invariant-loop-index : goal.invariant-loop-index
+invariant-loop-index l = SameSoFar l.index l.mine l.theirs
 
-abbrev pub decreases-loop-component : goal.decreases-loop-component
-decreases-loop-component l = 8 - l.component
+abbrev pub decreases-loop-index : goal.decreases-loop-index
+decreases-loop-index l = length l.mine - l.index

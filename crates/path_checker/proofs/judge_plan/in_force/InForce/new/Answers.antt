@@ -1,11 +1,9 @@
-use Rattle.std.proofs.Common.{length, sym, ◌∙◌, ap}
-use Rattle.suit_params.specs.InForce.{in_force}
+use Rattle.std.proofs.Common.{◌∙◌, ap}
+use Rattle.path_checker.proofs.RowLaws.{first_rows, first_flat}
 use Rattle.path_checker.proofs.judge_plan.in_force.InForce.new.Goals as goal
 
 pub invariant_of-result : goal.invariant_of-result
-invariant_of-result c =
-    let empty = c.in_ok-params.ensures.ok ∙ c.new.ensures in
-    record {
-      keyed = λ component key param low is. absurd (let never = sym (ap (λ ps. in_force ps component key) empty ∙ c.in_force_laws.ensures.at_first component key low) ∙ is in cc);
-      whole = ap (λ ps. length ps) empty ∙ c.overriding_laws.ensures.whole.first;
-    }
+invariant_of-result c = first_rows c.overriding_laws.ensures.whole c.overriding_laws.ensures.empty _ (ap (λ rows. rows.items) c.in_ok-held.ensures.ok ∙ c.in_ok-empty_rows.ensures)
+
+pub returns : goal.returns
+returns c = first_flat _ (ap (λ rows. rows.items) c.in_ok-held.ensures.ok ∙ c.in_ok-empty_rows.ensures)

@@ -1,0 +1,5 @@
+use Rattle.path_checker.proofs.Passing.{straight_unconditional, unconditional_straight}
+use Rattle.path_checker.proofs.judge_plan.straight.is_straight.Goals as goal
+
+pub returns-in_default : goal.returns-in_default
+returns-in_default c = (λ h. unconditional_straight c.args.command.now (c.is_unconditional.ensures.0 h), λ h. c.is_unconditional.ensures.1 (straight_unconditional c.args.command.now c.in_default.not-Test h))

@@ -1,0 +1,160 @@
+//! The failed conditions that are kept. One that nothing goes on from is dropped where it comes to be.
+
+ghost use Rattle.std.specs.Prelude.{◌≡◌, [], ◌∷◌, ◌++◌, OnOk, IfOk};
+ghost use Rattle.path_checker.specs.Exploring.{Failures as TheFailures, keeps, after_stops};
+ghost use Rattle.path_checker.specs.Merging.{Settles};
+ghost use Rattle.path_checker.specs.Steps.{knowing, stopped_after};
+
+use crate::judge_plan::facts::Facts;
+use crate::judge_plan::happened::Ended;
+use crate::judge_plan::kept::{Kept, Stopped};
+use crate::judge_plan::memory::Memory;
+use crate::judge_plan::merged::settled;
+use std::alloc::{AllocError, Global};
+use std::marker::Model;
+
+/// Failed conditions, and which more of them are kept: those with soft failure, and those without.
+#[derive(Drop)]
+pub(crate) struct Failures<'a> {
+    pub list: Vec<Stopped<'a>>,
+    pub soft: bool,
+    pub hard: bool,
+}
+
+impl<'a> Model for Failures<'a> {
+    ghost Value = { TheFailures };
+
+    ghost view = { λ a. record { items = a.list.items; soft = a.soft; hard = a.hard } };
+}
+
+impl<'a> Failures<'a> {
+    /// None so far.
+    pub(crate) fn none(alloc: Global, soft: bool, hard: bool) -> Failures<'a>
+        ensures { result ≡ record { items = []; soft = soft; hard = hard } }
+    {
+        Failures {
+            list: Vec::new(alloc),
+            soft,
+            hard,
+        }
+    }
+
+    /// None so far, of which the same are kept.
+    pub(crate) fn none_like(&self, alloc: Global) -> Failures<'a>
+        ensures { result ≡ record { items = []; soft = self.now.soft; hard = self.now.hard } }
+    {
+        Failures::none(alloc, self.soft, self.hard)
+    }
+
+    /// Whether a failed condition of a sequence with this soft failure is kept.
+    pub(crate) fn keeps(&self, soft_failure: bool) -> bool
+        ensures { result ≡ keeps self.now soft_failure }
+    {
+        if soft_failure { self.soft } else { self.hard }
+    }
+
+    /// One more, where it is kept.
+    pub(crate) fn add(&mut self, stop: Stopped<'a>) -> Result<(), AllocError>
+        ensures { OnOk result (self.new ≡ after_stops self.old (stop.entry ∷ [])) }
+    {
+        if self.keeps(stop.soft_failure) {
+            self.list.push(stop)?;
+        }
+        Ok(())
+    }
+
+    /// Those and others, which were kept as these are. Takes no memory where there are none of those.
+    pub(crate) fn join(&mut self, others: Failures<'a>) -> Result<(), AllocError>
+        ensures { OnOk result
+            (self.new
+            ≡ record {
+              items = self.old.items ++ others.entry.items;
+              soft = self.old.soft;
+              hard = self.old.hard;
+            }) }
+    {
+        let mut list = others.list;
+        if self.list.is_empty() {
+            self.list = list;
+            return Ok(());
+        }
+        self.list.append(&mut list)?;
+        Ok(())
+    }
+
+    /// These, or some that stand for all once they are twice as many as were left the last time.
+    pub(crate) fn settled(
+        self,
+        memory: Memory<'a>,
+        left: &mut usize,
+    ) -> Result<Failures<'a>, AllocError>
+        ensures { IfOk result (λ v. Settles self.entry v) }
+    {
+        let list = settled(memory, self.list, left)?;
+        Ok(Failures {
+            list,
+            soft: self.soft,
+            hard: self.hard,
+        })
+    }
+}
+
+// The end of a state by a failed condition.
+fn failed_at<'a>(k: Kept<'a>, place: u64, ended: Ended) -> Stopped<'a>
+    ensures { result ≡ stopped_after k.entry ended place }
+{
+    Stopped {
+        facts: k.facts,
+        history: k.history,
+        ended,
+        place,
+        soft_failure: k.soft_failure,
+    }
+}
+
+/// The end by a failed condition.
+pub(crate) fn stop<'a>(
+    k: Kept<'a>,
+    place: u64,
+    ended: Ended,
+    failed: &mut Failures<'a>,
+) -> Result<(), AllocError>
+    ensures { OnOk result (failed.new ≡ after_stops failed.old (stopped_after k.entry ended place ∷ [])) }
+{
+    failed.add(failed_at(k, place, ended))
+}
+
+/// The end by a failed condition, of a state that may go on too.
+pub(crate) fn stop_also<'a>(
+    memory: Memory<'a>,
+    k: &Kept<'a>,
+    place: u64,
+    ended: Ended,
+    failed: &mut Failures<'a>,
+) -> Result<(), AllocError>
+    ensures { OnOk result (failed.new ≡ after_stops failed.old (stopped_after k.now ended place ∷ [])) }
+{
+    if failed.keeps(k.soft_failure) {
+        stop(k.copy(memory)?, place, ended, failed)?;
+    }
+    Ok(())
+}
+
+/// The same under other facts.
+pub(crate) fn stop_knowing<'a>(
+    memory: Memory<'a>,
+    k: &Kept<'a>,
+    facts: Facts,
+    place: u64,
+    ended: Ended,
+    failed: &mut Failures<'a>,
+) -> Result<(), AllocError>
+    ensures { OnOk result
+        (failed.new
+        ≡ after_stops failed.old (stopped_after (knowing k.now facts) ended place ∷ [])) }
+{
+    if failed.keeps(k.soft_failure) {
+        stop(k.copy_with(memory, facts)?, place, ended, failed)?;
+    }
+    Ok(())
+}

@@ -1,0 +1,264 @@
+//! Commands in which no condition is met, done in a state in place. One state at most follows, and no sequence ends by a condition.
+
+ghost use Rattle.std.specs.Prelude.{◌<◌, [], ◌∷◌, IfOk, IfErr};
+ghost use Rattle.suit_commands.specs.View.{command_tree, sequence_tree};
+ghost use Rattle.path_model.specs.Behaviour.{Each};
+ghost use Rattle.path_model.specs.Runs.{Runs, Does, Tries};
+ghost use Rattle.path_checker.specs.Exploring.{Explores, kept_if};
+ghost use Rattle.path_checker.specs.Halting.{Halts};
+ghost use Rattle.path_checker.specs.Inner.{RunsInside, entered};
+ghost use Rattle.path_checker.specs.Small.{IsSmallSequence, IsSmallCommand, AreSmallBranches};
+ghost use Rattle.path_checker.specs.Steps.{At};
+ghost use Rattle.path_checker.specs.Unconditional.{IsUnconditional, AreUnconditional, FirstIsUnconditional};
+
+use crate::judge_plan::directives::{act_in, override_each_in, override_in, settle};
+use crate::judge_plan::halt::Halt;
+use crate::judge_plan::kept::Kept;
+use crate::judge_plan::memory::Memory;
+use crate::judge_plan::overriding::{overrides_from, overrides_in};
+use crate::judge_plan::selected::Selected;
+use suit_commands::{Branches, Command, Sequence, Step};
+
+// More overrides than these, one after another, are told as one.
+const FEW: usize = 3;
+
+/// Does commands one after another: whether the procedure goes on. The state is then the one after them.
+#[cycle(in_place)]
+pub(crate) fn steps_in<'a>(
+    memory: Memory<'a>,
+    count: u32,
+    steps: &'a [Step],
+    k: &mut Kept<'a>,
+) -> Result<bool, Halt<'a>>
+    requires small { IsSmallSequence count (sequence_tree steps.now) }
+    requires unconditional { AreUnconditional (sequence_tree steps.now) }
+    ensures ok { IfOk result
+        (λ goes_on. Explores (λ identities. Runs (sequence_tree steps.now) identities count)
+        (k.old ∷ []) (kept_if goes_on k.new) []) }
+    ensures err { IfErr result
+        (λ h. Halts (λ identities. Runs (sequence_tree steps.now) identities count)
+        (k.old ∷ []) h) }
+{
+    let mut at = 0;
+    while at < steps.len() {
+        let overrides = overrides_from(steps, at);
+        if overrides.len() > FEW {
+            overrides_in(memory, overrides, k)?;
+            at += overrides.len();
+        } else {
+            let goes_on = command_in(memory, count, &steps[at], k)?;
+            if !goes_on {
+                return Ok(false);
+            }
+            at += 1;
+        }
+    }
+    Ok(true)
+}
+
+// Does a command.
+#[cycle(in_place)]
+fn command_in<'a>(
+    memory: Memory<'a>,
+    count: u32,
+    step: &'a Step,
+    k: &mut Kept<'a>,
+) -> Result<bool, Halt<'a>>
+    requires small { IsSmallCommand count (command_tree step.now.command) }
+    requires unconditional { IsUnconditional (command_tree step.now.command) }
+    ensures ok { IfOk result
+        (λ goes_on. Explores
+        (λ identities. Does (command_tree step.now.command) identities count step.now.place)
+        (k.old ∷ []) (kept_if goes_on k.new) []) }
+    ensures err { IfErr result
+        (λ h. Halts
+        (λ identities. Does (command_tree step.now.command) identities count step.now.place)
+        (k.old ∷ []) h) }
+{
+    if let Command::Index(selection) = &step.command {
+        k.selection = Selected::by(selection, count);
+        return Ok(true);
+    }
+    each_in(memory, count, step, k)
+}
+
+// Does a command at each selected component.
+#[cycle(in_place)]
+fn each_in<'a>(
+    memory: Memory<'a>,
+    count: u32,
+    step: &'a Step,
+    k: &mut Kept<'a>,
+) -> Result<bool, Halt<'a>>
+    requires small { IsSmallCommand count (command_tree step.now.command) }
+    requires unconditional { IsUnconditional (command_tree step.now.command) }
+    ensures ok { IfOk result
+        (λ goes_on. Explores
+        (λ identities. Each
+        (λ c. At (command_tree step.now.command) count step.now.place c identities)
+        k.old.state.selection)
+        (k.old ∷ []) (kept_if goes_on k.new) []) }
+    ensures err { IfErr result
+        (λ h. Halts
+        (λ identities. Each
+        (λ c. At (command_tree step.now.command) count step.now.place c identities)
+        k.old.state.selection)
+        (k.old ∷ []) h) }
+{
+    if let Some(component) = k.selection.sole() {
+        return one_in(memory, count, step, component, k);
+    }
+    if let Command::Override(list) = &step.command {
+        override_each_in(memory, step.place, list, k)?;
+        return Ok(true);
+    }
+    let selection = k.selection.copy();
+    for index in 0..selection.len() {
+        let goes_on = one_in(memory, count, step, selection.at(index), k)?;
+        if !goes_on {
+            return Ok(false);
+        }
+    }
+    Ok(true)
+}
+
+/// Does a command at one component: whether the procedure goes on. The state is then the one after it.
+#[cycle(in_place)]
+pub(crate) fn one_in<'a>(
+    memory: Memory<'a>,
+    count: u32,
+    step: &'a Step,
+    component: u32,
+    k: &mut Kept<'a>,
+) -> Result<bool, Halt<'a>>
+    requires room { component < 8 }
+    requires small { IsSmallCommand count (command_tree step.now.command) }
+    requires unconditional { IsUnconditional (command_tree step.now.command) }
+    ensures ok { IfOk result
+        (λ goes_on. Explores (At (command_tree step.now.command) count step.now.place component)
+        (k.old ∷ []) (kept_if goes_on k.new) []) }
+    ensures err { IfErr result
+        (λ h. Halts (At (command_tree step.now.command) count step.now.place component)
+        (k.old ∷ []) h) }
+{
+    match &step.command {
+        Command::Act { kind, .. } => act_in(memory, step.place, *kind, component, k),
+        Command::Override(list) => {
+            override_in(memory, step.place, list, component, k)?;
+            Ok(true)
+        }
+        Command::TryEach(branches) => try_in(memory, count, branches, step.place, component, k),
+        Command::Run(inner) => inside(memory, count, inner, component, false, k),
+        _ => Ok(true),
+    }
+}
+
+// Runs an inner sequence. Where it completes, the selection and soft failure go back.
+#[cycle(in_place)]
+fn inside<'a>(
+    memory: Memory<'a>,
+    count: u32,
+    inner: &'a Sequence,
+    component: u32,
+    soft: bool,
+    k: &mut Kept<'a>,
+) -> Result<bool, Halt<'a>>
+    requires room { component < 8 }
+    requires small { IsSmallSequence count inner.now }
+    requires unconditional { AreUnconditional inner.now }
+    ensures ok { IfOk result
+        (λ goes_on. RunsInside (λ identities. Runs inner.now identities count) component soft k.old
+        goes_on k.new) }
+    ensures err { IfErr result
+        (λ h. Halts (λ identities. Runs inner.now identities count)
+        (entered k.old.state component soft k.old ∷ []) h) }
+{
+    let (selection, soft_failure) = (k.selection.copy(), k.soft_failure);
+    k.selection = Selected::one(component);
+    k.soft_failure = soft;
+    let goes_on = steps_in(memory, count, inner.as_slice(), k)?;
+    k.selection = selection;
+    k.soft_failure = soft_failure;
+    Ok(goes_on)
+}
+
+// Tries the first branch, after which no other is run.
+#[cycle(in_place)]
+fn try_in<'a>(
+    memory: Memory<'a>,
+    count: u32,
+    branches: &'a Branches,
+    place: u64,
+    component: u32,
+    k: &mut Kept<'a>,
+) -> Result<bool, Halt<'a>>
+    requires room { component < 8 }
+    requires small { AreSmallBranches count branches.now }
+    requires unconditional { FirstIsUnconditional branches.now }
+    ensures ok { IfOk result
+        (λ goes_on. Explores (λ identities. Tries branches.now identities count place component)
+        (k.old ∷ []) (kept_if goes_on k.new) []) }
+    ensures err { IfErr result
+        (λ h. Halts (λ identities. Tries branches.now identities count place component)
+        (k.old ∷ []) h) }
+{
+    let all = branches.as_slice();
+    match &all[0] {
+        Some(inner) => inside(memory, count, inner, component, true, k),
+        None => Ok(true),
+    }
+}
+
+// Does commands one after another. Parameters that they made anew are then shared, where many states are kept.
+fn all_in<'a>(
+    memory: Memory<'a>,
+    count: u32,
+    steps: &'a [Step],
+    k: &mut Kept<'a>,
+) -> Result<bool, Halt<'a>>
+    requires small { IsSmallSequence count (sequence_tree steps.now) }
+    requires unconditional { AreUnconditional (sequence_tree steps.now) }
+    ensures ok { IfOk result
+        (λ goes_on. Explores (λ identities. Runs (sequence_tree steps.now) identities count)
+        (k.old ∷ []) (kept_if goes_on k.new) []) }
+    ensures err { IfErr result
+        (λ h. Halts (λ identities. Runs (sequence_tree steps.now) identities count)
+        (k.old ∷ []) h) }
+{
+    let was_own = k.params.is_own();
+    let goes_on = steps_in(memory, count, steps, k)?;
+    settle(memory, was_own, k)?;
+    Ok(goes_on)
+}
+
+/// Does commands one after another in each of the states.
+pub(crate) fn steps_in_all<'a>(
+    memory: Memory<'a>,
+    count: u32,
+    steps: &'a [Step],
+    from: Vec<Kept<'a>>,
+) -> Result<Vec<Kept<'a>>, Halt<'a>>
+    requires small { IsSmallSequence count (sequence_tree steps.now) }
+    requires unconditional { AreUnconditional (sequence_tree steps.now) }
+    ensures ok { IfOk result
+        (λ v. Explores (λ identities. Runs (sequence_tree steps.now) identities count)
+        from.entry.items v.items []) }
+    ensures err { IfErr result
+        (λ h. Halts (λ identities. Runs (sequence_tree steps.now) identities count)
+        from.entry.items h) }
+{
+    let round = memory.gather(from.len());
+    let mut now = from;
+    let mut kept = 0;
+    for at in 0..now.len() {
+        let goes_on = all_in(memory, count, steps, &mut now[at])?;
+        if !goes_on {
+            continue;
+        }
+        now.swap(kept, at);
+        kept += 1;
+    }
+    now.truncate(kept);
+    memory.keep(round);
+    Ok(now)
+}
