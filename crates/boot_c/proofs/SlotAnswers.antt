@@ -23,23 +23,23 @@ use Rattle.suit_answers.specs.declared.answer.Answer.TheVariants as answers
 -- ---- a flash has one configuration
 
 layout_or : List Entry → Config → List Entry
-layout_or other (Configured layout key) = layout
+layout_or other (Configured layout key frame) = layout
 layout_or other Blank = other
 layout_or other Bad = other
 
 one_layout : (law : OneAnswer) (flash : List ℕ) (layout others : List Entry) (key other : Key) → config_in (length flash) flash layout key → config_in (length flash) flash others other → layout ≡ others
 unfolding layout_or
-one_layout law flash layout others key other a b = ap (layout_or layout) (law VERSION_1 (length flash) (head_of VERSION_1 flash) (Configured layout key) (Configured others other) a b)
+one_layout law flash layout others key other a b = ap (layout_or layout) (law (length flash) flash (Configured layout key VERSION_1) (Configured others other VERSION_1) a b)
 
-blank_is_none : (layout : List Entry) (key : Key) → Blank ≡ Configured layout key → ⊥
+blank_is_none : (layout : List Entry) (key : Key) → Blank ≡ Configured layout key VERSION_1 → ⊥
 blank_is_none layout key e = absurd cc
 
-bad_is_none : (layout : List Entry) (key : Key) → Bad ≡ Configured layout key → ⊥
+bad_is_none : (layout : List Entry) (key : Key) → Bad ≡ Configured layout key VERSION_1 → ⊥
 bad_is_none layout key e = absurd cc
 
 never_both : (law : OneAnswer) (flash : List ℕ) (layout : List Entry) (key : Key) → HasNoConfig flash → config_in (length flash) flash layout key → ⊥
-never_both law flash layout key (inl blank) config = blank_is_none layout key (law VERSION_1 (length flash) (head_of VERSION_1 flash) Blank (Configured layout key) blank config)
-never_both law flash layout key (inr bad) config = bad_is_none layout key (law VERSION_1 (length flash) (head_of VERSION_1 flash) Bad (Configured layout key) bad config)
+never_both law flash layout key (inl blank) config = blank_is_none layout key (law (length flash) flash Blank (Configured layout key VERSION_1) blank config)
+never_both law flash layout key (inr bad) config = bad_is_none layout key (law (length flash) flash Bad (Configured layout key VERSION_1) bad config)
 
 -- ---- a component stands in one memory
 

@@ -1,8 +1,6 @@
 -- What a boot answers.
 use Rattle.std.specs.Prelude.{◌≡◌, ◌⊎◌, ℕ, List, length}
 use Rattle.flash_layout.specs.Configs.{Bad, Blank, ConfigOf}
-use Rattle.flash_layout.specs.Frames.{head_of}
-use Rattle.flash_layout.specs.declared.frame.TheConstants.{VERSION_1}
 use Rattle.flash_layout.specs.declared.key.Key.{Key}
 use Rattle.flash_layout.specs.declared.layout.Entry.{Entry}
 use Rattle.invoke_proc.specs.Banks.{config_in}
@@ -42,8 +40,8 @@ pub record Ends (flash : List ℕ) (answer : Answer) : Type 0 where
 
 abbrev pub HasNoConfig : List ℕ → Type 0
 HasNoConfig flash =
-    ConfigOf VERSION_1 (length flash) (head_of VERSION_1 flash) Blank
-    ⊎ ConfigOf VERSION_1 (length flash) (head_of VERSION_1 flash) Bad
+    ConfigOf (length flash) flash Blank
+    ⊎ ConfigOf (length flash) flash Bad
 
 -- the flash has no configuration; it did not read, or memory ran out for that; or a boot ended so
 abbrev pub IsAnswer : List ℕ → Answer → Type 0

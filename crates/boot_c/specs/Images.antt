@@ -1,7 +1,6 @@
 -- The image that a boot starts (draft-ietf-suit-manifest-25, section 6.2; what is noted of it is this project's own).
 use Rattle.std.specs.Prelude.{◌≡◌, ◌≤◌, ◌+◌, ◌∷◌, ℕ, List, [], Some, None, length, take, slice_range}
 use Rattle.boot_c.specs.declared.image.SuitImage.{SuitImage}
-use Rattle.flash_layout.specs.declared.frame.TheConstants.{VERSION_1}
 use Rattle.flash_layout.specs.declared.key.Key.{Key}
 use Rattle.flash_layout.specs.declared.layout.Entry.{Entry}
 use Rattle.flash_view.specs.Noting.{items_in}
@@ -49,7 +48,7 @@ pub record Starts (flash : List ℕ) (image : SuitImage) : Type 0 where
   pub launched : IsLaunched flash image launch
   pub after : List ℕ
   pub plays : PlaysBoot layout key (λ _. None) flash after [] (launch ∷ []) plays.Done
-  pub safe : Sound VERSION_1 flash → HasItsDigest (launched_as launch)
+  pub safe : Sound flash → HasItsDigest (launched_as launch)
 
 -- it was, and launched nothing
 pub record StartsNone (flash : List ℕ) : Type 0 where

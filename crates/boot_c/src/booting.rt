@@ -111,7 +111,7 @@ fn boot_from(alloc: Global, flash: &[u8]) -> Told
 {
     let mut disk = ViewDisk::new(flash);
     let answer = match load_config(alloc, &mut disk) {
-        Loaded::Config(layout, key) => return boot_by(alloc, flash, &layout, &key),
+        Loaded::Config(layout, key, _) => return boot_by(alloc, flash, &layout, &key),
         Loaded::Blank | Loaded::BadConfig => Answer::Unconfigured,
         Loaded::FlashFault => Answer::FlashFault,
         Loaded::NoMemory => Answer::NoMemory,

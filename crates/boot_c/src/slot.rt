@@ -122,7 +122,7 @@ fn slot_from(alloc: Global, flash: &[u8], component: u32) -> Result<SuitSlot, An
 {
     let mut disk = ViewDisk::new(flash);
     match load_config(alloc, &mut disk) {
-        Loaded::Config(layout, key) => slot_by(flash, &layout, &key, component),
+        Loaded::Config(layout, key, _) => slot_by(flash, &layout, &key, component),
         Loaded::Blank | Loaded::BadConfig => Err(Answer::Unconfigured),
         Loaded::FlashFault => Err(Answer::FlashFault),
         Loaded::NoMemory => Err(Answer::NoMemory),

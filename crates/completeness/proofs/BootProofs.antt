@@ -95,12 +95,12 @@ Is_reply (Says reply) = Unit {0}
 Is_reply _ = ⊥
 
 -- and none comes where there is a configuration
-never_reply : OneConfigAnswer → (layout : List Entry) (key : Key) (b a : Outside) → IsTrue b.flash.told → ConfigOf VERSION_1 b.flash.size (head_of VERSION_1 b.flash.reads) (Configured layout key)
+never_reply : OneConfigAnswer → (layout : List Entry) (key : Key) (b a : Outside) → IsTrue b.flash.told → ConfigOf b.flash.size b.flash.reads (Configured layout key VERSION_1)
     → (e : Ending) → Is_reply e → begins_boot b a e → ⊥
 never_reply configs layout key b a told held _ is (Declines reply (looks, IsBlank blank says)) =
-    let never = configs VERSION_1 b.flash.size (head_of VERSION_1 b.flash.reads) (Configured layout key) Blank held (blank told) in cc
+    let never = configs b.flash.size b.flash.reads (Configured layout key VERSION_1) Blank held (blank told) in cc
 never_reply configs layout key b a told held _ is (Declines reply (looks, IsBad bad says)) =
-    let never = configs VERSION_1 b.flash.size (head_of VERSION_1 b.flash.reads) (Configured layout key) Bad held (bad told) in cc
+    let never = configs b.flash.size b.flash.reads (Configured layout key VERSION_1) Bad held (bad told) in cc
 never_reply configs layout key b a told held _ is (Goes config m _ given (Ends reply same says)) = says
 never_reply configs layout key b a told held (FaultOf object) is begun = is
 never_reply configs layout key b a told held NoMemory is begun = is
@@ -196,7 +196,7 @@ module _ (configs : OneConfigAnswer) (records : OneAnswer) (laws : BootLaws) whe
 
     boot_there : (end : BootEnd) (lines : List ℕ) (u : Boots l n b a end lines) → IsBoot R.layout R.key l n u.middle a end
     boot_there end lines u =
-        let config = configured_once u.layout R.layout u.key R.key (configs VERSION_1 b.flash.size (head_of VERSION_1 b.flash.reads) (Configured u.layout u.key) (Configured R.layout R.key)
+        let config = configured_once u.layout R.layout u.key R.key (configs b.flash.size b.flash.reads (Configured u.layout u.key VERSION_1) (Configured R.layout R.key VERSION_1)
         (u.held.1 ready.told.flash) (R.configured ready.told.flash)) in
         subst (λ (z : Key). IsBoot R.layout z l n u.middle a end) config.1 (subst (λ (z : List Entry). IsBoot z u.key l n u.middle a end) config.0 u.boot)
 
@@ -215,7 +215,7 @@ module _ (configs : OneConfigAnswer) (records : OneAnswer) (laws : BootLaws) whe
   -- ---- and only there
 
   module _ (soundness : SoundnessLaws) (words : List (List ℕ)) (l n : Launching) (b a : Outside) (told : AreTold l b) (word : task_of words ≡ Some RunBoot)
-      (size : b.flash.size ≡ length b.flash.reads) (sound : Sound VERSION_1 b.flash.reads) where
+      (size : b.flash.size ≡ length b.flash.reads) (sound : Sound b.flash.reads) where
     module _ (lines : List ℕ) (u : Boots l n b a ends.Ended lines) where
       seen : SeesSame b u.middle
       seen = boot_sees l n b a ends.Ended lines u told
@@ -228,7 +228,7 @@ module _ (configs : OneConfigAnswer) (records : OneAnswer) (laws : BootLaws) whe
 
       has_recorded : HasRecorded VERSION_1 u.layout u.key play.installed b.flash.reads
       has_recorded = record {
-        config = subst (λ (z : ℕ). ConfigOf VERSION_1 z (head_of VERSION_1 b.flash.reads) (Configured u.layout u.key)) size (u.held.1 told.flash);
+        config = subst (λ (z : ℕ). ConfigOf z b.flash.reads (Configured u.layout u.key VERSION_1)) size (u.held.1 told.flash);
         record_is = play.starts.recorded;
       }
 

@@ -48,7 +48,7 @@ use Rattle.completeness.proofs.Begun.{never_fault, two_faults}
 use Rattle.completeness.proofs.SamePlaces.{AreSame, same_places}
 use Rattle.completeness.proofs.UpdatePlayed.{InstalledSo, SeesSame, installed_so, way}
 
-pub configured_once : (l m : List Entry) (k n : Key) → Configured l k ≡ Configured m n → (l ≡ m) × (k ≡ n)
+pub configured_once : (l m : List Entry) (k n : Key) → Configured l k VERSION_1 ≡ Configured m n VERSION_1 → (l ≡ m) × (k ≡ n)
 configured_once l m k n same = grind (arith, same)
 
 task_once : (x y : List ℕ) (us vs : List (List ℕ × List ℕ)) → Some (RunUpdate x us) ≡ Some (RunUpdate y vs) → (x ≡ y) × (us ≡ vs)
@@ -109,7 +109,7 @@ module _ (configs : OneAnswer) (envelopes : EnvelopeLaws) (manifests : ManifestL
 
     module _ (end : UpdateEnd) (lines : List ℕ) (u : Updates ready.name ready.uris l n b a end lines) where
       config : (u.layout ≡ O.layout) × (u.key ≡ O.key)
-      config = configured_once u.layout O.layout u.key O.key (configs VERSION_1 b.flash.size (head_of VERSION_1 b.flash.reads) (Configured u.layout u.key) (Configured O.layout O.key)
+      config = configured_once u.layout O.layout u.key O.key (configs b.flash.size b.flash.reads (Configured u.layout u.key VERSION_1) (Configured O.layout O.key VERSION_1)
           (u.held.1 ready.told.flash) (O.configured ready.told.flash))
 
       same_bytes : u.bytes ≡ O.bytes

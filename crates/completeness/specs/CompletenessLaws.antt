@@ -1,6 +1,5 @@
 -- Given what it needs, a command is done; and it is done only then.
 use Rattle.std.specs.Prelude.{◌≡◌, ◌⊎◌, ◌↔◌, ℕ, IsTrue, List, length, Some}
-use Rattle.flash_layout.specs.declared.frame.TheConstants.{VERSION_1}
 use Rattle.flash_layout.specs.declared.key.Key.{Key}
 use Rattle.flash_layout.specs.declared.layout.Entry.{Entry}
 use Rattle.rollback_record.specs.SoundFlash.{Sound}
@@ -88,13 +87,13 @@ UpdateSaysSo =
 abbrev pub OnlyReadyBoots : Type 0
 OnlyReadyBoots =
     (words : List (List ℕ)) (launched now : Launching) (before after : Outside) (ended : Ended) → task_of words ≡ Some RunBoot → AreTold launched before
-    → before.flash.size ≡ length before.flash.reads → Sound VERSION_1 before.flash.reads → ComesTo words launched now before after ended → ended_status ended ≡ 0
+    → before.flash.size ≡ length before.flash.reads → Sound before.flash.reads → ComesTo words launched now before after ended → ended_status ended ≡ 0
     → (ready : ReadyToBoot words launched before) × BootsWhole words launched before ready now after ended
 
 abbrev pub BootSaysSo : Type 0
 BootSaysSo =
     (words : List (List ℕ)) (launched now : Launching) (before after : Outside) (sunk_before sunk_after : Sunk) → task_of words ≡ Some RunBoot → AreTold launched before
-    → before.flash.size ≡ length before.flash.reads → Sound VERSION_1 before.flash.reads → Performs words launched now before after sunk_before sunk_after 0
+    → before.flash.size ≡ length before.flash.reads → Sound before.flash.reads → Performs words launched now before after sunk_before sunk_after 0
     → (ready : ReadyToBoot words launched before) × PutsDone (BootsWhole words launched before ready now after) sunk_before sunk_after
 
 pub record CompletenessLaws : Type 0 where

@@ -3,7 +3,7 @@ use Rattle.std.proofs.Common.{◌≡◌, ◌≢◌, inl, inr, ⊎_elim, Bool, tr
 use Rattle.std.specs.List.{slice_range, All}
 use Rattle.std.specs.Prelude.{nat_le, cond}
 use Rattle.std.proofs.lemmas.Bool.{cases_eq}
-use Rattle.std.proofs.lemmas.List.{ext_get_or, get_or-drop, get_or-replicate, length-take, length-take-le, take-take}
+use Rattle.std.proofs.lemmas.List.{ext_get_or, get_or-drop, get_or-replicate, length-take-le, take-take}
 use Rattle.std.proofs.lemmas.List.Edits.{get_or-between, length-between}
 use Rattle.std.proofs.lemmas.List.Elements.{All-cons, All-from_get_or, All-get_or, All-head, All-nil, All-tail, All-weaker}
 use Rattle.suit_edge.specs.Ranges.{Outside, OutsideEach}
@@ -31,14 +31,8 @@ in_head image i lt =
     let at : 0 + i ≡ i = omega arith in
     get_or-between image 0 49152 i 0 (omega (arith, lt)) ∙ ap (λ (k : ℕ). get_or image k 0) at
 
-pub closed_blank : (image : List ℕ) → get_or image 0 0 ≢ 0xA5 → IsBlank VERSION_1 (head_of VERSION_1 image)
-closed_blank image closed = inr (λ is_open. closed (sym (in_head image 0 (omega arith)) ∙ is_open))
-
-blank_closed : (image : List ℕ) → 49152 ≤ length image → IsBlank VERSION_1 (head_of VERSION_1 image) → get_or image 0 0 ≢ 0xA5
-blank_closed image large blank is_open = ⊎_elim
-    (λ small. omega (arith, small, large, length-take 49152 image))
-    (λ closed. closed (in_head image 0 (omega arith) ∙ is_open))
-    blank
+blank_closed : (image : List ℕ) → 49152 ≤ length image → IsBlank image → get_or image 0 0 ≢ 0xA5
+blank_closed image large blank is_open = ⊎_elim (λ small. omega (arith, small, large)) (λ closed. closed is_open) blank
 
 -- ---- slots
 
@@ -122,7 +116,7 @@ module _ (size : ℕ) (layout : List Entry) (key : Key) (large : 49152 ≤ size)
       let whole : slice_range image 0 1204 ≡ page = page_whole image page 1204 (omega arith) (omega (arith, long, large)) n (is_open ∙ sym (opens VERSION_1 layout key)) new.bytes in
       let inside : config_page_of VERSION_1 (head_of VERSION_1 image) ≡ page = take-take 1204 49152 image (omega arith) ∙ whole in
       record {
-        config = record { whole = omega (arith, long, large, length-take 49152 image); typed = typed; page = record { allowed = allowed; sound = sound; is = inside } };
+        config = record { version = refl; whole = omega (arith, long, large); typed = typed; page = record { allowed = allowed; sound = sound; is = inside } };
         no_record = (
           λ opened. absurd (omega (arith, opened, in_head image 4096 (omega arith), beside 4096 (omega arith), ready.closed.0)),
           λ opened. absurd (omega (arith, opened, in_head image 8192 (omega arith), beside 8192 (omega arith), ready.closed.1)),
@@ -147,12 +141,12 @@ module _ (size : ℕ) (layout : List Entry) (key : Key) (large : 49152 ≤ size)
     gate_kept : K 0
     gate_kept = ((inl (omega arith), inl (omega arith)), gate_apart size layout allowed.each)
 
-    still_closed : (image : List ℕ) → ((before : List ℕ) → Now start before → IsBlank VERSION_1 (head_of VERSION_1 before)) → ImageOn K start image → get_or image 0 0 ≢ 0xA5
+    still_closed : (image : List ℕ) → ((before : List ℕ) → Now start before → IsBlank before) → ImageOn K start image → get_or image 0 0 ≢ 0xA5
     still_closed image blank on is_open = blank_closed on.from (omega (arith, law.sized start.clock on.from (omega arith) on.was, large)) (blank on.from on.was) (sym (on.same.same 0 gate_kept) ∙ is_open)
 
     -- while all but the page is written
     pub preparing : (b : Flash) → Keeps K start b → Passes start b P
-    preparing b kept = weakens start b (ImageOn K start) P (λ image on blank. inl (closed_blank image (still_closed image blank on))) kept.images
+    preparing b kept = weakens start b (ImageOn K start) P (λ image on blank. inl (inr (still_closed image blank on))) kept.images
 
     -- while the page is written
     pub opening : (b c : Flash) → IsFlash b size → Keeps K start b → IsPrepared VERSION_1 layout b.reads → Passes b c (IsOpening 0 1 (drop 1 (config_page VERSION_1 layout key)) b) → Passes start c P
@@ -160,7 +154,7 @@ module _ (size : ℕ) (layout : List Entry) (key : Key) (large : 49152 ≤ size)
         let shut : IsShut 0 b = λ before now. still_closed before blank (each_now start b size (ImageOn K start) law_b kept.images before now) in
         ⊎_elim
         (λ is_open. inr (formatted b.reads image (o.apart.same.size ∙ law_b.sized b.clock o.apart.from (omega arith) o.apart.was) ready (o.opens shut is_open) is_open))
-        (λ closed. inl (closed_blank image closed))
+        (λ closed. inl (inr closed))
         (cases_eq (get_or image 0 0) 0xA5)) run)
 
 -- the page and its gate are the bytes that are read

@@ -15,8 +15,8 @@ OneConfig =
     → AreTyped layout key → AreTyped others other → IsConfigPage frame size bytes layout key
     → IsConfigPage frame size bytes others other → (layout ≡ others) × (key ≡ other)
 
--- the head of an image says one configuration at most, on a flash of a size
+-- an image says one configuration at most, on a flash of a size
 abbrev pub OneAnswer : Type 0
 OneAnswer =
-    (frame : Frame) (size : ℕ) (head : List ℕ) (a b : Config) → ConfigOf frame size head a
-    → ConfigOf frame size head b → a ≡ b
+    (size : ℕ) (image : List ℕ) (a b : Config) → ConfigOf size image a → ConfigOf size image b
+    → a ≡ b

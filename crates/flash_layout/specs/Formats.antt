@@ -18,15 +18,15 @@ use Rattle.flash_layout.specs.Slots.{AreEmpty}
 -- the layout and the key, no record, and each slot empty
 pub record IsFormatted (frame : Frame) (size : ℕ) (layout : List Entry) (key : Key) (image : List ℕ)
     : Type 0 where
-  pub config : ConfigOf frame size (head_of frame image) (Configured layout key)
+  pub config : ConfigOf size image (Configured layout key frame)
   pub no_record : HasNoRecord frame (head_of frame image)
   pub empty : AreEmpty layout image
 
 -- Where each image that a power loss at the start may leave is blank, the image is blank or formatted.
 abbrev pub IsBlankOrFormatted : Frame → ℕ → List Entry → Key → Flash → List ℕ → Type 0
 IsBlankOrFormatted frame size layout key start image =
-    ((before : List ℕ) → Now start before → ConfigOf frame size (head_of frame before) Blank)
-    → ConfigOf frame size (head_of frame image) Blank ⊎ IsFormatted frame size layout key image
+    ((before : List ℕ) → Now start before → ConfigOf size before Blank)
+    → ConfigOf size image Blank ⊎ IsFormatted frame size layout key image
 
 -- ---- which places are written
 

@@ -7,6 +7,7 @@ pub mod PageReading
 pub mod PagePlaces
 pub mod ConfigLaws
 pub mod Configs
+pub mod ToldFrames
 pub mod LoadLaws
 pub mod Formats
 pub mod Placement

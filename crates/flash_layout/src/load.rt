@@ -3,19 +3,18 @@
 ghost use Rattle.std.specs.Prelude.{◌≡◌, IsTrue};
 ghost use Rattle.suit_edge.specs.Flash.{Grows, IsSame};
 ghost use Rattle.flash_layout.specs.Configs.{LoadCounts, LoadsAllowed, LoadsExactly};
-ghost use Rattle.flash_layout.specs.Frames.{head_of};
 
 use crate::frame::{CONFIG_GATE, PAGE_BYTES, VERSION_1};
 use crate::page_reading::decode_page;
-use crate::{Key, Layout};
+use crate::{Frame, Key, Layout};
 use std::alloc::{AllocError, Global};
 use suit_edge::{Disk, Edge, OPEN};
 
 /// The meaning of a configuration page.
 #[derive(Drop)]
 pub enum Loaded {
-    /// A layout and a key that the rules allow on this flash.
-    Config(Layout, Key),
+    /// A layout and a key that the rules allow on this flash, and the frame of its version.
+    Config(Layout, Key, Frame),
     /// The gate is not open, or the flash has fewer than 49,152 bytes.
     Blank,
     /// The gate is open, and the page is not that of a layout and a key that the rules allow.
@@ -30,10 +29,9 @@ pub enum Loaded {
 pub fn load_config<D: Disk>(alloc: Global, disk: &mut D) -> Loaded
     ensures size { D.extent disk.new ≡ D.extent disk.old }
     ensures counts { LoadCounts result (D.faults disk.old) (D.faults disk.new) }
-    ensures allowed { LoadsAllowed VERSION_1 (D.extent disk.old) result }
+    ensures allowed { LoadsAllowed (D.extent disk.old) result }
     ensures exact { IsTrue D.told
-        → LoadsExactly VERSION_1 (D.extent disk.old) (head_of VERSION_1 (D.flash disk.old).reads)
-        result }
+        → LoadsExactly (D.extent disk.old) (D.flash disk.old).reads result }
     ensures same { IsTrue D.told → IsSame (D.flash disk.old) (D.flash disk.new) }
     ensures grows { IsTrue D.told → Grows (D.flash disk.old) (D.flash disk.new) }
 {
@@ -50,7 +48,7 @@ pub fn load_config<D: Disk>(alloc: Global, disk: &mut D) -> Loaded
         return Loaded::Blank;
     }
     match decode_page(alloc, size, &page) {
-        Ok(Some((layout, key))) => Loaded::Config(layout, key),
+        Ok(Some((layout, key))) => Loaded::Config(layout, key, VERSION_1),
         Ok(None) => Loaded::BadConfig,
         Err(AllocError) => Loaded::NoMemory,
     }

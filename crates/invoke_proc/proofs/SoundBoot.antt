@@ -27,7 +27,8 @@ use Rattle.flash_layout.specs.Layouts.{IsLayout, IsTypedEntry}
 use Rattle.rollback_record.specs.Committing.{InHead}
 use Rattle.rollback_record.specs.RecordLaws.{OneAnswer}
 use Rattle.rollback_record.specs.SettledLaws.{settled_still, settles}
-use Rattle.rollback_record.specs.SoundFlash.{IsInstalled, IsSoundHead, Settled, Sound, SoundBlank, SoundEmpty, SoundInstalled, key_bytes}
+use Rattle.rollback_record.specs.SoundFlash.{IsInstalled, Settled, Sound, key_bytes}
+use Rattle.rollback_record.proofs.SoundBy.{SoundBy, BlankBy, EmptyBy, InstalledBy, sound_by_version_1}
 use Rattle.step_machine.specs.declared.plan_end.PlanEnd.{PlanEnd}
 use Rattle.step_machine.specs.declared.plan_end.PlanEnd.TheVariants as plays
 use Rattle.step_machine.specs.Devices.{contents_of}
@@ -47,10 +48,10 @@ use Rattle.invoke_proc.proofs.Places.{head_stays, identities_there}
 
 -- ---- the installed envelope
 
-the_layout : (a b : List Entry) (k l : Key) → Configured a k ≡ Configured b l → (a ≡ b) × (k ≡ l)
+the_layout : (a b : List Entry) (k l : Key) → Configured a k VERSION_1 ≡ Configured b l VERSION_1 → (a ≡ b) × (k ≡ l)
 the_layout a b k l same = grind (arith, same)
 
-not_blank : (layout : List Entry) (key : Key) → Blank ≡ Configured layout key → ⊥
+not_blank : (layout : List Entry) (key : Key) → Blank ≡ Configured layout key VERSION_1 → ⊥
 not_blank layout key same = grind (arith, same)
 
 the_record : (a b : Record) → Some a ≡ Some b → a ≡ b
@@ -60,37 +61,37 @@ not_none : (r : Record) → None ≡ Some r → ⊥
 not_none r same = grind (arith, same)
 
 module _ (configs : OneConfigAnswer) (records : OneAnswer) (laws : BootLaws) (layout : List Entry) (key : Key) (reads : List ℕ)
-    (config : ConfigOf VERSION_1 (length reads) (head_of VERSION_1 reads) (Configured layout key)) where
+    (config : ConfigOf (length reads) reads (Configured layout key VERSION_1)) where
   abbrev head : List ℕ
   head = head_of VERSION_1 reads
 
-  installed_of : (r : Record) → IsSoundHead VERSION_1 (length reads) head → record_in reads (Some r) → IsInstalled layout key (bank_in reads r) r
-  installed_of r (SoundBlank is) recorded = absurd (not_blank layout key (configs VERSION_1 (length reads) head Blank (Configured layout key) is config))
-  installed_of r (SoundEmpty other k is none) recorded = absurd (not_none r (records VERSION_1 head None (Some r) none recorded))
-  installed_of r (SoundInstalled other k s is held installed) recorded =
-      let same = the_layout other layout k key (configs VERSION_1 (length reads) head (Configured other k) (Configured layout key) is config) in
+  installed_of : (r : Record) → SoundBy VERSION_1 reads → record_in reads (Some r) → IsInstalled layout key (bank_in reads r) r
+  installed_of r (BlankBy is) recorded = absurd (not_blank layout key (configs (length reads) reads Blank (Configured layout key VERSION_1) is config))
+  installed_of r (EmptyBy other k is none) recorded = absurd (not_none r (records VERSION_1 head None (Some r) none recorded))
+  installed_of r (InstalledBy other k s is held installed) recorded =
+      let same = the_layout other layout k key (configs (length reads) reads (Configured other k VERSION_1) (Configured layout key VERSION_1) is config) in
       let one = the_record s r (records VERSION_1 head (Some s) (Some r) held recorded) in
       subst (λ (t : Record). IsInstalled layout key (bank_in reads t) t) one
       (subst (λ (l : Key). IsInstalled layout l (bank_in reads s) s) same.1
       (subst (λ (l : List Entry). IsInstalled l k (bank_in reads s) s) same.0 installed))
 
   -- so its bank is not declined
-  declined : (answer : BootEnd) (r : Record) → Sound VERSION_1 reads → record_in reads (Some r) → IsDeclined layout (key_bytes key) (bank_in reads r) answer → IsUnrefused answer
+  declined : (answer : BootEnd) (r : Record) → Sound reads → record_in reads (Some r) → IsDeclined layout (key_bytes key) (bank_in reads r) answer → IsUnrefused answer
   declined answer r sound recorded is =
-      let installed = installed_of r sound recorded in
+      let installed = installed_of r (sound_by_version_1 reads sound) recorded in
       let start = laws.installed layout key (bank_in reads r) r installed in
       absurd (laws.none layout (key_bytes key) (bank_in reads r) start.0 installed.said answer installed.are_bytes start.1 is)
 
-  pub unrefused : (answer : BootEnd) → Sound VERSION_1 reads → Answers layout key reads answer → IsUnrefused answer
+  pub unrefused : (answer : BootEnd) → Sound reads → Answers layout key reads answer → IsUnrefused answer
   unrefused (ends.BadBank refusal) sound is = declined (ends.BadBank refusal) is.0 sound is.1 is.2
   unrefused (ends.NotAuthentic lacking) sound is = declined (ends.NotAuthentic lacking) is.0 sound is.1 is.2
   unrefused (ends.UnknownComponent component) sound is = declined (ends.UnknownComponent component) is.0 sound is.1 is.2
   unrefused _ sound is = tt
 
   -- a started manifest is one judged safe
-  pub safe_start : (r : Record) (m : Manifest) → Sound VERSION_1 reads → Starts layout key reads r m → Safe (invocation_tree m)
+  pub safe_start : (r : Record) (m : Manifest) → Sound reads → Starts layout key reads r m → Safe (invocation_tree m)
   safe_start r m sound starts =
-      let installed = installed_of r sound starts.recorded in
+      let installed = installed_of r (sound_by_version_1 reads sound) starts.recorded in
       let start = laws.installed layout key (bank_in reads r) r installed in
       let same = laws.same layout (key_bytes key) (bank_in reads r) start.0 starts.said installed.said m installed.are_bytes start.1 starts.started in
       subst (λ (n : Manifest). Safe (invocation_tree n)) same.1 installed.safe
@@ -170,6 +171,6 @@ module _ (manifests : ManifestLaws) (size : ℕ) (layout : List Entry) (is : IsL
   head_kept (ends.UnknownComponent i) k = keeps_same (InHead VERSION_1) a b k
 
 -- at the end, where nothing is pending, or nothing was started
-pub settled_end : (a b : Flash) (size : ℕ) → IsFlash b size → Settled VERSION_1 a → Passes a b (Sound VERSION_1) → IsSame a b ⊎ IsSettled b → Settled VERSION_1 b
+pub settled_end : (a b : Flash) (size : ℕ) → IsFlash b size → Settled a → Passes a b Sound → IsSame a b ⊎ IsSettled b → Settled b
 settled_end a b size law settled sound end =
-    ⊎_elim (λ same. settled_still VERSION_1 a b size law same settled) (λ none. settles VERSION_1 b none (each_read a b size (Sound VERSION_1) law sound)) end
+    ⊎_elim (λ same. settled_still a b size law same settled) (λ none. settles b none (each_read a b size Sound law sound)) end

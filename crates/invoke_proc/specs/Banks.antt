@@ -17,7 +17,7 @@ use Rattle.invoke_proc.specs.declared.bank.NoBank.TheVariants as banks
 -- a flash of this size has the layout and the key
 abbrev pub config_in : ℕ → List ℕ → List Entry → Key → Type 0
 config_in size reads layout key =
-    ConfigOf VERSION_1 size (head_of VERSION_1 reads) (Configured layout key)
+    ConfigOf size reads (Configured layout key VERSION_1)
 
 abbrev pub record_in : List ℕ → Option Record → Type 0
 record_in reads held = RecordOf VERSION_1 (head_of VERSION_1 reads) held

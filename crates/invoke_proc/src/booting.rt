@@ -108,7 +108,7 @@ pub fn boot<H: Host, D: Disk, L: Launcher>(
     ensures files { IsTrue H.told → H.file host.new ≡ H.file host.old }
     ensures unasked { host.new ≡ host.old }
     ensures answers { IsTrue D.told → Answers layout.now key.now (D.flash disk.old).reads result }
-    ensures unrefused { IsTrue D.told → Sound VERSION_1 (D.flash disk.old).reads
+    ensures unrefused { IsTrue D.told → Sound (D.flash disk.old).reads
         → IsUnrefused result }
     ensures plays { IsTrue D.told → IsTrue L.told
         → PlayedSo (PlaysBoot layout.now key.now (H.file host.old) (D.flash disk.old).reads
@@ -118,18 +118,18 @@ pub fn boot<H: Host, D: Disk, L: Launcher>(
         (L.launches launcher.old) (L.launches launcher.new) result }
     ensures host { IsTrue D.told → IsTrue L.told → NeverHost result }
     ensures safe { IsTrue D.told → IsTrue L.told
-        → Sound VERSION_1 (D.flash disk.old).reads
+        → Sound (D.flash disk.old).reads
         → GainsSafe (L.launches launcher.old) (L.launches launcher.new) }
     ensures keeps { IsTrue D.told
         → KeptSo (KeepsBoot layout.now key.now (D.flash disk.old) (D.flash disk.new))
         (IsSame (D.flash disk.old) (D.flash disk.new)) result }
-    ensures sound { IsTrue D.told → Settled VERSION_1 (D.flash disk.old)
-        → Passes (D.flash disk.old) (D.flash disk.new) (Sound VERSION_1) }
-    ensures follows { IsTrue D.told → Settled VERSION_1 (D.flash disk.old)
+    ensures sound { IsTrue D.told → Settled (D.flash disk.old)
+        → Passes (D.flash disk.old) (D.flash disk.new) Sound }
+    ensures follows { IsTrue D.told → Settled (D.flash disk.old)
         → Passes (D.flash disk.old) (D.flash disk.new)
-        (Follows VERSION_1 (D.flash disk.old).reads) }
-    ensures settled { IsTrue D.told → Settled VERSION_1 (D.flash disk.old)
-        → IfUnfaulted result (Settled VERSION_1 (D.flash disk.new)) }
+        (Follows (D.flash disk.old).reads) }
+    ensures settled { IsTrue D.told → Settled (D.flash disk.old)
+        → IfUnfaulted result (Settled (D.flash disk.new)) }
     ensures grows { IsTrue D.told → Grows (D.flash disk.old) (D.flash disk.new) }
 {
     has_identifiers(layout);

@@ -8,6 +8,7 @@ pub mod Loads
 pub mod Commits
 pub mod OneAnswers
 mod SomeAnswers
+pub mod SoundBy
 mod Sounds
 mod SoundSince
 mod Installed

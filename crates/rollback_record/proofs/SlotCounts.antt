@@ -8,7 +8,7 @@ use Rattle.flash_layout.specs.declared.layout.Entry.{Entry}
 use Rattle.flash_layout.specs.declared.layout.Memory.TheVariants as memory
 use Rattle.flash_layout.specs.declared.slot.Record.{Record}
 use Rattle.flash_layout.specs.Configs.{ConfigOf, Configured}
-use Rattle.flash_layout.specs.Frames.{config_page_of}
+use Rattle.flash_layout.specs.Frames.{config_page_of, head_of}
 use Rattle.rollback_record.specs.RecordPage.{CountSlots, HasSlot, IsActiveSlot, IsPageBeside, IsRecordPage}
 use Rattle.rollback_record.proofs.ConfigSlots.{has_two, second_slot}
 
@@ -47,11 +47,11 @@ some_entry : Entry
 some_entry = record { identifier = []; memory = memory.Ram; slots = 0; starts = []; capacity = 0; vendor = None; class = None; device = None }
 
 -- the slots of a layout are those of its configuration page
-pub of_layout : (size : ℕ) (head : List ℕ) (layout : List Entry) (key : Key) (slots : List ℕ) → ConfigOf VERSION_1 size head (Configured layout key)
-    → ((i : ℕ) → i < 8 → (get_or slots i 0 ≡ 2) ↔ ((i < length layout) × ((d : Entry) → (get_or layout i d).slots ≡ 2))) → CountSlots (config_page_of VERSION_1 head) slots
-of_layout size head layout key slots is counts = λ i low. (
-  λ two. let has = (counts i low).0 two in second_slot size (config_page_of VERSION_1 head) layout key is.page is.typed.entries is.typed.room i some_entry has.0 (has.1 some_entry),
-  λ second. (counts i low).1 (has_two size (config_page_of VERSION_1 head) layout key is.page is.typed.entries is.typed.room i second),
+pub of_layout : (size : ℕ) (image : List ℕ) (layout : List Entry) (key : Key) (slots : List ℕ) → ConfigOf size image (Configured layout key VERSION_1)
+    → ((i : ℕ) → i < 8 → (get_or slots i 0 ≡ 2) ↔ ((i < length layout) × ((d : Entry) → (get_or layout i d).slots ≡ 2))) → CountSlots (config_page_of VERSION_1 (head_of VERSION_1 image)) slots
+of_layout size image layout key slots is counts = λ i low. (
+  λ two. let has = (counts i low).0 two in second_slot size (config_page_of VERSION_1 (head_of VERSION_1 image)) layout key is.page is.typed.entries is.typed.room i some_entry has.0 (has.1 some_entry),
+  λ second. (counts i low).1 (has_two size (config_page_of VERSION_1 (head_of VERSION_1 image)) layout key is.page is.typed.entries is.typed.room i second),
 )
 
 -- ---- one slot after another

@@ -34,12 +34,12 @@ module _ (a b : Flash) (size : ℕ) (held : Option Record) (new : Record) (law :
         record_is = p.0;
       }
 
-  pub sound_since : HasNewInRange a.reads new → IsInstalledFor a.reads new → Sound VERSION_1 a.reads → Passes a b (Sound VERSION_1)
+  pub sound_since : HasNewInRange a.reads new → IsInstalledFor a.reads new → Sound a.reads → Passes a b Sound
   sound_since fields installed sound =
-      weakens a b (λ image. HasHeldOrNew VERSION_1 held new image × Beside image) (Sound VERSION_1) (λ image p. committed held new a.reads image (committed_image image p) fields installed sound)
+      weakens a b (λ image. HasHeldOrNew VERSION_1 held new image × Beside image) Sound (λ image p. committed held new a.reads image (committed_image image p) fields installed sound)
       (both a b (HasHeldOrNew VERSION_1 held new) Beside run kept.keeps.images)
 
-  pub follows_since : IfSome held (λ r. IsNoEarlier r new) → Sound VERSION_1 a.reads → Passes a b (Follows VERSION_1 a.reads)
+  pub follows_since : IfSome held (λ r. IsNoEarlier r new) → Sound a.reads → Passes a b (Follows a.reads)
   follows_since sure sound =
-      weakens a b (λ image. HasHeldOrNew VERSION_1 held new image × Beside image) (Follows VERSION_1 a.reads) (λ image p. follows held new a.reads image (committed_image image p) sure sound)
+      weakens a b (λ image. HasHeldOrNew VERSION_1 held new image × Beside image) (Follows a.reads) (λ image p. follows held new a.reads image (committed_image image p) sure sound)
       (both a b (HasHeldOrNew VERSION_1 held new) Beside run kept.keeps.images)

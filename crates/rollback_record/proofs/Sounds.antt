@@ -15,10 +15,11 @@ use Rattle.flash_layout.specs.Configs.{Config, ConfigOf, Blank, Configured}
 use Rattle.flash_layout.specs.Formats.{IsFormatted}
 use Rattle.flash_layout.specs.Frames.{HasNoRecord, bank_of, config_page_of, head_of, record_from}
 use Rattle.rollback_record.specs.HeadRecord.{Counts, RecordOf}
-use Rattle.rollback_record.specs.SoundFlash.{Follows, FollowsBlank, FollowsOn, IsInstalled, IsNoEarlier, IsSoundHead, Sound, SoundBlank, SoundEmpty, SoundInstalled, recorded_bank}
+use Rattle.rollback_record.specs.SoundFlash.{Follows, FollowsBlank, FollowsOn, IsInstalled, IsNoEarlier, Sound, SoundBlank, SoundEmpty, SoundInstalled, recorded_bank}
 use Rattle.rollback_record.specs.SoundLaws.{HasNewInRange, IsCommitted, IsInstalledFor}
 use Rattle.rollback_record.proofs.OneAnswers.{one_answer}
-use Rattle.rollback_record.proofs.Pages.{config_same, head_long, inner_range}
+use Rattle.rollback_record.proofs.Pages.{config_same, inner_range}
+use Rattle.rollback_record.proofs.SoundBy.{SoundBy, BlankBy, EmptyBy, InstalledBy, sound_by_version_1}
 
 -- ---- no record
 
@@ -36,24 +37,30 @@ no_record frame head closed which r few is = ⊎_elim
     one : which ≢ 0 → which ≡ 1
     one ne = omega (arith, ne, few)
 
-pub formatted : (frame : Frame) (layout : List Entry) (key : Key) (image : List ℕ) → IsFormatted frame (length image) layout key image → Sound frame image
-formatted frame layout key image is = SoundEmpty layout key is.config (no_record frame (head_of frame image) is.no_record)
-
--- ---- the head alone
-
-pub same_sound : (frame : Frame) (image other : List ℕ) → length other ≡ length image → head_of frame other ≡ head_of frame image → Sound frame image → Sound frame other
-same_sound frame image other long head is =
-    subst (λ (n : ℕ). IsSoundHead frame n (head_of frame other)) (sym long) (subst (λ (h : List ℕ). IsSoundHead frame (length image) h) (sym head) is)
+pub formatted : (frame : Frame) (layout : List Entry) (key : Key) (image : List ℕ) → IsFormatted frame (length image) layout key image → Sound image
+formatted frame layout key image is = SoundEmpty layout key frame is.config (no_record frame (head_of frame image) is.no_record)
 
 -- ---- going on
 
-pub itself : (frame : Frame) (a : List ℕ) → Sound frame a → Follows frame a a
-itself frame a (SoundBlank blank) = FollowsBlank blank
-itself frame a (SoundEmpty layout key config none) = FollowsOn (record { layout = layout; key = key; was = config; is = config; later = λ r is. (r, is, record { number = omega arith; same = λ _. refl }) })
-itself frame a (SoundInstalled layout key r config is installed) = FollowsOn (record { layout = layout; key = key; was = config; is = config; later = λ s so. (s, so, record { number = omega arith; same = λ _. refl }) })
+-- with the same frame
+goes_same : (layout : List Entry) (key : Key) (frame : Frame) (a : List ℕ) → ConfigOf (length a) a (Configured layout key frame) → Follows a a
+goes_same layout key frame a config = FollowsOn (record {
+  layout = layout;
+  key = key;
+  before = frame;
+  now = frame;
+  was = config;
+  is = config;
+  later = λ r is. (r, is, record { number = omega arith; same = λ _. refl });
+})
 
-not_blank : (layout : List Entry) (key : Key) → ◌≡◌ {A = Config} (Configured layout key) Blank → ⊥
-not_blank layout key e = cc
+pub itself : (a : List ℕ) → Sound a → Follows a a
+itself a (SoundBlank blank) = FollowsBlank blank
+itself a (SoundEmpty layout key frame config none) = goes_same layout key frame a config
+itself a (SoundInstalled layout key frame r config is installed) = goes_same layout key frame a config
+
+not_blank : (layout : List Entry) (key : Key) (frame : Frame) → ◌≡◌ {A = Config} (Configured layout key frame) Blank → ⊥
+not_blank layout key frame e = cc
 
 later_still : (r s u : Record) → IsNoEarlier r s → IsNoEarlier s u → IsNoEarlier r u
 later_still r s u first second = record {
@@ -64,19 +71,26 @@ later_still r s u first second = record {
       first.same one ∙ second.same two;
 }
 
-pub onward : OneAnswer → (frame : Frame) (a b c : List ℕ) → Follows frame a b → Follows frame b c → Follows frame a c
-onward law frame a b c (FollowsBlank blank) second = FollowsBlank blank
-onward law frame a b c (FollowsOn first) (FollowsBlank blank) = absurd (not_blank first.layout first.key (law frame (length b) (head_of frame b) _ _ first.is blank))
-onward law frame a b c (FollowsOn first) (FollowsOn second) = FollowsOn (record {
-  layout = first.layout;
-  key = first.key;
-  was = first.was;
-  is = subst (λ (x : Config). ConfigOf frame (length c) (head_of frame c) x) {x = Configured second.layout second.key} {y = Configured first.layout first.key} (law frame (length b) (head_of frame b) _ _ second.was first.is) second.is;
-  later = λ r is.
-      let s = first.later r is in
-      let u = second.later s.0 s.1 in
-      (u.0, u.1, later_still r s.0 u.0 s.2 u.2);
-})
+pub onward : OneAnswer → (a b c : List ℕ) → Follows a b → Follows b c → Follows a c
+onward law a b c (FollowsBlank blank) second = FollowsBlank blank
+onward law a b c (FollowsOn first) (FollowsBlank blank) = absurd (not_blank first.layout first.key first.now (law (length b) b _ _ first.is blank))
+onward law a b c (FollowsOn first) (FollowsOn second) =
+    let one : ◌≡◌ {A = Config} (Configured second.layout second.key second.before) (Configured first.layout first.key first.now) = law (length b) b _ _ second.was first.is in
+    let layouts : second.layout ≡ first.layout = cc in
+    let keys : second.key ≡ first.key = cc in
+    let frames : first.now ≡ second.before = cc in
+    FollowsOn (record {
+      layout = first.layout;
+      key = first.key;
+      before = first.before;
+      now = second.now;
+      was = first.was;
+      is = subst (λ (l : List Entry). ConfigOf (length c) c (Configured l first.key second.now)) layouts (subst (λ (k : Key). ConfigOf (length c) c (Configured second.layout k second.now)) keys second.is);
+      later = λ r is.
+          let s = first.later r is in
+          let u = second.later s.0 (subst (λ (f : Frame). RecordOf f (head_of f b) (Some s.0)) frames s.1) in
+          (u.0, u.1, later_still r s.0 u.0 s.2 u.2);
+    })
 
 -- ---- heads that agree on the configuration page
 
@@ -85,21 +99,19 @@ module _ (a c : List ℕ) (large : 49152 ≤ length a) (size : length c ≡ leng
   long_c : 49152 ≤ length c
   long_c = omega (arith, size, large)
 
-  pub same_config : (layout : List Entry) (key : Key) → ConfigOf VERSION_1 (length a) (head_of VERSION_1 a) (Configured layout key) → ConfigOf VERSION_1 (length c) (head_of VERSION_1 c) (Configured layout key)
+  pub same_config : (layout : List Entry) (key : Key) → ConfigOf (length a) a (Configured layout key VERSION_1) → ConfigOf (length c) c (Configured layout key VERSION_1)
   same_config layout key is = record {
-    whole = head_long c long_c;
+    version = refl;
+    whole = omega (arith, long_c);
     typed = is.typed;
     page = subst (λ (n : ℕ). IsConfigPage VERSION_1 n (config_page_of VERSION_1 (head_of VERSION_1 c)) layout key) (sym size) (subst (λ (l : List ℕ). IsConfigPage VERSION_1 (length a) l layout key) page is.page);
   }
 
-  gate_in : (l : List ℕ) → get_or (head_of VERSION_1 l) 0 0 ≡ get_or l 0 0
-  gate_in l = get_or-between l 0 49152 0 0 (omega arith)
-
-  pub same_blank : ConfigOf VERSION_1 (length a) (head_of VERSION_1 a) Blank → ConfigOf VERSION_1 (length c) (head_of VERSION_1 c) Blank
-  same_blank is = ⊎_elim (λ short. absurd (none short)) (λ closed. inr (λ opened. closed (gate_in a ∙ sym gate ∙ sym (gate_in c) ∙ opened))) is
+  pub same_blank : ConfigOf (length a) a Blank → ConfigOf (length c) c Blank
+  same_blank is = ⊎_elim (λ short. absurd (none short)) (λ closed. inr (λ opened. closed (sym gate ∙ opened))) is
     where
-      none : length (head_of VERSION_1 a) < 49152 → ⊥
-      none short = omega (arith, short, head_long a large)
+      none : length a < 49152 → ⊥
+      none short = omega (arith, short, large)
 
   -- and on a bank
   pub same_bank : (b n : ℕ) → b < 2 → n ≤ 16384 → ((i : ℕ) → 12288 + b * 16384 ≤ i → i < 12288 + b * 16384 + n → get_or c i 0 ≡ get_or a i 0)
@@ -119,10 +131,10 @@ module _ (a c : List ℕ) (w : ℕ) (large : 49152 ≤ length a) (size : length 
   gate_same : get_or c 0 0 ≡ get_or a 0 0
   gate_same = apart 0 (omega arith) (inl (omega arith))
 
-  configured : (layout : List Entry) (key : Key) → ConfigOf VERSION_1 (length a) (head_of VERSION_1 a) (Configured layout key) → ConfigOf VERSION_1 (length c) (head_of VERSION_1 c) (Configured layout key)
+  configured : (layout : List Entry) (key : Key) → ConfigOf (length a) a (Configured layout key VERSION_1) → ConfigOf (length c) c (Configured layout key VERSION_1)
   configured = same_config a c large size page_same gate_same
 
-  blank : ConfigOf VERSION_1 (length a) (head_of VERSION_1 a) Blank → ConfigOf VERSION_1 (length c) (head_of VERSION_1 c) Blank
+  blank : ConfigOf (length a) a Blank → ConfigOf (length c) c Blank
   blank = same_blank a c large size page_same gate_same
 
   bank_same : (b n : ℕ) → b < 2 → n ≤ 16384 → bank_of VERSION_1 (head_of VERSION_1 a) b n ≡ bank_of VERSION_1 (head_of VERSION_1 c) b n
@@ -135,34 +147,34 @@ module _ (a c : List ℕ) (w : ℕ) (large : 49152 ≤ length a) (size : length 
   module _ (held : Option Record) (new : Record) (was : RecordOf VERSION_1 (head_of VERSION_1 a) held) where
     -- the new record
     new_sound : HasNewInRange a new → IsInstalledFor a new → RecordOf VERSION_1 (head_of VERSION_1 c) (Some new) → (layout : List Entry) (key : Key)
-        → ConfigOf VERSION_1 (length a) (head_of VERSION_1 a) (Configured layout key) → Sound VERSION_1 c
+        → ConfigOf (length a) a (Configured layout key VERSION_1) → Sound c
     new_sound fields installed is layout key config =
-        SoundInstalled layout key new (configured layout key config) is (installed_same layout key new fields.bank fields.size (installed layout key config))
+        SoundInstalled layout key VERSION_1 new (configured layout key config) is (installed_same layout key new fields.bank fields.size (installed layout key VERSION_1 config))
 
     -- the one that it held
-    still_sound : Sound VERSION_1 a → RecordOf VERSION_1 (head_of VERSION_1 c) held → Sound VERSION_1 c
-    still_sound (SoundBlank is) held_is = SoundBlank (blank is)
-    still_sound (SoundEmpty layout key config none) held_is =
-        SoundEmpty layout key (configured layout key config) (subst (λ (o : Option Record). RecordOf VERSION_1 (head_of VERSION_1 c) o) (one_answer VERSION_1 (head_of VERSION_1 a) held None was none) held_is)
-    still_sound (SoundInstalled layout key r config is installed) held_is =
-        SoundInstalled layout key r (configured layout key config) (subst (λ (o : Option Record). RecordOf VERSION_1 (head_of VERSION_1 c) o) (one_answer VERSION_1 (head_of VERSION_1 a) held (Some r) was is) held_is)
+    still_sound : SoundBy VERSION_1 a → RecordOf VERSION_1 (head_of VERSION_1 c) held → Sound c
+    still_sound (BlankBy is) held_is = SoundBlank (blank is)
+    still_sound (EmptyBy layout key config none) held_is =
+        SoundEmpty layout key VERSION_1 (configured layout key config) (subst (λ (o : Option Record). RecordOf VERSION_1 (head_of VERSION_1 c) o) (one_answer VERSION_1 (head_of VERSION_1 a) held None was none) held_is)
+    still_sound (InstalledBy layout key r config is installed) held_is =
+        SoundInstalled layout key VERSION_1 r (configured layout key config) (subst (λ (o : Option Record). RecordOf VERSION_1 (head_of VERSION_1 c) o) (one_answer VERSION_1 (head_of VERSION_1 a) held (Some r) was is) held_is)
         (installed_same layout key r is.counts.page.fields.bank is.counts.page.fields.size installed)
 
-    now_sound : HasNewInRange a new → IsInstalledFor a new → Sound VERSION_1 a → RecordOf VERSION_1 (head_of VERSION_1 c) (Some new) → Sound VERSION_1 c
-    now_sound fields installed (SoundBlank is) new_is = SoundBlank (blank is)
-    now_sound fields installed (SoundEmpty layout key config none) new_is = new_sound fields installed new_is layout key config
-    now_sound fields installed (SoundInstalled layout key r config is was_installed) new_is = new_sound fields installed new_is layout key config
+    now_sound : HasNewInRange a new → IsInstalledFor a new → SoundBy VERSION_1 a → RecordOf VERSION_1 (head_of VERSION_1 c) (Some new) → Sound c
+    now_sound fields installed (BlankBy is) new_is = SoundBlank (blank is)
+    now_sound fields installed (EmptyBy layout key config none) new_is = new_sound fields installed new_is layout key config
+    now_sound fields installed (InstalledBy layout key r config is was_installed) new_is = new_sound fields installed new_is layout key config
 
     -- and what goes on
     goes_on : ((r : Record) → held ≡ Some r → (s : Record) × RecordOf VERSION_1 (head_of VERSION_1 c) (Some s) × IsNoEarlier r s) → (layout : List Entry) (key : Key)
-        → ConfigOf VERSION_1 (length a) (head_of VERSION_1 a) (Configured layout key) → Follows VERSION_1 a c
+        → ConfigOf (length a) a (Configured layout key VERSION_1) → Follows a c
     goes_on later layout key config =
-        FollowsOn (record { layout = layout; key = key; was = config; is = configured layout key config; later = λ r is. later r (one_answer VERSION_1 (head_of VERSION_1 a) held (Some r) was is) })
+        FollowsOn (record { layout = layout; key = key; before = VERSION_1; now = VERSION_1; was = config; is = configured layout key config; later = λ r is. later r (one_answer VERSION_1 (head_of VERSION_1 a) held (Some r) was is) })
 
-    on_from : ((r : Record) → held ≡ Some r → (s : Record) × RecordOf VERSION_1 (head_of VERSION_1 c) (Some s) × IsNoEarlier r s) → Sound VERSION_1 a → Follows VERSION_1 a c
-    on_from later (SoundBlank is) = FollowsBlank is
-    on_from later (SoundEmpty layout key config none) = goes_on later layout key config
-    on_from later (SoundInstalled layout key r config is installed) = goes_on later layout key config
+    on_from : ((r : Record) → held ≡ Some r → (s : Record) × RecordOf VERSION_1 (head_of VERSION_1 c) (Some s) × IsNoEarlier r s) → SoundBy VERSION_1 a → Follows a c
+    on_from later (BlankBy is) = FollowsBlank is
+    on_from later (EmptyBy layout key config none) = goes_on later layout key config
+    on_from later (InstalledBy layout key r config is installed) = goes_on later layout key config
 
 later_of : (head : List ℕ) (held : Option Record) (new : Record) → IfSome held (λ r. IsNoEarlier r new) → RecordOf VERSION_1 head held ⊎ RecordOf VERSION_1 head (Some new) → (r : Record) → held ≡ Some r
     → (s : Record) × RecordOf VERSION_1 head (Some s) × IsNoEarlier r s
@@ -175,11 +187,11 @@ module _ (held : Option Record) (new : Record) (before image : List ℕ) (is : I
   beside : (i : ℕ) → i < 49152 → Outside (4096 + is.which * 4096) 99 i → get_or image i 0 ≡ get_or before i 0
   beside i few out = is.beside.same i ((omega arith, omega (arith, few)), ⊎_elim (λ h. inl (omega (arith, h))) (λ h. inr (omega (arith, h))) out)
 
-  pub committed : HasNewInRange before new → IsInstalledFor before new → Sound VERSION_1 before → Sound VERSION_1 image
+  pub committed : HasNewInRange before new → IsInstalledFor before new → Sound before → Sound image
   committed fields installed sound = ⊎_elim
-      (still_sound before image is.which is.large is.beside.size is.two beside held new is.was sound)
-      (now_sound before image is.which is.large is.beside.size is.two beside held new is.was fields installed sound)
+      (still_sound before image is.which is.large is.beside.size is.two beside held new is.was (sound_by_version_1 before sound))
+      (now_sound before image is.which is.large is.beside.size is.two beside held new is.was fields installed (sound_by_version_1 before sound))
       is.record_is
 
-  pub follows : IfSome held (λ r. IsNoEarlier r new) → Sound VERSION_1 before → Follows VERSION_1 before image
-  follows sure sound = on_from before image is.which is.large is.beside.size is.two beside held new is.was (later_of (head_of VERSION_1 image) held new sure is.record_is) sound
+  pub follows : IfSome held (λ r. IsNoEarlier r new) → Sound before → Follows before image
+  follows sure sound = on_from before image is.which is.large is.beside.size is.two beside held new is.was (later_of (head_of VERSION_1 image) held new sure is.record_is) (sound_by_version_1 before sound)

@@ -17,6 +17,7 @@ use Rattle.rollback_record.specs.SoundFlash.{Follows, FollowsBlank, FollowsOn, I
 use Rattle.rollback_record.specs.SoundLaws.{IsStillSound, SaysRecorded}
 use Rattle.rollback_record.proofs.OneAnswers.{one_answer}
 use Rattle.rollback_record.proofs.Pages.{bytes_in, config_in, counts_of}
+use Rattle.rollback_record.proofs.SoundBy.{SoundBy, BlankBy, EmptyBy, InstalledBy, sound_by_version_1}
 use Rattle.rollback_record.proofs.Sounds.{same_bank, same_blank, same_config}
 
 at_front : (held : Option Record) (before image : List ℕ) → SameOn (SaysRecorded held) before image → (i : ℕ) → i < 12288 → get_or image i 0 ≡ get_or before i 0
@@ -74,7 +75,7 @@ module _ (held : Option Record) (a c : List ℕ) (large : 49152 ≤ length a) (w
     gate = subst (λ (b : ℕ). IsGate spare.gate b) (record_gate spare.which two) has.gate;
   }
 
-  configured : (layout : List Entry) (key : Key) → ConfigOf VERSION_1 (length a) (head_of VERSION_1 a) (Configured layout key) → ConfigOf VERSION_1 (length c) (head_of VERSION_1 c) (Configured layout key)
+  configured : (layout : List Entry) (key : Key) → ConfigOf (length a) a (Configured layout key VERSION_1) → ConfigOf (length c) c (Configured layout key VERSION_1)
   configured = same_config a c large same.size page_same gate_same
 
   -- the bank of the record that is held
@@ -88,24 +89,26 @@ module _ (held : Option Record) (a c : List ℕ) (large : 49152 ≤ length a) (w
       at_held : SameOn (SaysRecorded (Some r)) a c
       at_held = subst (λ (o : Option Record). SameOn (SaysRecorded o) a c) (one_answer VERSION_1 (head_of VERSION_1 a) held (Some r) was is) same
 
-  sound_of : Sound VERSION_1 a → Sound VERSION_1 c
-  sound_of (SoundBlank is) = SoundBlank (same_blank a c large same.size page_same gate_same is)
-  sound_of (SoundEmpty layout key config none) = SoundEmpty layout key (configured layout key config) (recorded None none)
-  sound_of (SoundInstalled layout key r config is installed) = SoundInstalled layout key r (configured layout key config) (recorded (Some r) is) (banked layout key r is installed)
+  sound_of : SoundBy VERSION_1 a → Sound c
+  sound_of (BlankBy is) = SoundBlank (same_blank a c large same.size page_same gate_same is)
+  sound_of (EmptyBy layout key config none) = SoundEmpty layout key VERSION_1 (configured layout key config) (recorded None none)
+  sound_of (InstalledBy layout key r config is installed) = SoundInstalled layout key VERSION_1 r (configured layout key config) (recorded (Some r) is) (banked layout key r is installed)
 
-  goes_on : (layout : List Entry) (key : Key) → ConfigOf VERSION_1 (length a) (head_of VERSION_1 a) (Configured layout key) → Follows VERSION_1 a c
+  goes_on : (layout : List Entry) (key : Key) → ConfigOf (length a) a (Configured layout key VERSION_1) → Follows a c
   goes_on layout key config = FollowsOn (record {
     layout = layout;
     key = key;
+    before = VERSION_1;
+    now = VERSION_1;
     was = config;
     is = configured layout key config;
     later = λ r is. (r, recorded (Some r) is, record { number = omega arith; same = λ _. refl });
   })
 
-  follows_of : Sound VERSION_1 a → Follows VERSION_1 a c
-  follows_of (SoundBlank is) = FollowsBlank is
-  follows_of (SoundEmpty layout key config none) = goes_on layout key config
-  follows_of (SoundInstalled layout key r config is installed) = goes_on layout key config
+  follows_of : SoundBy VERSION_1 a → Follows a c
+  follows_of (BlankBy is) = FollowsBlank is
+  follows_of (EmptyBy layout key config none) = goes_on layout key config
+  follows_of (InstalledBy layout key r config is installed) = goes_on layout key config
 
-  pub still_sound : Sound VERSION_1 a → IsStillSound held a c
-  still_sound sound = record { sound = sound_of sound; held_is = still_held; follows = follows_of sound }
+  pub still_sound : Sound a → IsStillSound held a c
+  still_sound sound = let by = sound_by_version_1 a sound in record { sound = sound_of by; held_is = still_held; follows = follows_of by }

@@ -1,5 +1,5 @@
 -- A sound flash: whatever it would start is authentic, and was judged safe. Each word speaks of the head's bytes, and of
--- the contents of slots.
+-- the contents of slots; the image tells by which frame.
 use Rattle.std.specs.Prelude.{◌≡◌, ◌≤◌, ℕ, List, length, take, Some, None, All}
 use Rattle.std.specs.List.{AllByRecursion}
 use Rattle.det_cbor.specs.DataItem.{IsByte}
@@ -14,6 +14,7 @@ use Rattle.suit_manifest.specs.Manifests.{IsManifest}
 use Rattle.suit_manifest.specs.Procedures.{invocation_tree}
 use Rattle.path_model.specs.Safe.{Safe}
 use Rattle.flash_layout.specs.declared.frame.Frame.{Frame}
+use Rattle.flash_layout.specs.declared.frame.TheConstants.{VERSION_1}
 use Rattle.flash_layout.specs.declared.key.Key.{Key}
 use Rattle.flash_layout.specs.declared.layout.Entry.{Entry}
 use Rattle.flash_layout.specs.declared.slot.Record.{Record}
@@ -60,33 +61,31 @@ pub record IsInstalled (layout : List Entry) (key : Key) (bytes : List ℕ) (r :
 abbrev pub recorded_bank : Frame → List ℕ → Record → List ℕ
 recorded_bank frame head r = bank_of frame head r.bank r.length
 
--- by the head of a flash of that size: it is blank; or it has a layout and a key, and no record, or that of what its bank
--- holds
-pub data IsSoundHead (frame : Frame) (size : ℕ) (head : List ℕ) : Type 0 where
-  SoundBlank : ConfigOf frame size head Blank → IsSoundHead frame size head
-  SoundEmpty : (layout : List Entry) (key : Key) → ConfigOf frame size head (Configured layout key)
-      → RecordOf frame head None → IsSoundHead frame size head
-  SoundInstalled : (layout : List Entry) (key : Key) (r : Record)
-      → ConfigOf frame size head (Configured layout key) → RecordOf frame head (Some r)
-      → IsInstalled layout key (recorded_bank frame head r) r → IsSoundHead frame size head
-
-abbrev pub Sound : Frame → List ℕ → Type 0
-Sound frame image = IsSoundHead frame (length image) (head_of frame image)
+-- it is blank; or it has a layout and a key, and by their frame no record, or that of what its bank holds
+pub data Sound (image : List ℕ) : Type 0 where
+  SoundBlank : ConfigOf (length image) image Blank → Sound image
+  SoundEmpty : (layout : List Entry) (key : Key) (frame : Frame)
+      → ConfigOf (length image) image (Configured layout key frame)
+      → RecordOf frame (head_of frame image) None → Sound image
+  SoundInstalled : (layout : List Entry) (key : Key) (frame : Frame) (r : Record)
+      → ConfigOf (length image) image (Configured layout key frame)
+      → RecordOf frame (head_of frame image) (Some r)
+      → IsInstalled layout key (recorded_bank frame (head_of frame image) r) r → Sound image
 
 -- ---- a settled flash
 
 -- the same head, and the same content in each slot of the layout that it says
-pub record HoldsSame (frame : Frame) (image other : List ℕ) : Type 0 where
+pub record HoldsSame (image other : List ℕ) : Type 0 where
   pub size : length other ≡ length image
-  pub head : head_of frame other ≡ head_of frame image
-  pub slots : (layout : List Entry) (key : Key)
-      → ConfigOf frame (length image) (head_of frame image) (Configured layout key)
+  pub head : head_of VERSION_1 other ≡ head_of VERSION_1 image
+  pub slots : (layout : List Entry) (key : Key) (frame : Frame)
+      → ConfigOf (length image) image (Configured layout key frame)
       → All (λ slot. slot_content slot other ≡ slot_content slot image) (layout_slots layout)
 
 -- reads give a sound image, and a power loss now leaves the head and each content as they read
-pub record Settled (frame : Frame) (f : Flash) : Type 0 where
-  pub sound : Sound frame f.reads
-  pub sure : (image : List ℕ) → Now f image → HoldsSame frame f.reads image
+pub record Settled (f : Flash) : Type 0 where
+  pub sound : Sound f.reads
+  pub sure : (image : List ℕ) → Now f image → HoldsSame f.reads image
 
 -- ---- from one image to a later one
 
@@ -95,15 +94,17 @@ pub record IsNoEarlier (r later : Record) : Type 0 where
   pub number : r.sequence ≤ later.sequence
   pub same : r.sequence ≡ later.sequence → r.digest ≡ later.digest
 
--- with the same layout and key, and where one was recorded, a record that is no earlier
-pub record GoesOn (frame : Frame) (a b : List ℕ) : Type 0 where
+-- with the same layout and key, and where one was recorded, a record that is no earlier. Each image has its own frame.
+pub record GoesOn (a b : List ℕ) : Type 0 where
   pub layout : List Entry
   pub key : Key
-  pub was : ConfigOf frame (length a) (head_of frame a) (Configured layout key)
-  pub is : ConfigOf frame (length b) (head_of frame b) (Configured layout key)
-  pub later : (r : Record) → RecordOf frame (head_of frame a) (Some r)
-      → (s : Record) × RecordOf frame (head_of frame b) (Some s) × IsNoEarlier r s
+  pub before : Frame
+  pub now : Frame
+  pub was : ConfigOf (length a) a (Configured layout key before)
+  pub is : ConfigOf (length b) b (Configured layout key now)
+  pub later : (r : Record) → RecordOf before (head_of before a) (Some r)
+      → (s : Record) × RecordOf now (head_of now b) (Some s) × IsNoEarlier r s
 
-pub data Follows (frame : Frame) (a b : List ℕ) : Type 0 where
-  FollowsBlank : ConfigOf frame (length a) (head_of frame a) Blank → Follows frame a b
-  FollowsOn : GoesOn frame a b → Follows frame a b
+pub data Follows (a b : List ℕ) : Type 0 where
+  FollowsBlank : ConfigOf (length a) a Blank → Follows a b
+  FollowsOn : GoesOn a b → Follows a b

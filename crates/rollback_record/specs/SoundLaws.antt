@@ -21,8 +21,8 @@ HasNewInRange image new = IsInRange VERSION_1 (config_page_of VERSION_1 (head_of
 
 -- the new record is that of what its bank holds, on the flash as it was before it was committed
 abbrev pub IsInstalledFor : List ℕ → Record → Type 0
-IsInstalledFor image new = (layout : List Entry) (key : Key) → ConfigOf VERSION_1 (length image) (head_of VERSION_1 image) (Configured layout key)
-    → IsInstalled layout key (recorded_bank VERSION_1 (head_of VERSION_1 image) new) new
+IsInstalledFor image new = (layout : List Entry) (key : Key) (frame : Frame) → ConfigOf (length image) image (Configured layout key frame)
+    → IsInstalled layout key (recorded_bank frame (head_of frame image) new) new
 
 -- Of a flash before a commit, and an image since: in the head all but one record page is the same, and it holds the record
 -- that it held, or the new one.
@@ -43,9 +43,9 @@ SaysRecorded (Some r) i = (i < bank_place VERSION_1 0) ⊎ Within (bank_place VE
 
 -- Of a sound image, and one with the same bytes at these places.
 pub record IsStillSound (held : Option Record) (before image : List ℕ) : Type 0 where
-  pub sound : Sound VERSION_1 image
+  pub sound : Sound image
   pub held_is : RecordOf VERSION_1 (head_of VERSION_1 image) held
-  pub follows : Follows VERSION_1 before image
+  pub follows : Follows before image
 
 pub record SoundLaws : Type 0 where
   -- where both gates are closed, no record stands
@@ -53,22 +53,21 @@ pub record SoundLaws : Type 0 where
       → RecordOf frame head None
   -- formatting leaves a sound image
   pub formatted : (frame : Frame) (layout : List Entry) (key : Key) (image : List ℕ)
-      → IsFormatted frame (length image) layout key image → Sound frame image
+      → IsFormatted frame (length image) layout key image → Sound image
   -- a commit leaves a sound image, which goes on from the one before
   pub committed : (held : Option Record) (new : Record) (before image : List ℕ)
       → IsCommitted held new before image → HasNewInRange before new
-      → IsInstalledFor before new → Sound VERSION_1 before → Sound VERSION_1 image
+      → IsInstalledFor before new → Sound before → Sound image
   pub follows : (held : Option Record) (new : Record) (before image : List ℕ)
       → IsCommitted held new before image → IfSome held (λ r. IsNoEarlier r new)
-      → Sound VERSION_1 before → Follows VERSION_1 before image
+      → Sound before → Follows before image
   -- while nothing changes that says what is recorded, so does what is written in the other bank and in slots
   pub kept : (held : Option Record) (before image : List ℕ) → VERSION_1.size ≤ length before
       → RecordOf VERSION_1 (head_of VERSION_1 before) held
-      → SameOn (SaysRecorded held) before image → Sound VERSION_1 before → IsStillSound held before image
+      → SameOn (SaysRecorded held) before image → Sound before → IsStillSound held before image
   -- nothing but the head decides
-  pub same : (frame : Frame) (image other : List ℕ) → length other ≡ length image
-      → head_of frame other ≡ head_of frame image → Sound frame image → Sound frame other
+  pub same : (image other : List ℕ) → length other ≡ length image
+      → head_of VERSION_1 other ≡ head_of VERSION_1 image → Sound image → Sound other
   -- a sound image goes on from itself, and going on is transitive
-  pub itself : (frame : Frame) (a : List ℕ) → Sound frame a → Follows frame a a
-  pub onward : (frame : Frame) (a b c : List ℕ) → Follows frame a b → Follows frame b c
-      → Follows frame a c
+  pub itself : (a : List ℕ) → Sound a → Follows a a
+  pub onward : (a b c : List ℕ) → Follows a b → Follows b c → Follows a c

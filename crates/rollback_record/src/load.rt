@@ -155,8 +155,8 @@ pub fn load_record<D: Disk>(disk: &mut D) -> Result<Option<Record>, FlashFault>
 pub fn load_pages_by<D: Disk>(disk: &mut D, layout: &Layout) -> Result<RecordPages, FlashFault>
     requires size { VERSION_1.size ≤ D.extent disk.old }
     requires config { IsTrue D.told → (key : Key)
-        × ConfigOf VERSION_1 (D.extent disk.old) (head_of VERSION_1 (D.flash disk.old).reads)
-        (Configured layout.now key) }
+        × ConfigOf (D.extent disk.old) (D.flash disk.old).reads
+        (Configured layout.now key VERSION_1) }
     ensures size { D.extent disk.new ≡ D.extent disk.old }
     ensures counts { ResultCounts result (D.faults disk.old) (D.faults disk.new) }
     ensures loadable { IfOk result (λ pages. IfSome pages.held (IsLoadable VERSION_1)) }
@@ -175,8 +175,8 @@ pub fn load_pages_by<D: Disk>(disk: &mut D, layout: &Layout) -> Result<RecordPag
 pub fn load_record_by<D: Disk>(disk: &mut D, layout: &Layout) -> Result<Option<Record>, FlashFault>
     requires size { VERSION_1.size ≤ D.extent disk.old }
     requires config { IsTrue D.told → (key : Key)
-        × ConfigOf VERSION_1 (D.extent disk.old) (head_of VERSION_1 (D.flash disk.old).reads)
-        (Configured layout.now key) }
+        × ConfigOf (D.extent disk.old) (D.flash disk.old).reads
+        (Configured layout.now key VERSION_1) }
     ensures size { D.extent disk.new ≡ D.extent disk.old }
     ensures counts { ResultCounts result (D.faults disk.old) (D.faults disk.new) }
     ensures loadable { IfOk result (λ o. IfSome o (IsLoadable VERSION_1)) }

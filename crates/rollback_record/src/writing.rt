@@ -61,13 +61,13 @@ pub fn commit<D: Disk>(
     ensures any_moment { IsTrue D.told → Passes (D.flash disk.old) (D.flash disk.new)
         (HasHeldOrNew VERSION_1 (option_map (λ r. r.now) held.entry) new.now) }
     ensures sound { IsTrue D.told → IsInstalledFor (D.flash disk.old).reads new.now
-        → Sound VERSION_1 (D.flash disk.old).reads
-        → Passes (D.flash disk.old) (D.flash disk.new) (Sound VERSION_1) }
+        → Sound (D.flash disk.old).reads
+        → Passes (D.flash disk.old) (D.flash disk.new) Sound }
     ensures follows { IsTrue D.told
         → IfSome (option_map (λ r. r.now) held.entry) (λ r. IsNoEarlier r new.now)
-        → Sound VERSION_1 (D.flash disk.old).reads
+        → Sound (D.flash disk.old).reads
         → Passes (D.flash disk.old) (D.flash disk.new)
-        (Follows VERSION_1 (D.flash disk.old).reads) }
+        (Follows (D.flash disk.old).reads) }
     ensures keeps { IsTrue D.told
         → KeepsBesideSpare VERSION_1 (option_map (λ r. r.now) held.entry) (D.flash disk.old)
         (D.flash disk.new) }

@@ -6,7 +6,6 @@ use Rattle.flash_layout.specs.declared.frame.TheConstants.{VERSION_1}
 use Rattle.flash_layout.specs.declared.key.Key.{Key}
 use Rattle.flash_layout.specs.declared.layout.Entry.{Entry}
 use Rattle.flash_layout.specs.Configs.{ConfigOf, Configured}
-use Rattle.flash_layout.specs.Frames.{head_of}
 use Rattle.invoke_proc.specs.declared.boot_end.BootEnd.{BootEnd}
 use Rattle.invoke_proc.specs.declared.boot_end.BootEnd.TheVariants as ends
 use Rattle.invoke_proc.specs.Booting.{KeepsBoot, KeptSo, Starts}
@@ -29,7 +28,7 @@ reads_left Kept a b end kept = kept_map Kept (IsSame a b) (Unit {0}) (b.reads �
 
 -- behind a look at the configuration
 module _ (before : Outside) (a b c : Flash) (size : ℕ) (law : IsFlash b size) (same : IsSame a b) (layout : List Entry) (key : Key)
-    (config : ConfigOf VERSION_1 before.flash.size (head_of VERSION_1 a.reads) (Configured layout key)) where
+    (config : ConfigOf before.flash.size a.reads (Configured layout key VERSION_1)) where
   boot_since : KeepsBoot layout key b c → KeepsBoot layout key a c
   boot_since kept = record {
     installed = kept.installed;

@@ -2,7 +2,6 @@
 use Rattle.std.proofs.Common.{◌≡◌, ◌⊎◌, inl, inr, ℕ, List, Bool, Option, arith}
 use Rattle.suit_edge.specs.Flash.{Flash, IsFlash, IsSame, Now, Passes}
 use Rattle.suit_edge.specs.FlashLaws.{each_now}
-use Rattle.flash_layout.specs.declared.frame.TheConstants.{VERSION_1}
 use Rattle.rollback_record.specs.SoundFlash.{HoldsSame, Settled}
 use Rattle.update_proc.specs.declared.update_end.UpdateEnd.{UpdateEnd}
 use Rattle.update_proc.specs.declared.update_end.UpdateEnd.TheVariants as ends
@@ -18,12 +17,12 @@ use Rattle.suit_cli.specs.Updating.{IsDone, KeepsFlash, Offer, new_of, offer, tr
 use Rattle.suit_cli.proofs.Chains.{flash_at, outside_at}
 
 module _ (told flash_told : Bool) (files : Files) (pulled : ℕ) (asked : List (List ℕ)) (faults size flash_faults : ℕ) (uris : List (List ℕ × List ℕ)) (launched later : Launching)
-    (old new : Flash) (extent : ℕ) (law : IsFlash new extent) (settled : Settled VERSION_1 old) (image : List ℕ) (now : Now new image) where
+    (old new : Flash) (extent : ℕ) (law : IsFlash new extent) (settled : Settled old) (image : List ℕ) (now : Now new image) where
   abbrev before : Outside
   before = outside_at told files pulled asked faults (flash_at flash_told size old.reads flash_faults)
 
   abbrev Stands : Type 0
-  Stands = HoldsSame VERSION_1 old.reads image ⊎ IsCutOff uris launched later before image
+  Stands = HoldsSame old.reads image ⊎ IsCutOff uris launched later before image
 
   -- nothing was begun
   of_same : IsSame old new → Stands

@@ -80,6 +80,6 @@ is_first size layout key image same layout_is key_is formatted =
 pub is_ready : SoundLaws → (disk : DiskState) → length disk.first ≡ flash_size → IsFirst (memory_flash disk).reads → IsSettled (memory_flash disk) → IsReady disk
 is_ready laws disk size first none = record {
   size = size;
-  settled = settles VERSION_1 (memory_flash disk) none (laws.formatted VERSION_1 device_layout device_key (memory_flash disk).reads
+  settled = settles (memory_flash disk) none (laws.formatted VERSION_1 device_layout device_key (memory_flash disk).reads
       (subst (λ (n : ℕ). IsFormatted VERSION_1 n device_layout device_key (memory_flash disk).reads) (sym ((memory_obeys disk).fits ∙ size)) first));
 }

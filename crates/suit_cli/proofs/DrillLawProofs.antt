@@ -11,7 +11,6 @@ use Rattle.suit_params.specs.Hashes.{hash_like}
 use Rattle.suit_edge.specs.declared.launch.Launch.{Launch}
 use Rattle.suit_params.specs.declared.digest.Digest.{Digest}
 use Rattle.path_model.specs.PlayLaws.{HasItsDigest}
-use Rattle.flash_layout.specs.declared.frame.TheConstants.{VERSION_1}
 use Rattle.rollback_record.specs.SoundFlash.{Sound}
 use Rattle.step_machine.specs.Invoking.{launched_as}
 use Rattle.suit_cli.specs.declared.drill.tally.RoundEnd.{RoundEnd}
@@ -67,14 +66,14 @@ none_wrong (l ∷ ls) all =
     sum_by-cons wrongs l ls ∙ omega (arith, first, rest)
 
 -- the launches of a round's boot
-boot_right : (files : Files) (image left : List ℕ) (launches : List Launch) → BootComes files image left launches → Sound VERSION_1 image → wrong_in launches ≡ 0
+boot_right : (files : Files) (image left : List ℕ) (launches : List Launch) → BootComes files image left launches → Sound image → wrong_in launches ≡ 0
 boot_right files image left launches b sound = of_comes b.ended b.comes where
   of_comes : (ended : Ended) → Comes begins_boot (λ task. RunBoot ≡ task) b.launched b.now b.before b.after ended → wrong_in launches ≡ 0
   of_comes _ (ByStages e answer same) =
       let none : launches ≡ [] = append_cancel_left b.launched.launches launches [] (sym b.gained ∙ ap (λ (x : Launching). x.launches) same ∙ sym (append-nil b.launched.launches)) in
       ap wrong_in none
   of_comes _ (ByBoot end lines is boots) =
-      let safe = boot_safe b.launched b.now b.before b.after end lines boots b.holds.flash_told b.holds.launcher_told (subst (Sound VERSION_1) (sym b.holds.reads) sound) in
+      let safe = boot_safe b.launched b.now b.before b.after end lines boots b.holds.flash_told b.holds.launcher_told (subst Sound (sym b.holds.reads) sound) in
       let same : launches ≡ safe.gained = append_cancel_left b.launched.launches launches safe.gained (sym b.gained ∙ safe.added) in
       ap wrong_in same ∙ none_wrong safe.gained safe.safe
   of_comes _ (ByUpdate n us end lines is updates) = let never : RunBoot ≡ RunUpdate n us = is in absurd cc

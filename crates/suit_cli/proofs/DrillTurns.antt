@@ -10,7 +10,6 @@ use Rattle.suit_edge.specs.MemoryHost.{HostState, file_in}
 use Rattle.suit_edge.specs.MemoryLauncher.{LauncherState}
 use Rattle.suit_edge.specs.Moment.{after_steps, moment_of}
 use Rattle.conformance.specs.Rounds.{RoundSaid}
-use Rattle.flash_layout.specs.declared.frame.TheConstants.{VERSION_1}
 use Rattle.rollback_record.specs.SoundFlash.{Settled}
 use Rattle.suit_cli.specs.declared.drill.tally.RoundEnd.{RoundEnd}
 use Rattle.suit_cli.specs.declared.drill.tally.RoundEnd.TheVariants.{Cut}
@@ -32,8 +31,8 @@ pub is_so : (b : Bool) (P : Type 0) → OnTrue b P → b ≡ true → P
 is_so b P holds is = subst (λ (x : Bool). OnTrue x P) is holds
 
 -- nothing is pending where the fuse was put
-pub begins_settled : (flash : DiskState) (passes : ℕ) (f : FuseState) → f ≡ record { disk = flash; passes = passes; faults = 0 } → IsReady flash → Settled VERSION_1 (memory_flash f.disk)
-begins_settled flash passes f begun ready = subst (λ (d : DiskState). Settled VERSION_1 (memory_flash d)) (sym (ap (λ (x : FuseState). x.disk) begun)) ready.settled
+pub begins_settled : (flash : DiskState) (passes : ℕ) (f : FuseState) → f ≡ record { disk = flash; passes = passes; faults = 0 } → IsReady flash → Settled (memory_flash f.disk)
+begins_settled flash passes f begun ready = subst (λ (d : DiskState). Settled (memory_flash d)) (sym (ap (λ (x : FuseState). x.disk) begun)) ready.settled
 
 -- ---- the flash, round which a fuse was put
 

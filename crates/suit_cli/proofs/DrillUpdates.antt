@@ -11,7 +11,6 @@ use Rattle.suit_edge.specs.MemoryHost.{HostState, file_in}
 use Rattle.suit_edge.specs.MemoryLauncher.{LauncherState}
 use Rattle.suit_edge.specs.MemoryLaws.{memory_obeys}
 use Rattle.conformance.specs.Rounds.{RoundSaid}
-use Rattle.flash_layout.specs.declared.frame.TheConstants.{VERSION_1}
 use Rattle.rollback_record.specs.SettledLaws.{settles}
 use Rattle.rollback_record.specs.SoundFlash.{Settled, Sound}
 use Rattle.suit_cli.specs.declared.drill.tally.RoundEnd.TheVariants.{Cut}
@@ -46,7 +45,7 @@ never_faulted before now none same faulted = let rose = faulted.rose (omega (ari
 
 -- ---- the flash behind a command
 
-module _ (old new : FuseState) (size : length old.disk.first ≡ flash_size) (same_size : length new.disk.first ≡ length old.disk.first) (settled : Settled VERSION_1 (memory_flash old.disk))
+module _ (old new : FuseState) (size : length old.disk.first ≡ flash_size) (same_size : length new.disk.first ≡ length old.disk.first) (settled : Settled (memory_flash old.disk))
     (order : StaysInOrder (memory_flash old.disk) (memory_flash new.disk) old.faults new.faults) where
   law : IsFlash (memory_flash new.disk) (length new.disk.first)
   law = memory_obeys new.disk
@@ -60,7 +59,7 @@ module _ (old new : FuseState) (size : length old.disk.first ≡ flash_size) (sa
   -- each image that is left
   lives : (image : List ℕ) → Now last image → LivesOn first.reads image
   lives image now = record {
-    sound = each_now first last (length new.disk.first) (Sound VERSION_1) law (order.sound settled).0 image now;
+    sound = each_now first last (length new.disk.first) Sound law (order.sound settled).0 image now;
     follows = each_now first last (length new.disk.first) _ law (order.sound settled).1 image now;
   }
 
@@ -76,7 +75,7 @@ module _ (old new : FuseState) (size : length old.disk.first ≡ flash_size) (sa
     lives_cut = subst (λ (l : List ℕ). LivesOn first.reads l) (sym reads) (lives left.first may)
 
     pub ready_cut : IsReady left
-    ready_cut = record { size = kept ∙ same_size ∙ size; settled = settles VERSION_1 (memory_flash left) none lives_cut.sound }
+    ready_cut = record { size = kept ∙ same_size ∙ size; settled = settles (memory_flash left) none lives_cut.sound }
 
 -- ---- the update
 
@@ -104,7 +103,7 @@ module _ (said : RoundSaid) (uris : List (List ℕ × List ℕ)) (words : task_o
   unfolding update
   updates_whole w = record { update = update; ends = inl (record { whole = whole w; reads = refl; end_is = refl }) }
 
-  pub updates_cut : IsSome said.cut → ended_status ended ≡ 8 → Settled VERSION_1 (memory_flash f.disk)
+  pub updates_cut : IsSome said.cut → ended_status ended ≡ 8 → Settled (memory_flash f.disk)
       → StaysOrKeeps envelope_name uris (launching l) (launching l') (seen h f) ended (memory_flash f.disk) (memory_flash f'.disk)
       → (image : List ℕ) → Now (memory_flash f'.disk) image
       → UpdatesRound said (file_in h.files) (memory_flash f.disk).reads image Cut
@@ -124,7 +123,7 @@ module _ (said : RoundSaid) (uris : List (List ℕ × List ℕ)) (words : task_o
 -- ---- the boot
 
 module _ (h h' : HostState) (f f' : FuseState) (l l' : LauncherState) (ended : Ended) (comes : Comes begins_boot (λ task. RunBoot ≡ task) (launching l) (launching l') (seen h f) (seen h' f') ended)
-    (size : length f.disk.first ≡ flash_size) (sound : Sound VERSION_1 (memory_flash f.disk).reads) where
+    (size : length f.disk.first ≡ flash_size) (sound : Sound (memory_flash f.disk).reads) where
   gained : (launches : List Launch) × (l'.launches ≡ l.launches ++ launches)
   gained = of_comes ended comes where
     of_comes : (e : Ended) → Comes begins_boot (λ task. RunBoot ≡ task) (launching l) (launching l') (seen h f) (seen h' f') e → (launches : List Launch) × (l'.launches ≡ l.launches ++ launches)

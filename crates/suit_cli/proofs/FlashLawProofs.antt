@@ -162,11 +162,11 @@ init_laws = record {
 -- ---- `run status`
 
 -- reads give at the start as they gave then
-config_here : (f g : Flashed) → IsStill f g → (config : Config) → (IsTrue g.told → ConfigOf VERSION_1 g.size (head_of VERSION_1 g.reads) config)
-    → IsTrue f.told → ConfigOf VERSION_1 f.size (head_of VERSION_1 f.reads) config
+config_here : (f g : Flashed) → IsStill f g → (config : Config) → (IsTrue g.told → ConfigOf g.size g.reads config)
+    → IsTrue f.told → ConfigOf f.size f.reads config
 config_here f g still config holds t =
-    subst (λ (n : ℕ). ConfigOf VERSION_1 n (head_of VERSION_1 f.reads) config) still.size
-    (subst (λ (l : List ℕ). ConfigOf VERSION_1 g.size (head_of VERSION_1 l) config) (still.reads t) (holds (subst IsTrue (sym still.told) t)))
+    subst (λ (n : ℕ). ConfigOf n f.reads config) still.size
+    (subst (λ (l : List ℕ). ConfigOf g.size l config) (still.reads t) (holds (subst IsTrue (sym still.told) t)))
 
 record_here : (f g : Flashed) → IsStill f g → (o : Option Record) → (IsTrue g.told → RecordOf VERSION_1 (head_of VERSION_1 g.reads) o)
     → IsTrue f.told → RecordOf VERSION_1 (head_of VERSION_1 f.reads) o

@@ -8,7 +8,6 @@ use Rattle.flash_layout.specs.declared.key.Key.{Key}
 use Rattle.flash_layout.specs.declared.layout.Entry.{Entry}
 use Rattle.flash_layout.specs.ConfigLaws.{OneAnswer as OneConfigAnswer}
 use Rattle.flash_layout.specs.Configs.{ConfigOf, Configured}
-use Rattle.flash_layout.specs.Frames.{head_of}
 use Rattle.rollback_record.specs.RecordLaws.{OneAnswer}
 use Rattle.rollback_record.specs.SoundFlash.{Sound, key_bytes}
 use Rattle.step_machine.specs.declared.plan_end.PlanEnd.{PlanEnd}
@@ -26,8 +25,8 @@ use Rattle.suit_cli.proofs.LifeLawProofs.{installed_in}
 module _ (configs : OneConfigAnswer) (records : OneAnswer) (laws : BootLaws) where
   -- ---- one play
 
-  module _ (layout : List Entry) (key : Key) (files : List ℕ → Option (List ℕ)) (image after : List ℕ) (launched now : List Launch) (sound : Sound VERSION_1 image)
-      (config : ConfigOf VERSION_1 (length image) (head_of VERSION_1 image) (Configured layout key)) (gains : GainsSafe launched now) where
+  module _ (layout : List Entry) (key : Key) (files : List ℕ → Option (List ℕ)) (image after : List ℕ) (launched now : List Launch) (sound : Sound image)
+      (config : ConfigOf (length image) image (Configured layout key VERSION_1)) (gains : GainsSafe launched now) where
     abbrev Plays : PlanEnd → Type 0
     Plays end = PlaysBoot layout key files image after launched now end
 
@@ -61,16 +60,16 @@ module _ (configs : OneConfigAnswer) (records : OneAnswer) (laws : BootLaws) whe
 
   -- ---- a boot
 
-  boots_recorded : (image : List ℕ) → Sound VERSION_1 image → BootsRecorded image
+  boots_recorded : (image : List ℕ) → Sound image → BootsRecorded image
   boots_recorded image sound launched now before after end lines holds boots =
       let looks = boots.held.0 in
       let flash_told : IsTrue boots.middle.flash.told = subst IsTrue (sym looks.still.told) holds.flash in
       let files : boots.middle.files ≡ before.files = ap (λ (o : Outside). o.files) looks.beside in
       let reads : boots.middle.flash.reads ≡ image = looks.still.reads holds.flash ∙ holds.reads in
-      let config : ConfigOf VERSION_1 (length image) (head_of VERSION_1 image) (Configured boots.layout boots.key) =
-      subst (λ (n : ℕ). ConfigOf VERSION_1 n (head_of VERSION_1 image) (Configured boots.layout boots.key)) holds.size
-      (subst (λ (l : List ℕ). ConfigOf VERSION_1 before.flash.size (head_of VERSION_1 l) (Configured boots.layout boots.key)) holds.reads (boots.held.1 holds.flash)) in
-      let gains = boots.boot.safe flash_told holds.launcher (subst (Sound VERSION_1) (sym reads) sound) in
+      let config : ConfigOf (length image) image (Configured boots.layout boots.key VERSION_1) =
+      subst (λ (n : ℕ). ConfigOf n image (Configured boots.layout boots.key VERSION_1)) holds.size
+      (subst (λ (l : List ℕ). ConfigOf before.flash.size l (Configured boots.layout boots.key VERSION_1)) holds.reads (boots.held.1 holds.flash)) in
+      let gains = boots.boot.safe flash_told holds.launcher (subst Sound (sym reads) sound) in
       let played = subst (λ (f : List ℕ → Option (List ℕ)). PlayedSo (λ e. PlaysBoot boots.layout boots.key f image after.flash.reads launched.launches now.launches e) (after.flash.reads ≡ image) launched.launches now.launches end) files
       (subst (λ (l : List ℕ). PlayedSo (λ e. PlaysBoot boots.layout boots.key boots.middle.files l after.flash.reads launched.launches now.launches e) (after.flash.reads ≡ l) launched.launches now.launches end) reads
       (boots.boot.plays flash_told holds.launcher)) in
@@ -80,5 +79,5 @@ module _ (configs : OneConfigAnswer) (records : OneAnswer) (laws : BootLaws) whe
   pub launched_laws : LifeLaws → LaunchedLaws
   launched_laws lives = record {
     sound = boots_recorded;
-    life = λ images life k d lt. boots_recorded _ (lives.sound VERSION_1 images life k d lt);
+    life = λ images life k d lt. boots_recorded _ (lives.sound images life k d lt);
   }

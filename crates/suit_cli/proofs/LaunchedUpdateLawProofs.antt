@@ -30,10 +30,10 @@ module _ (records : SomeAnswer) where
     reads : u.middle.flash.reads ≡ image
     reads = ap (λ (f : Flashed). f.reads) u.read.0.flash ∙ u.held.0.still.reads holds.flash ∙ holds.reads
 
-    config : ConfigOf VERSION_1 (length image) (head_of VERSION_1 image) (Configured u.layout u.key)
+    config : ConfigOf (length image) image (Configured u.layout u.key VERSION_1)
     config =
-        subst (λ (n : ℕ). ConfigOf VERSION_1 n (head_of VERSION_1 image) (Configured u.layout u.key)) holds.size
-        (subst (λ (l : List ℕ). ConfigOf VERSION_1 before.flash.size (head_of VERSION_1 l) (Configured u.layout u.key)) holds.reads (u.held.1 holds.flash))
+        subst (λ (n : ℕ). ConfigOf n image (Configured u.layout u.key VERSION_1)) holds.size
+        (subst (λ (l : List ℕ). ConfigOf before.flash.size l (Configured u.layout u.key VERSION_1)) holds.reads (u.held.1 holds.flash))
 
     there : IsRead longest_file name (with_flash before u.configured.flash) u.bytes
     there = subst (λ (x : Outside). IsRead longest_file name x u.bytes) u.held.0.beside u.read.1

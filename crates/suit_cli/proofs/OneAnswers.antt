@@ -53,17 +53,17 @@ one_init device key_name b told t r q first second =
 
 -- ---- the configuration
 
-same_config : (l m : List Entry) (k n : Key) → Configured l k ≡ Configured m n → (l ≡ m) × (k ≡ n)
+same_config : (l m : List Entry) (k n : Key) → Configured l k VERSION_1 ≡ Configured m n VERSION_1 → (l ≡ m) × (k ≡ n)
 same_config l m k n same = grind (arith, same)
 
 module _ (configs : Rattle.flash_layout.specs.ConfigLaws.OneAnswer) (flash : Flashed) (t : IsTrue flash.told) where
-  once : (x y : Config) → (IsTrue flash.told → ConfigOf VERSION_1 flash.size (head_of VERSION_1 flash.reads) x) → (IsTrue flash.told → ConfigOf VERSION_1 flash.size (head_of VERSION_1 flash.reads) y)
+  once : (x y : Config) → (IsTrue flash.told → ConfigOf flash.size flash.reads x) → (IsTrue flash.told → ConfigOf flash.size flash.reads y)
       → y ≡ x
-  once x y first second = configs VERSION_1 flash.size (head_of VERSION_1 flash.reads) y x (second t) (first t)
+  once x y first second = configs flash.size flash.reads y x (second t) (first t)
 
   one_holds : (c d : List Entry × Key) → Holds flash c → Holds flash d → d ≡ c
   one_holds c d first second =
-      let same = same_config d.0 c.0 d.1 c.1 (once (Configured c.0 c.1) (Configured d.0 d.1) first second) in
+      let same = same_config d.0 c.0 d.1 c.1 (once (Configured c.0 c.1 VERSION_1) (Configured d.0 d.1 VERSION_1) first second) in
       ap (λ (l : List Entry). (l, d.1)) same.0 ∙ ap (λ (k : Key). (c.0, k)) same.1
 
   one_none : (r q : Reply) → HoldsNone flash r → HoldsNone flash q → q ≡ r
@@ -73,8 +73,8 @@ module _ (configs : Rattle.flash_layout.specs.ConfigLaws.OneAnswer) (flash : Fla
   one_none r q (IsBad x says) (IsBlank y says') = let never : Blank ≡ Bad = once Bad Blank x y in absurd cc
 
   holds_not_none : (config : List Entry × Key) (r : Reply) → Holds flash config → HoldsNone flash r → ⊥
-  holds_not_none config r holds (IsBlank x says) = let never : Blank ≡ Configured config.0 config.1 = once (Configured config.0 config.1) Blank holds x in absurd cc
-  holds_not_none config r holds (IsBad x says) = let never : Bad ≡ Configured config.0 config.1 = once (Configured config.0 config.1) Bad holds x in absurd cc
+  holds_not_none config r holds (IsBlank x says) = let never : Blank ≡ Configured config.0 config.1 VERSION_1 = once (Configured config.0 config.1 VERSION_1) Blank holds x in absurd cc
+  holds_not_none config r holds (IsBad x says) = let never : Bad ≡ Configured config.0 config.1 VERSION_1 = once (Configured config.0 config.1 VERSION_1) Bad holds x in absurd cc
 
   pub one_config : HasOne (Holds flash) (HoldsNone flash)
   one_config = record { value = one_holds; refusal = one_none; never = holds_not_none }

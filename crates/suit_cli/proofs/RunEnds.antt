@@ -6,7 +6,6 @@ use Rattle.suit_commands.specs.Tree.{PlanTree}
 use Rattle.suit_envelope.specs.EnvelopeLaws.{EnvelopeLaws}
 use Rattle.suit_manifest.specs.ManifestLaws.{ManifestLaws}
 use Rattle.suit_manifest.specs.MembersLaws.{MembersLaws}
-use Rattle.flash_layout.specs.declared.frame.TheConstants.{VERSION_1}
 use Rattle.rollback_record.specs.RecordLaws.{SomeAnswer}
 use Rattle.rollback_record.specs.SoundFlash.{Sound}
 use Rattle.step_machine.specs.PlanRuns.{Counts, counts_of}
@@ -92,10 +91,10 @@ module _ (l m : Launching) (b a : Outside) (end : BootEnd) (lines : List ℕ) (b
   boot_counts = by_end end _ _ (subst (λ (n : ℕ). BootCounts end (counts_of b.faults n l.faults) (counts_of a.faults a.flash.faults m.faults)) boots.held.0.faults
       (subst (λ (n : ℕ). BootCounts end (counts_of n boots.middle.flash.faults l.faults) (counts_of a.faults a.flash.faults m.faults)) same_faults boots.boot.counts))
 
-  pub boot_safe : IsTrue b.flash.told → IsTrue l.told → Sound VERSION_1 b.flash.reads → GainsSafe l.launches m.launches
+  pub boot_safe : IsTrue b.flash.told → IsTrue l.told → Sound b.flash.reads → GainsSafe l.launches m.launches
   boot_safe flash_told launcher_told sound =
       boots.boot.safe (subst IsTrue (sym boots.held.0.still.told) flash_told) launcher_told
-      (subst (Sound VERSION_1) (sym (boots.held.0.still.reads flash_told)) sound)
+      (subst Sound (sym (boots.held.0.still.reads flash_told)) sound)
 
 gains_none : (launched now : List Launch) → now ≡ launched → GainsSafe launched now
 gains_none launched now same = record { gained = []; added = same ∙ sym (append-nil launched); safe = tt }
@@ -205,7 +204,7 @@ module _ (words : List (List ℕ)) (l m : Launching) (b a : Outside) (sb sa : Su
     of_way (AsBoot end lines word boots puts) = absurd (never (subst MayLaunch (sym word) tt))
     of_way (AsUpdate name uris end lines word updates puts) = absurd (never (subst MayLaunch (sym word) tt))
 
-  pub launches : IsTrue b.flash.told → IsTrue l.told → (task_of words ≡ Some RunBoot → Sound VERSION_1 b.flash.reads) → GainsSafe l.launches m.launches
+  pub launches : IsTrue b.flash.told → IsTrue l.told → (task_of words ≡ Some RunBoot → Sound b.flash.reads) → GainsSafe l.launches m.launches
   launches flash_told launcher_told sound = of_way way where
     of_way : Way words l m b a sb sa result → GainsSafe l.launches m.launches
     of_way (InStages run same) = gains_none l.launches m.launches (ap (λ (x : Launching). x.launches) same)

@@ -27,29 +27,29 @@ use Rattle.suit_cli.proofs.Sounding.{any_later, any_of, any_start, settled_later
 
 -- looks alone
 pub looked : (a b : Flash) (size before now : ℕ) → IsFlash b size → IsSame a b → StaysSettled a b before now
-looked a b size before now law same settled never = settled_still VERSION_1 a b size law same settled
+looked a b size before now law same settled never = settled_still a b size law same settled
 
 -- behind looks that counted no fault
 pub looked_then : (a b c : Flash) (size before now later : ℕ) → IsFlash b size → IsSame a b → now ≡ before → StaysSettled b c now later → StaysSettled a c before later
 looked_then a b c size before now later law same counts next settled never =
-    next (settled_still VERSION_1 a b size law same settled) (λ faulted. never (subst (λ (n : ℕ). Faulted n later) counts faulted))
+    next (settled_still a b size law same settled) (λ faulted. never (subst (λ (n : ℕ). Faulted n later) counts faulted))
 
 -- it was only looked at, or synced behind the last write
-pub synced : (a b : Flash) (size before now : ℕ) → IsFlash b size → (Settled VERSION_1 a → Passes a b (Sound VERSION_1)) → IsSame a b ⊎ IsSettled b → StaysSettled a b before now
+pub synced : (a b : Flash) (size before now : ℕ) → IsFlash b size → (Settled a → Passes a b Sound) → IsSame a b ⊎ IsSettled b → StaysSettled a b before now
 synced a b size before now law sound end settled never =
-    ⊎_elim (λ same. settled_still VERSION_1 a b size law same settled) (λ none. settles VERSION_1 b none (each_read a b size (Sound VERSION_1) law (sound settled))) end
+    ⊎_elim (λ same. settled_still a b size law same settled) (λ none. settles b none (each_read a b size Sound law (sound settled))) end
 
 -- a format by its answer
 pub formats_settled : SoundLaws → (size : ℕ) (layout : List Entry) (key : Key) (Opened : Type 0) (answer : Formatted) (a b : Flash) (before now : ℕ) → IsFlash b size
     → FormatCounts answer before now → IfNotBlank answer Opened (IsSame a b) → IfFormatted answer (IsFormatted VERSION_1 size layout key b.reads) → IfFormatted answer (IsSettled b)
     → StaysSettled a b before now
 formats_settled laws size layout key Opened formatted.Done a b before now law counts opened is none settled never =
-    settles VERSION_1 b none (laws.formatted VERSION_1 layout key b.reads (subst (λ (n : ℕ). IsFormatted VERSION_1 n layout key b.reads) (sym law.fits) is))
-formats_settled laws size layout key Opened formatted.NotBlank a b before now law counts opened is none settled never = settled_still VERSION_1 a b size law opened.1 settled
+    settles b none (laws.formatted VERSION_1 layout key b.reads (subst (λ (n : ℕ). IsFormatted VERSION_1 n layout key b.reads) (sym law.fits) is))
+formats_settled laws size layout key Opened formatted.NotBlank a b before now law counts opened is none settled never = settled_still a b size law opened.1 settled
 formats_settled laws size layout key Opened formatted.FlashFault a b before now law counts opened is none settled never = absurd (never counts)
 
 -- a boot by its answer
-pub boots_settled : (end : BootEnd) (before now : Counts) (a b : Flash) → BootCounts end before now → (Settled VERSION_1 a → IfUnfaulted end (Settled VERSION_1 b))
+pub boots_settled : (end : BootEnd) (before now : Counts) (a b : Flash) → BootCounts end before now → (Settled a → IfUnfaulted end (Settled b))
     → StaysSettled a b before.disk now.disk
 boots_settled (ends.Stopped place causes.FlashFault) before now a b counts is settled never = absurd (never counts.1)
 boots_settled ends.FlashFault before now a b counts is settled never = absurd (never counts.1)
@@ -57,7 +57,7 @@ boots_settled _ before now a b counts is settled never = is settled
 
 -- an update by its answer
 pub updates_settled : (end : UpdateEnd) (before now : Counts) (a b : Flash) (size : ℕ) → IsFlash b size → UpdateCounts end before now
-    → (Settled VERSION_1 a → Passes a b (Sound VERSION_1)) → updating.IfUnfaulted end (IsSame a b ⊎ IsSettled b) → StaysSettled a b before.disk now.disk
+    → (Settled a → Passes a b Sound) → updating.IfUnfaulted end (IsSame a b ⊎ IsSettled b) → StaysSettled a b before.disk now.disk
 updates_settled (updates.Stopped place causes.FlashFault) before now a b size law counts sound is = λ settled never. absurd (never counts.1)
 updates_settled updates.FlashFault before now a b size law counts sound is = λ settled never. absurd (never counts.1)
 updates_settled _ before now a b size law counts sound is = synced a b size before.disk now.disk law sound is

@@ -1,21 +1,19 @@
 -- A settled flash stays sound.
 use Rattle.std.proofs.Common.{◌≡◌, ◌⊎◌, inl, inr, ℕ, List, length, Option, Some, sym, ap, subst, ◌∙◌, arith}
 use Rattle.std.specs.Prelude.{IsTrue}
-use Rattle.std.proofs.lemmas.List.Edits.{get_or-between}
 use Rattle.suit_edge.specs.Gate.{IsOpen}
 use Rattle.suit_edge.specs.Flash.{Flash, Now, Passes, IsFlash, IsSame}
 use Rattle.suit_edge.specs.FlashLaws.{same_flash, starts, weakens, joined}
 use Rattle.flash_layout.specs.declared.frame.TheConstants.{VERSION_1}
 use Rattle.flash_layout.specs.declared.key.Key.{Key}
 use Rattle.flash_layout.specs.declared.layout.Entry.{Entry}
-use Rattle.flash_layout.specs.Configs.{ConfigOf, IsAllowed, IsBlank, Configured}
+use Rattle.flash_layout.specs.Configs.{Blank, ConfigOf, IsAllowed, IsBlank, Configured}
 use Rattle.flash_layout.specs.Formats.{IsFormatted}
-use Rattle.flash_layout.specs.Frames.{head_of}
-use Rattle.flash_layout.specs.declared.slot.Record.{Record}
-use Rattle.rollback_record.specs.HeadRecord.{RecordOf}
-use Rattle.rollback_record.specs.SoundFlash.{Follows, FollowsBlank, FollowsOn, IsNoEarlier, Settled, Sound, SoundBlank}
+use Rattle.flash_layout.specs.ToldFrames.{same_config}
+use Rattle.rollback_record.specs.SoundFlash.{Follows, FollowsBlank, Settled, Sound, SoundBlank}
 use Rattle.rollback_record.specs.SoundLaws.{SoundLaws}
 use Rattle.rollback_record.specs.SettledLaws.{both, each_sound, settled_still}
+use Rattle.rollback_record.proofs.HeadSince.{follows_now}
 use Rattle.invoke_proc.specs.declared.boot_end.BootEnd.{BootEnd}
 use Rattle.invoke_proc.specs.declared.boot_end.BootEnd.TheVariants as ends
 use Rattle.invoke_proc.specs.Booting.{KeepsBoot, KeptSo}
@@ -36,35 +34,23 @@ allowed_after layout key size later_size extent allowed = subst (λ (n : ℕ). I
 
 -- and is there
 pub held_after : (layout : List Entry) (key : Key) (size later_size : ℕ) (reads later : List ℕ) → later_size ≡ size → later ≡ reads
-    → ConfigOf VERSION_1 size (head_of VERSION_1 reads) (Configured layout key) → ConfigOf VERSION_1 later_size (head_of VERSION_1 later) (Configured layout key)
+    → ConfigOf size reads (Configured layout key VERSION_1) → ConfigOf later_size later (Configured layout key VERSION_1)
 held_after layout key size later_size reads later extent same held =
-    subst (λ (n : ℕ). ConfigOf VERSION_1 n (head_of VERSION_1 later) (Configured layout key)) (sym extent)
-    (subst (λ (l : List ℕ). ConfigOf VERSION_1 size (head_of VERSION_1 l) (Configured layout key)) (sym same) held)
+    subst (λ (n : ℕ). ConfigOf n later (Configured layout key VERSION_1)) (sym extent)
+    (subst (λ (l : List ℕ). ConfigOf size l (Configured layout key VERSION_1)) (sym same) held)
 
--- an image that goes on to one goes on to each with the same head
-held_follows : (a b c : List ℕ) → length c ≡ length b → head_of VERSION_1 c ≡ head_of VERSION_1 b → Follows VERSION_1 a b → Follows VERSION_1 a c
-held_follows a b c size head (FollowsBlank blank) = FollowsBlank blank
-held_follows a b c size head (FollowsOn on) = FollowsOn (record {
-  layout = on.layout;
-  key = on.key;
-  was = on.was;
-  is = subst (λ (h : List ℕ). ConfigOf VERSION_1 (length c) h (Configured on.layout on.key)) (sym head)
-      (subst (λ (n : ℕ). ConfigOf VERSION_1 n (head_of VERSION_1 b) (Configured on.layout on.key)) (sym size) on.is);
-  later = λ r was. subst (λ (h : List ℕ). (s : Record) × RecordOf VERSION_1 h (Some s) × IsNoEarlier r s) (sym head) (on.later r was);
-})
-
-module _ (laws : SoundLaws) (a : Flash) (settled : Settled VERSION_1 a) where
+module _ (laws : SoundLaws) (a : Flash) (settled : Settled a) where
   -- each image of the start
-  each_follows : (image : List ℕ) → Now a image → Follows VERSION_1 a.reads image
+  each_follows : (image : List ℕ) → Now a image → Follows a.reads image
   each_follows image now =
-      held_follows a.reads a.reads image (settled.sure image now).size (settled.sure image now).head (laws.itself VERSION_1 a.reads settled.sound)
+      follows_now laws a settled image now
 
   pub stays_start : StaysSound a a
-  stays_start = (starts a (Sound VERSION_1) (each_sound VERSION_1 a settled), starts a (Follows VERSION_1 a.reads) each_follows)
+  stays_start = (starts a Sound (each_sound a settled), starts a (Follows a.reads) each_follows)
 
   pub stays_now : (b : Flash) → Passes a b (Now a) → StaysSound a b
   stays_now b run =
-      (weakens a b (Now a) (Sound VERSION_1) (each_sound VERSION_1 a settled) run, weakens a b (Now a) (Follows VERSION_1 a.reads) each_follows run)
+      (weakens a b (Now a) Sound (each_sound a settled) run, weakens a b (Now a) (Follows a.reads) each_follows run)
 
   -- on the way to a format
   module _ (device key_name : List ℕ) (before : Outside) (b : Flash) (told : IsTrue before.flash.told) (reads : a.reads ≡ before.flash.reads)
@@ -76,37 +62,37 @@ module _ (laws : SoundLaws) (a : Flash) (settled : Settled VERSION_1 a) where
       before = λ t image le may. inr (law.sized t image (omega (arith, le, run.later)) may);
     }
 
-    blank_reads : (IsTrue before.flash.told → IsOpen before.flash.reads 0 → ⊥) → IsBlank VERSION_1 (head_of VERSION_1 a.reads)
-    blank_reads shut = inr (λ open_head. shut told (subst (λ (r : List ℕ). IsOpen r 0) reads (sym (get_or-between a.reads 0 49152 0 0 (omega arith)) ∙ open_head)))
+    blank_reads : (IsTrue before.flash.told → IsOpen before.flash.reads 0 → ⊥) → IsBlank a.reads
+    blank_reads shut = inr (λ opened. shut told (subst (λ (r : List ℕ). IsOpen r 0) reads opened))
 
-    blank_each : IsBlank VERSION_1 (head_of VERSION_1 a.reads) → (image : List ℕ) → Now a image → IsBlank VERSION_1 (head_of VERSION_1 image)
-    blank_each blank image now = subst (IsBlank VERSION_1) (sym (settled.sure image now).head) blank
+    blank_each : IsBlank a.reads → (image : List ℕ) → Now a image → IsBlank image
+    blank_each blank image now = let same = settled.sure image now in same_config a.reads image same.size same.head Blank blank
 
     formatted_sound : (image : List ℕ) → length image ≡ before.flash.size → MayFormat before.flash.size device key_name before a image
-        → IsBlank VERSION_1 (head_of VERSION_1 a.reads) → Sound VERSION_1 image
+        → IsBlank a.reads → Sound image
     formatted_sound image size way blank = of_way (way.blank_or_formatted (blank_each blank)) where
-      of_way : (IsBlank VERSION_1 (head_of VERSION_1 image)) ⊎ (IsFormatted VERSION_1 before.flash.size way.layout (key_of way.key) image) → Sound VERSION_1 image
+      of_way : (IsBlank image) ⊎ (IsFormatted VERSION_1 before.flash.size way.layout (key_of way.key) image) → Sound image
       of_way (inl none) = SoundBlank none
       of_way (inr formatted) =
           laws.formatted VERSION_1 way.layout (key_of way.key) image
           (subst (λ (n : ℕ). IsFormatted VERSION_1 n way.layout (key_of way.key) image) (sym size) formatted)
 
-    sound_image : (image : List ℕ) → MayLeave device key_name before a image × (length image ≡ before.flash.size) → Sound VERSION_1 image
-    sound_image image (inl now, size) = each_sound VERSION_1 a settled image now
+    sound_image : (image : List ℕ) → MayLeave device key_name before a image × (length image ≡ before.flash.size) → Sound image
+    sound_image image (inl now, size) = each_sound a settled image now
     sound_image image (inr way, size) = formatted_sound image size way.1 (blank_reads way.0)
 
-    follows_image : (image : List ℕ) → MayLeave device key_name before a image × (length image ≡ before.flash.size) → Follows VERSION_1 a.reads image
+    follows_image : (image : List ℕ) → MayLeave device key_name before a image × (length image ≡ before.flash.size) → Follows a.reads image
     follows_image image (inl now, size) = each_follows image now
     follows_image image (inr way, size) = FollowsBlank (blank_reads way.0)
 
     stays_formatting : StaysSound a b
     stays_formatting =
         let all = both a b (MayLeave device key_name before a) (λ image. length image ≡ before.flash.size) run sized in
-        (weakens a b _ (Sound VERSION_1) sound_image all, weakens a b _ (Follows VERSION_1 a.reads) follows_image all)
+        (weakens a b _ Sound sound_image all, weakens a b _ (Follows a.reads) follows_image all)
 
   -- by the words
   pub stays_by : (task : Option Task) (before : Outside) (b : Flash) → IsTrue before.flash.told → a.reads ≡ before.flash.reads → IsFlash b before.flash.size
-      → IfLaunches task (Settled VERSION_1 a → StaysSound a b) → Passes a b (MayBeLeft task before a) → StaysSound a b
+      → IfLaunches task (Settled a → StaysSound a b) → Passes a b (MayBeLeft task before a) → StaysSound a b
   stays_by (Some (RunInit device key)) before b told reads law boot run = stays_formatting device key before b told reads law run
   stays_by (Some (RunUpdate name uris)) before b told reads law boot run = boot settled
   stays_by (Some RunBoot) before b told reads law boot run = boot settled
@@ -116,12 +102,12 @@ module _ (laws : SoundLaws) (a : Flash) (settled : Settled VERSION_1 a) where
   pub stays_later : (b c : Flash) → IsSame a b → StaysSound b c → StaysSound a c
   stays_later b c same run =
       let first = stays_now b same.images in (
-        joined a b c (Sound VERSION_1) first.0 run.0,
-        joined a b c (Follows VERSION_1 a.reads) first.1 (subst (λ (reads : List ℕ). Passes b c (Follows VERSION_1 reads)) same.reads run.1),
+        joined a b c Sound first.0 run.0,
+        joined a b c (Follows a.reads) first.1 (subst (λ (reads : List ℕ). Passes b c (Follows reads)) same.reads run.1),
       )
 
-pub settled_later : (a b : Flash) (size : ℕ) → IsFlash b size → IsSame a b → Settled VERSION_1 a → Settled VERSION_1 b
-settled_later a b size law same settled = settled_still VERSION_1 a b size law same settled
+pub settled_later : (a b : Flash) (size : ℕ) → IsFlash b size → IsSame a b → Settled a → Settled b
+settled_later a b size law same settled = settled_still a b size law same settled
 
 -- ---- any image
 
@@ -159,8 +145,8 @@ if_launches (Some RunBoot) P p = p
 if_launches _ P p = tt
 
 -- where nothing was done
-if_unmoved : (laws : SoundLaws) (task : Option Task) (a : Flash) → IfLaunches task (Settled VERSION_1 a → StaysSound a a)
-if_unmoved laws task a = if_launches task (Settled VERSION_1 a → StaysSound a a) (λ settled. stays_start laws a settled)
+if_unmoved : (laws : SoundLaws) (task : Option Task) (a : Flash) → IfLaunches task (Settled a → StaysSound a a)
+if_unmoved laws task a = if_launches task (Settled a → StaysSound a a) (λ settled. stays_start laws a settled)
 
 pub if_boots : (task : Option Task) (P : Type 0) → P → IfBoots task P
 if_boots (Some RunBoot) P p = p

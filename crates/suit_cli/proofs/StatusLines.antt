@@ -5,11 +5,9 @@ use Rattle.std.specs.Result.{IsErrAnd}
 use Rattle.std.specs.declared.alloc.AllocError.{AllocError}
 use Rattle.suit_edge.specs.Flash.{Flash, IsFlash, IsSame}
 use Rattle.suit_edge.specs.FlashLaws.{same_flash_then}
-use Rattle.flash_layout.specs.declared.frame.TheConstants.{VERSION_1}
 use Rattle.flash_layout.specs.declared.layout.Entry.{Entry}
 use Rattle.flash_layout.specs.declared.slot.Record.{Record}
 use Rattle.flash_layout.specs.Configs.{ConfigOf, Blank}
-use Rattle.flash_layout.specs.Frames.{head_of}
 use Rattle.suit_cli.specs.declared.reply.Object.TheVariants as objects
 use Rattle.suit_cli.specs.declared.reply.Outcome.TheVariants as outcomes
 use Rattle.suit_cli.specs.declared.reply.Reply.{Reply}
@@ -23,7 +21,7 @@ use Rattle.suit_cli.specs.Installed.{FlashCounts, IsBlank, component_line, compo
 -- ---- the configuration
 
 -- there is none, which was told unless memory ran out
-pub blank_there : (before after : Outside) → Looks before after → (IsTrue before.flash.told → ConfigOf VERSION_1 before.flash.size (head_of VERSION_1 before.flash.reads) Blank)
+pub blank_there : (before after : Outside) → Looks before after → (IsTrue before.flash.told → ConfigOf before.flash.size before.flash.reads Blank)
     → (made : Result Reply AllocError) (stop : Stop) → Makes made outcomes.Unconfigured (codes "blank\n") → stop ≡ stop_of made → Does config_in before after (Err stop)
 blank_there before after looks blank made stop says is = subst (λ (s : Stop). Does config_in before after (Err s)) (sym is) (of_made made says)
   where

@@ -104,8 +104,8 @@ keeps_as layout x y same a uris l m before ended old now kept = subst (λ (bytes
 
 module _ (name : List ℕ) (uris : List (List ℕ × List ℕ)) (l m : Launching) (before middle : Outside) (told_is : middle.told ≡ before.told) (files_are : IsTrue before.told → middle.files ≡ before.files)
     (size : ℕ) (is_size : before.flash.size ≡ size) (a b c : Flash) (law_a : IsFlash a size) (law_b : IsFlash b size) (same : IsSame a b)
-    (layout : List Entry) (key : Key) (allowed : IsAllowed VERSION_1 size layout key) (config : ConfigOf VERSION_1 size (head_of VERSION_1 a.reads) (Configured layout key))
-    (settled : Settled VERSION_1 a) (bytes : List ℕ) (read : IsRead longest_file name before bytes) (x : Accepted) (is : IsAccepted layout key bytes x) (configs : OneAnswer) where
+    (layout : List Entry) (key : Key) (allowed : IsAllowed VERSION_1 size layout key) (config : ConfigOf size a.reads (Configured layout key VERSION_1))
+    (settled : Settled a) (bytes : List ℕ) (read : IsRead longest_file name before bytes) (x : Accepted) (is : IsAccepted layout key bytes x) (configs : OneAnswer) where
   done_since : (held : Option Record) (made : List ℕ) → IsDone (offer layout bytes x uris) l m middle held b.reads made → IsDone (offer layout bytes x uris) l m before held a.reads made
   done_since held made did host launcher =
       subst (λ (r : List ℕ). PlaysToEnd layout x.places (update_tree x.manifest x.members) held bytes uris before.files r l.launches m.launches made) same.reads
@@ -126,13 +126,13 @@ module _ (name : List ℕ) (uris : List (List ℕ × List ℕ)) (l m : Launching
   keeps_since (Updated end lines) kept = record {
     layout = layout;
     key = key;
-    config = subst (λ (n : ℕ). ConfigOf VERSION_1 n (head_of VERSION_1 a.reads) (Configured layout key)) (sym is_size) config;
+    config = subst (λ (n : ℕ). ConfigOf n a.reads (Configured layout key VERSION_1)) (sym is_size) config;
     bytes = bytes;
     read = read;
     accepted = x;
     is_accepted = is;
     offered =
-        has_offer configs layout key a.reads (subst (λ (n : ℕ). ConfigOf VERSION_1 n (head_of VERSION_1 a.reads) (Configured layout key)) (sym law_a.fits) config) bytes x
+        has_offer configs layout key a.reads (subst (λ (n : ℕ). ConfigOf n a.reads (Configured layout key VERSION_1)) (sym law_a.fits) config) bytes x
         (facts layout key bytes x is) settled.sound;
     kept = kept_since end kept;
   }

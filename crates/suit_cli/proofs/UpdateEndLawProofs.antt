@@ -160,8 +160,8 @@ module _ (number : ℕ) (digest : Digest) where
 module _ (configs : OneAnswer) (envelopes : EnvelopeLaws) (manifests : ManifestLaws) (name : List ℕ) (uris : List (List ℕ × List ℕ)) (launched now : Launching) (before after : Outside) (verdict : Judged)
     (told : IsTrue before.told) (flash_told : IsTrue before.flash.told) (f : IsOffered name before verdict) where
   module _ (end : UpdateEnd) (lines : List ℕ) (u : UpdateIsCaused name uris launched now before after end lines) where
-    same_config : Configured u.layout u.key ≡ Configured f.layout f.key
-    same_config = configs VERSION_1 before.flash.size (head_of VERSION_1 before.flash.reads) (Configured u.layout u.key) (Configured f.layout f.key) (u.config flash_told) (f.config flash_told)
+    same_config : Configured u.layout u.key VERSION_1 ≡ Configured f.layout f.key VERSION_1
+    same_config = configs before.flash.size before.flash.reads (Configured u.layout u.key VERSION_1) (Configured f.layout f.key VERSION_1) (u.config flash_told) (f.config flash_told)
 
     same_bytes : u.bytes ≡ f.bytes
     same_bytes = one_read longest_file name before told f.bytes u.bytes f.read u.read

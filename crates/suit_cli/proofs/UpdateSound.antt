@@ -22,7 +22,8 @@ use Rattle.flash_layout.specs.declared.place.Places.{Places}
 use Rattle.rollback_record.specs.SoundFlash.{HasEach}
 use Rattle.flash_slots.specs.RamContents.{empty_ram}
 use Rattle.rollback_record.specs.HeadRecord.{RecordOf}
-use Rattle.rollback_record.specs.SoundFlash.{IsInstalled, Sound, SoundBlank, SoundEmpty, SoundInstalled}
+use Rattle.rollback_record.specs.SoundFlash.{IsInstalled, Sound}
+use Rattle.rollback_record.proofs.SoundBy.{SoundBy, BlankBy, EmptyBy, InstalledBy, sound_by_version_1}
 use Rattle.step_machine.specs.Devices.{contents_of}
 use Rattle.step_machine.specs.Invoking.{launched_as}
 use Rattle.step_machine.specs.PlanRuns.{setting_of}
@@ -54,19 +55,22 @@ module _ (manifests : ManifestLaws) (layout : List Entry) (key : Key) (bytes : L
 
 -- ---- a sound flash with a configuration has a record, or none
 
-the_layout : (a b : List Entry) (k l : Key) → Configured a k ≡ Configured b l → (a ≡ b) × (k ≡ l)
+the_layout : (a b : List Entry) (k l : Key) → Configured a k VERSION_1 ≡ Configured b l VERSION_1 → (a ≡ b) × (k ≡ l)
 the_layout a b k l same = grind (arith, same)
 
-not_blank : (layout : List Entry) (key : Key) → Blank ≡ Configured layout key → ⊥
+not_blank : (layout : List Entry) (key : Key) → Blank ≡ Configured layout key VERSION_1 → ⊥
 not_blank layout key same = grind (arith, same)
 
-module _ (configs : OneAnswer) (layout : List Entry) (key : Key) (reads : List ℕ) (config : ConfigOf VERSION_1 (length reads) (head_of VERSION_1 reads) (Configured layout key)) where
-  some_record : Sound VERSION_1 reads → (held : Option Record) × RecordOf VERSION_1 (head_of VERSION_1 reads) held
-  some_record (SoundBlank is) = absurd (not_blank layout key (configs VERSION_1 (length reads) (head_of VERSION_1 reads) Blank (Configured layout key) is config))
-  some_record (SoundEmpty other k is none) = (None, none)
-  some_record (SoundInstalled other k r is held installed) = (Some r, held)
+module _ (configs : OneAnswer) (layout : List Entry) (key : Key) (reads : List ℕ) (config : ConfigOf (length reads) reads (Configured layout key VERSION_1)) where
+  of_cases : SoundBy VERSION_1 reads → (held : Option Record) × RecordOf VERSION_1 (head_of VERSION_1 reads) held
+  of_cases (BlankBy is) = absurd (not_blank layout key (configs (length reads) reads Blank (Configured layout key VERSION_1) is config))
+  of_cases (EmptyBy other k is none) = (None, none)
+  of_cases (InstalledBy other k r is held installed) = (Some r, held)
 
-  pub has_offer : (bytes : List ℕ) (a : Accepted) → Meets layout key bytes a → Sound VERSION_1 reads → HasOffer reads a.said.wrapper
+  some_record : Sound reads → (held : Option Record) × RecordOf VERSION_1 (head_of VERSION_1 reads) held
+  some_record sound = of_cases (sound_by_version_1 reads sound)
+
+  pub has_offer : (bytes : List ℕ) (a : Accepted) → Meets layout key bytes a → Sound reads → HasOffer reads a.said.wrapper
   has_offer bytes a f sound = let some = some_record sound in (some.0, f.authentic.digest, f.authentic.blocks, some.1, f.authentic.says)
 
   -- ---- it may be installed
@@ -90,16 +94,16 @@ module _ (configs : OneAnswer) (layout : List Entry) (key : Key) (reads : List �
 
     may_be : (held : Option Record) (numbers : List ℕ) → MayBeInstalled reads (trimmed a.said.wrapper a.said.manifest) (new_of a held reads stated numbers)
     may_be held numbers other k is =
-        let same = the_layout layout other key k (configs VERSION_1 (length reads) (head_of VERSION_1 reads) (Configured layout key) (Configured other k) config is) in
+        let same = the_layout layout other key k (configs (length reads) reads (Configured layout key VERSION_1) (Configured other k VERSION_1) config is) in
         subst (λ (l : Key). IsInstalled other l (trimmed a.said.wrapper a.said.manifest) (new_of a held reads stated numbers)) same.1
         (subst (λ (l : List Entry). IsInstalled l key (trimmed a.said.wrapper a.said.manifest) (new_of a held reads stated numbers)) same.0 (installed held numbers))
 
     -- so each image is sound
-    pub sound_update : (start now : Flash) → Sound VERSION_1 reads
+    pub sound_update : (start now : Flash) → Sound reads
         → ForOffer reads a.said.wrapper (λ held digest.
         ((numbers : List ℕ) → AreChosen layout a.places (update_tree a.manifest a.members) (active_slots held) numbers
-        → MayBeInstalled reads (trimmed a.said.wrapper a.said.manifest) (new_of a held reads digest numbers)) → Passes start now (Sound VERSION_1))
-        → Passes start now (Sound VERSION_1)
+        → MayBeInstalled reads (trimmed a.said.wrapper a.said.manifest) (new_of a held reads digest numbers)) → Passes start now Sound)
+        → Passes start now Sound
     sound_update start now sound offers =
         let some = some_record sound in
         offers some.0 stated f.authentic.blocks some.1 f.authentic.says (λ numbers chosen. may_be some.0 numbers)

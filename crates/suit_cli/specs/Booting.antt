@@ -5,7 +5,6 @@ use Rattle.flash_layout.specs.declared.frame.TheConstants.{VERSION_1}
 use Rattle.flash_layout.specs.declared.key.Key.{Key}
 use Rattle.flash_layout.specs.declared.layout.Entry.{Entry}
 use Rattle.flash_layout.specs.Configs.{ConfigOf, Configured}
-use Rattle.flash_layout.specs.Frames.{head_of}
 use Rattle.rollback_record.specs.SoundFlash.{Sound}
 use Rattle.step_machine.specs.PlanRuns.{counts_of}
 use Rattle.invoke_proc.specs.declared.boot_end.BootEnd.{BootEnd}
@@ -63,7 +62,7 @@ pub record IsBoot (layout : List Entry) (key : Key) (launched now : Launching)
       BootCounts end (counts_of before.faults before.flash.faults launched.faults)
       (counts_of after.faults after.flash.faults now.faults)
   pub answers : IsTrue before.flash.told → booting.Answers layout key before.flash.reads end
-  pub unrefused : IsTrue before.flash.told → Sound VERSION_1 before.flash.reads → IsUnrefused end
+  pub unrefused : IsTrue before.flash.told → Sound before.flash.reads → IsUnrefused end
   pub no_host : IsTrue before.flash.told → IsTrue launched.told → NeverHost end
   pub left : IsTrue before.flash.told
       → booting.KeptSo (Unit {0}) (after.flash.reads ≡ before.flash.reads) end
@@ -73,7 +72,7 @@ pub record IsBoot (layout : List Entry) (key : Key) (launched now : Launching)
       now.launches)
       (after.flash.reads ≡ before.flash.reads) launched.launches now.launches end
   pub safe : IsTrue before.flash.told → IsTrue launched.told
-      → Sound VERSION_1 before.flash.reads
+      → Sound before.flash.reads
       → GainsSafe launched.launches now.launches
 
 -- the flash holds a configuration, what is installed was started by it, and these lines tell how that ended
@@ -94,5 +93,5 @@ pub record KeepsBooted (before : Outside) (old now : Flash) : Type 0 where
   pub layout : List Entry
   pub key : Key
   pub config :
-      ConfigOf VERSION_1 before.flash.size (head_of VERSION_1 old.reads) (Configured layout key)
+      ConfigOf before.flash.size old.reads (Configured layout key VERSION_1)
   pub kept : KeepsBoot layout key old now

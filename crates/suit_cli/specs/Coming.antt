@@ -1,7 +1,6 @@
 -- How a command ends: with an answer in stages, a boot, or an update.
 use Rattle.std.specs.Prelude.{◌≡◌, ℕ, List}
 use Rattle.suit_edge.specs.Flash.{Flash, IsSame, Passes}
-use Rattle.flash_layout.specs.declared.frame.TheConstants.{VERSION_1}
 use Rattle.flash_layout.specs.declared.key.Key.{Key}
 use Rattle.flash_layout.specs.declared.layout.Entry.{Entry}
 use Rattle.rollback_record.specs.SoundFlash.{Follows, Settled, Sound}
@@ -52,11 +51,11 @@ pub data Comes (stages : Answers) (Is : Task → Type 0) (launched now : Launchi
 
 -- each image that a power loss may leave on the way is sound, and goes on from what reads gave at the start
 abbrev pub StaysSound : Flash → Flash → Type 0
-StaysSound old new = Passes old new (Sound VERSION_1) × Passes old new (Follows VERSION_1 old.reads)
+StaysSound old new = Passes old new Sound × Passes old new (Follows old.reads)
 
 -- where nothing was pending on a sound flash
 abbrev pub KeepsSound : Flash → Flash → Type 0
-KeepsSound old new = Settled VERSION_1 old → StaysSound old new
+KeepsSound old new = Settled old → StaysSound old new
 
 -- where an update came to an end the flash was kept as that end says, and otherwise nothing changed
 abbrev pub StaysOrKeeps : List ℕ → List (List ℕ × List ℕ) → Launching → Launching → Outside → Ended

@@ -119,8 +119,8 @@ pub record IsCutOff (uris : List (List ℕ × List ℕ)) (launched now : Launchi
   pub layout : List Entry
   pub key : Key
   pub config :
-      ConfigOf VERSION_1 before.flash.size (head_of VERSION_1 before.flash.reads)
-      (Configured layout key)
+      ConfigOf before.flash.size before.flash.reads
+      (Configured layout key VERSION_1)
   pub bytes : List ℕ
   pub read : IsRead longest_file envelope_name before bytes
   pub accepted : Accepted
@@ -138,7 +138,7 @@ pub record EndsCut (said : RoundSaid) (files : Files) (image : List ℕ)
     (u : UpdateComes said files image) (left : List ℕ) (end : RoundEnd) : Type 0 where
   pub wanted : IsSome said.cut
   pub faulted : Faulted u.before.flash.faults u.after.flash.faults
-  pub stands : HoldsSame VERSION_1 image left ⊎ IsCutOff u.uris u.launched u.now u.before left
+  pub stands : HoldsSame image left ⊎ IsCutOff u.uris u.launched u.now u.before left
   pub end_is : end ≡ Cut
 
 -- it came to its end, or was cut
@@ -176,8 +176,8 @@ pub record RoundRun : Type 0 where
 
 -- a flash lives on from one image to the next
 pub record LivesOn (image next : List ℕ) : Type 0 where
-  pub sound : Sound VERSION_1 next
-  pub follows : Follows VERSION_1 image next
+  pub sound : Sound next
+  pub follows : Follows image next
 
 -- it is run with what was drawn for it
 pub record IsRound (said : RoundSaid) (r : RoundRun) : Type 0 where
@@ -193,7 +193,7 @@ pub record IsRound (said : RoundSaid) (r : RoundRun) : Type 0 where
 -- a disk of that size, with nothing pending
 pub record IsReady (disk : DiskState) : Type 0 where
   pub size : length disk.first ≡ flash_size
-  pub settled : Settled VERSION_1 (memory_flash disk)
+  pub settled : Settled (memory_flash disk)
 
 -- no object failed and memory sufficed, by the status
 abbrev pub is_whole : ℕ → Bool

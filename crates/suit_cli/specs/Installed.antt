@@ -30,14 +30,14 @@ use Rattle.suit_cli.specs.Stages.{Stage, looking}
 abbrev pub Holds : Flashed → List Entry × Key → Type 0
 Holds flash config =
     IsTrue flash.told
-    → ConfigOf VERSION_1 flash.size (head_of VERSION_1 flash.reads)
-    (Configured config.0 config.1)
+    → ConfigOf flash.size flash.reads
+    (Configured config.0 config.1 VERSION_1)
 
 pub data HoldsNone (flash : Flashed) (reply : Reply) : Type 0 where
   IsBlank :
-      (IsTrue flash.told → ConfigOf VERSION_1 flash.size (head_of VERSION_1 flash.reads) Blank)
+      (IsTrue flash.told → ConfigOf flash.size flash.reads Blank)
       → IsReply reply outcomes.Unconfigured (codes "blank\n") → HoldsNone flash reply
-  IsBad : (IsTrue flash.told → ConfigOf VERSION_1 flash.size (head_of VERSION_1 flash.reads) Bad)
+  IsBad : (IsTrue flash.told → ConfigOf flash.size flash.reads Bad)
       → IsReply reply outcomes.Unconfigured (codes "bad config\n") → HoldsNone flash reply
 
 abbrev pub config_in : Stage (List Entry × Key)

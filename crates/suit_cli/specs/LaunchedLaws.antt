@@ -44,6 +44,6 @@ BootsRecorded image = (launched now : Launching) (before after : Outside) (end :
 
 pub record LaunchedLaws : Type 0 where
   -- so it is with a sound image,
-  pub sound : (image : List ℕ) → Sound VERSION_1 image → BootsRecorded image
+  pub sound : (image : List ℕ) → Sound image → BootsRecorded image
   -- and with each image of a life
-  pub life : (images : List (List ℕ)) → IsLife VERSION_1 images → All BootsRecorded images
+  pub life : (images : List (List ℕ)) → IsLife images → All BootsRecorded images

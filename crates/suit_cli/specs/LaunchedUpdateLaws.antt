@@ -25,7 +25,7 @@ use Rattle.suit_cli.specs.Updating.{Updates, tree_of}
 pub record LaunchesAccepted (uris : List (List ℕ × List ℕ)) (layout : List Entry) (key : Key) (bytes : List ℕ)
     (image : List ℕ) (launched now : List Launch)
     : Type 0 where
-  pub config : ConfigOf VERSION_1 (length image) (head_of VERSION_1 image) (Configured layout key)
+  pub config : ConfigOf (length image) image (Configured layout key VERSION_1)
   pub accepted : Accepted
   pub is_accepted : IsAccepted layout key bytes accepted
   pub held : Option Record

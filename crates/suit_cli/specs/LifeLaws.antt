@@ -18,56 +18,53 @@ abbrev pub AreZeros : List ℕ → Type 0
 AreZeros image = All (λ byte. byte ≡ 0) image
 
 -- of zero bytes alone, or sound
-abbrev pub Begins : Frame → List ℕ → Type 0
-Begins frame image = AreZeros image ⊎ Sound frame image
+abbrev pub Begins : List ℕ → Type 0
+Begins image = AreZeros image ⊎ Sound image
 
 -- each later image is sound, and goes on from the one before it
-abbrev pub LivesOn : Frame → List ℕ → List (List ℕ) → Type 0
-LivesOn frame image [] = Unit {0}
-LivesOn frame image (next ∷ later) = Sound frame next × Follows frame image next × LivesOn frame next later
+abbrev pub LivesOn : List ℕ → List (List ℕ) → Type 0
+LivesOn image [] = Unit {0}
+LivesOn image (next ∷ later) = Sound next × Follows image next × LivesOn next later
 
-abbrev pub IsLife : Frame → List (List ℕ) → Type 0
-IsLife frame [] = Unit {0}
-IsLife frame (first ∷ later) = Begins frame first × LivesOn frame first later
+abbrev pub IsLife : List (List ℕ) → Type 0
+IsLife [] = Unit {0}
+IsLife (first ∷ later) = Begins first × LivesOn first later
 
 -- ---- the record
 
--- the image has the layout, the key and the record
+-- the image has the layout and the key, by that frame, and the record
 pub record HasRecorded (frame : Frame) (layout : List Entry) (key : Key) (r : Record)
     (image : List ℕ) : Type 0 where
-  pub config : ConfigOf frame (length image) (head_of frame image) (Configured layout key)
+  pub config : ConfigOf (length image) image (Configured layout key frame)
   pub record_is : RecordOf frame (head_of frame image) (Some r)
 
 -- where the one has a record, the other has the same layout and key, and a record whose number is not lower
-abbrev pub NeverLower : Frame → List ℕ → List ℕ → Type 0
-NeverLower frame a b = (layout : List Entry) (key : Key) (r : Record) → HasRecorded frame layout key r a
-    → (s : Record) × HasRecorded frame layout key s b × IsNoEarlier r s
+abbrev pub NeverLower : List ℕ → List ℕ → Type 0
+NeverLower a b = (frame : Frame) (layout : List Entry) (key : Key) (r : Record) → HasRecorded frame layout key r a
+    → (now : Frame) × (s : Record) × HasRecorded now layout key s b × IsNoEarlier r s
 
 pub record LifeLaws : Type 0 where
   -- each image of a life is sound,
-  pub sound : (frame : Frame) (images : List (List ℕ)) → IsLife frame images
-      → All (Sound frame) images
+  pub sound : (images : List (List ℕ)) → IsLife images → All Sound images
   -- goes on from each earlier one,
-  pub follows : (frame : Frame) (images : List (List ℕ)) → IsLife frame images
-      → AllPairs (Follows frame) images
+  pub follows : (images : List (List ℕ)) → IsLife images → AllPairs Follows images
   -- and so never records a lower number
-  pub numbers : (frame : Frame) (images : List (List ℕ)) → IsLife frame images
-      → AllPairs (NeverLower frame) images
+  pub numbers : (images : List (List ℕ)) → IsLife images → AllPairs NeverLower images
 
 -- ---- sound and unsound images
 
 pub record SoundnessLaws : Type 0 where
   -- zero bytes alone are
-  pub zeros : (frame : Frame) (image : List ℕ) → AreZeros image → Sound frame image
+  pub zeros : (image : List ℕ) → AreZeros image → Sound image
   -- so is what formatting leaves
   pub formatted : (frame : Frame) (layout : List Entry) (key : Key) (image : List ℕ)
-      → IsFormatted frame (length image) layout key image → Sound frame image
+      → IsFormatted frame (length image) layout key image → Sound image
   -- a sound image records an installed envelope: authentic under its key, with the record's number and digest, and safe
   pub installed : (frame : Frame) (layout : List Entry) (key : Key) (r : Record) (image : List ℕ)
-      → HasRecorded frame layout key r image → Sound frame image
+      → HasRecorded frame layout key r image → Sound image
       → IsInstalled layout key (recorded_bank frame (head_of frame image) r) r
   -- an image is not, whose record's bank spells no envelope
   pub no_envelope : (frame : Frame) (layout : List Entry) (key : Key) (r : Record) (image : List ℕ)
       (why : Refusal)
       → HasRecorded frame layout key r image
-      → RefusesBytes (recorded_bank frame (head_of frame image) r) why → Sound frame image → ⊥
+      → RefusesBytes (recorded_bank frame (head_of frame image) r) why → Sound image → ⊥

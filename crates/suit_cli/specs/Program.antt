@@ -4,7 +4,6 @@ use Rattle.std.specs.List.{AllByRecursion}
 use Rattle.suit_edge.specs.Faults.{Faulted}
 use Rattle.suit_edge.specs.Flash.{Flash, Now, Passes}
 use Rattle.suit_commands.specs.Tree.{PlanTree}
-use Rattle.flash_layout.specs.declared.frame.TheConstants.{VERSION_1}
 use Rattle.rollback_record.specs.SoundFlash.{Settled}
 use Rattle.path_model.specs.Settings.{found_under}
 use Rattle.suit_cli.specs.declared.reply.Outcome.TheVariants as outcomes
@@ -268,7 +267,7 @@ IfBoots _ P = Unit {0}
 -- procedure may write, of any flash.
 abbrev pub KeepsFor : Option Task → Launching → Launching → Outside → Ended → Flash → Flash → Type 0
 KeepsFor (Some (RunUpdate name uris)) launched later before ended old now =
-    Settled VERSION_1 old → StaysOrKeeps name uris launched later before ended old now
+    Settled old → StaysOrKeeps name uris launched later before ended old now
 KeepsFor (Some RunBoot) launched later before ended old now = BootKeeps before ended old now
 KeepsFor _ launched later before ended old now = Unit {0}
 

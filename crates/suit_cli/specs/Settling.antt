@@ -2,20 +2,19 @@
 use Rattle.std.specs.Prelude.{ℕ}
 use Rattle.suit_edge.specs.Faults.{Faulted}
 use Rattle.suit_edge.specs.Flash.{Flash}
-use Rattle.flash_layout.specs.declared.frame.TheConstants.{VERSION_1}
 use Rattle.rollback_record.specs.SoundFlash.{Settled}
 use Rattle.suit_cli.specs.Coming.{KeepsSound, PassesAny, StaysSound}
 
 -- a settled flash is settled again, unless it counted a fault
 abbrev pub StaysSettled : Flash → Flash → ℕ → ℕ → Type 0
 StaysSettled old new before now =
-    Settled VERSION_1 old → (Faulted before now → ⊥) → Settled VERSION_1 new
+    Settled old → (Faulted before now → ⊥) → Settled new
 
 -- Each image on the way is sound and goes on from what reads gave at the start; and at the end nothing is pending again, unless
 -- the flash counted a fault.
 pub record LeavesSound (old new : Flash) (before now : ℕ) : Type 0 where
   pub stays : StaysSound old new
-  pub settled : (Faulted before now → ⊥) → Settled VERSION_1 new
+  pub settled : (Faulted before now → ⊥) → Settled new
 
 -- inside: how a run of calls leaves a flash, at each moment and at the end
 pub record StaysInOrder (old new : Flash) (before now : ℕ) : Type 0 where

@@ -191,7 +191,7 @@ pub record KeepsFlash (name : List ℕ) (uris : List (List ℕ × List ℕ)) (la
   pub layout : List Entry
   pub key : Key
   pub config :
-      ConfigOf VERSION_1 before.flash.size (head_of VERSION_1 old.reads) (Configured layout key)
+      ConfigOf before.flash.size old.reads (Configured layout key VERSION_1)
   pub bytes : List ℕ
   pub read : IsRead longest_file name before bytes
   pub accepted : Accepted

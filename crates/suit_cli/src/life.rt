@@ -2,7 +2,6 @@
 //! laws.
 
 ghost use Rattle.suit_edge.specs.Flash.{IsSettled};
-ghost use Rattle.flash_layout.specs.declared.frame.TheConstants.{VERSION_1};
 ghost use Rattle.rollback_record.specs.SoundFlash.{Settled, Sound};
 ghost use Rattle.suit_cli.specs.LaunchedLaws.{LaunchedLaws};
 ghost use Rattle.suit_cli.specs.LaunchedUpdateLaws.{LaunchedUpdateLaws};
@@ -37,14 +36,14 @@ pub fn soundness_laws()
 /// A flash of zero bytes with nothing pending is settled, as a new disk in memory is: `run` may begin on it.
 pub fn new_flash_laws<D: Disk>(flash: &D)
     ensures { IsSettled (D.flash flash.now) → AreZeros (D.flash flash.now).reads
-        → Settled VERSION_1 (D.flash flash.now) }
+        → Settled (D.flash flash.now) }
 {}
 
 /// A flash that reads a sound image and has nothing pending is settled, as a disk is that was started again on what a power
 /// loss left: `run` may go on from each image of a life.
 pub fn restart_laws<D: Disk>(flash: &D)
-    ensures { IsSettled (D.flash flash.now) → Sound VERSION_1 (D.flash flash.now).reads
-        → Settled VERSION_1 (D.flash flash.now) }
+    ensures { IsSettled (D.flash flash.now) → Sound (D.flash flash.now).reads
+        → Settled (D.flash flash.now) }
 {}
 
 /// A boot of a sound flash, and so of each image of a life, launches nothing, or just what the invocation procedure of the

@@ -192,12 +192,12 @@ pub fn run<H: Host, D: Disk, L: Launcher, K: Sink>(
     // Each launch has its digest, and its size where one is in force, whatever the host is and gives: of `run boot` on a sound
     // flash.
     ensures launches { IsTrue D.told → IsTrue L.told
-        → (task_of words.now ≡ Some RunBoot → Sound VERSION_1 (D.flash flash.old).reads)
+        → (task_of words.now ≡ Some RunBoot → Sound (D.flash flash.old).reads)
         → GainsSafe (L.launches launcher.old) (L.launches launcher.new) }
 
     // What power loss leaves of a settled flash is sound at each moment, and goes on from what was read at the start; at the
     // end the flash is settled again, unless it counted a fault.
-    ensures sound { IsTrue D.told → Settled VERSION_1 (D.flash flash.old)
+    ensures sound { IsTrue D.told → Settled (D.flash flash.old)
         → LeavesSound (D.flash flash.old) (D.flash flash.new)
         (D.faults flash.old) (D.faults flash.new) }
 

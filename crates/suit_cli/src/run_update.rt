@@ -63,7 +63,7 @@ fn update_by<H: Host, D: Disk, L: Launcher>(
         (⟦<L as SeenLauncher>⟧.seen launcher.old) (⟦<L as SeenLauncher>⟧.seen launcher.new)
         (⟦<H as SeenHost>⟧.seen host.old (⟦<D as SeenDisk>⟧.seen flash.old))
         (⟦<H as SeenHost>⟧.seen host.new (⟦<D as SeenDisk>⟧.seen flash.new)) (ended_of result) }
-    ensures keeps { IsTrue D.told → Settled VERSION_1 (D.flash flash.old)
+    ensures keeps { IsTrue D.told → Settled (D.flash flash.old)
         → KeepsAccepted
         (offer config.now.0 accepted.now.envelope.whole.now (admission_of accepted.now) uris.now)
         (⟦<L as SeenLauncher>⟧.seen launcher.old) (⟦<L as SeenLauncher>⟧.seen launcher.new)
@@ -119,7 +119,7 @@ pub(crate) fn run_update<H: Host, D: Disk, L: Launcher>(
     ensures extent { D.extent flash.new ≡ D.extent flash.old }
     ensures flash { IsTrue D.told → StaysInOrder (D.flash flash.old) (D.flash flash.new)
         (D.faults flash.old) (D.faults flash.new) }
-    ensures keeps { IsTrue D.told → Settled VERSION_1 (D.flash flash.old)
+    ensures keeps { IsTrue D.told → Settled (D.flash flash.old)
         → StaysOrKeeps name.now uris.now
         (⟦<L as SeenLauncher>⟧.seen launcher.old) (⟦<L as SeenLauncher>⟧.seen launcher.new)
         (⟦<H as SeenHost>⟧.seen host.old (⟦<D as SeenDisk>⟧.seen flash.old))

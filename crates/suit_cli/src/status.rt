@@ -5,7 +5,6 @@ ghost use Rattle.suit_edge.specs.Flash.{IsSame};
 ghost use Rattle.suit_params.specs.DigestBytes.{digest_bytes};
 ghost use Rattle.flash_layout.specs.declared.frame.TheConstants.{VERSION_1};
 ghost use Rattle.flash_layout.specs.Configs.{ConfigOf, Configured, IsAllowed};
-ghost use Rattle.flash_layout.specs.Frames.{head_of};
 ghost use Rattle.suit_cli.specs.declared.reply.Outcome.TheVariants as outcomes;
 ghost use Rattle.suit_cli.specs.Lines.{number_line};
 ghost use Rattle.suit_cli.specs.Outside.{Outside, with_flash};
@@ -38,7 +37,7 @@ pub(crate) fn config_in<D: Disk>(alloc: Global, flash: &mut D) -> Result<Config,
     ensures same { IsTrue D.told → IsSame (D.flash flash.old) (D.flash flash.new) }
 {
     match load_config(alloc, flash) {
-        Loaded::Config(layout, key) => Ok((layout, key)),
+        Loaded::Config(layout, key, _) => Ok((layout, key)),
         Loaded::Blank => Err(declined(Reply::fixed(alloc, Outcome::Unconfigured, "blank\n"))),
         Loaded::BadConfig => Err(declined(Reply::fixed(
             alloc,
@@ -53,8 +52,9 @@ pub(crate) fn config_in<D: Disk>(alloc: Global, flash: &mut D) -> Result<Config,
 // The record of a flash with this configuration that has one.
 fn record_in<D: Disk>(alloc: Global, flash: &mut D, config: &Config) -> Result<Record, Stop>
     requires allowed { IsAllowed VERSION_1 (D.extent flash.old) config.now.0 config.now.1 }
-    requires held { IsTrue D.told → ConfigOf VERSION_1 (D.extent flash.old)
-        (head_of VERSION_1 (D.flash flash.old).reads) (Configured config.now.0 config.now.1) }
+    requires held { IsTrue D.told
+        → ConfigOf (D.extent flash.old) (D.flash flash.old).reads
+        (Configured config.now.0 config.now.1 VERSION_1) }
     ensures finds { (here : Outside) → Does record_in
         (with_flash here (⟦<D as SeenDisk>⟧.seen flash.old))
         (with_flash here (⟦<D as SeenDisk>⟧.seen flash.new)) result }

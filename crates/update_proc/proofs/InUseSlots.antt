@@ -82,7 +82,7 @@ held_long : (held : Option Record) → IfSome held (IsLoadable VERSION_1) → le
 held_long None few = refl
 held_long (Some r) few = few.typed.active
 
-module _ (size : ℕ) (image : List ℕ) (layout : List Entry) (key : Key) (held : Option Record) (config : ConfigOf VERSION_1 size (head_of VERSION_1 image) (Configured layout key))
+module _ (size : ℕ) (image : List ℕ) (layout : List Entry) (key : Key) (held : Option Record) (config : ConfigOf size image (Configured layout key VERSION_1))
     (was : RecordOf VERSION_1 (head_of VERSION_1 image) held) (few : IfSome held (IsLoadable VERSION_1)) (within : List ℕ) (is : AreInUse layout (active_slots held) within) where
   low : (i : ℕ) → get_or (active_slots held) i 0 ≡ 0 → get_or within i 0 ≡ 0
   low i zero_is = ⊎_elim

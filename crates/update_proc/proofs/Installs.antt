@@ -1,17 +1,19 @@
 -- The flash while an envelope is written to a bank and recorded: it is sound, and goes on from what stood before.
-use Rattle.std.proofs.Common.{◌≡◌, inl, inr, ⊎_elim, ◌<◌, ◌≤◌, ℕ, ◌+◌, ◌-◌, Bool, true, false, if◌then◌else◌, List, length, get_or, Option, Some, None, IfSome, sym, ◌∙◌, subst, arith}
+use Rattle.std.proofs.Common.{◌≡◌, inl, inr, ⊎_elim, ◌<◌, ◌≤◌, ℕ, ◌+◌, ◌-◌, Bool, true, false, if◌then◌else◌, List, length, get_or, Option, Some, None, IfSome, refl, sym, ◌∙◌, subst, arith}
 use Rattle.std.proofs.lemmas.Bool.{cases_eq}
 use Rattle.suit_edge.specs.Flash.{Flash, ImageOn, IsFirmOn, IsSettled, Keeps, Passes}
 use Rattle.suit_edge.specs.FlashLaws.{joined, settled_firm, weakens}
 use Rattle.suit_params.specs.declared.digest.Digest.{Digest}
 use Rattle.suit_edge.specs.Ranges.{Outside, SameOn}
 use Rattle.suit_edge.specs.RangeLaws.{same_range}
+use Rattle.flash_layout.specs.declared.frame.Frame.{Frame}
 use Rattle.flash_layout.specs.declared.frame.TheConstants.{VERSION_1}
 use Rattle.flash_layout.specs.declared.key.Key.{Key}
 use Rattle.flash_layout.specs.declared.layout.Entry.{Entry}
 use Rattle.flash_layout.specs.declared.slot.Record.{Record}
 use Rattle.flash_layout.specs.ConfigPage.{IsConfigPage}
 use Rattle.flash_layout.specs.Configs.{ConfigOf, Configured}
+use Rattle.flash_layout.specs.ToldFrames.{by_version_1}
 use Rattle.flash_layout.specs.Frames.{bank_place, config_page_of, head_of, record_place}
 use Rattle.rollback_record.specs.declared.page.TheConstants.{RECORD_BYTES}
 use Rattle.rollback_record.specs.declared.spare.Spare.{Spare}
@@ -21,7 +23,7 @@ use Rattle.rollback_record.specs.RecordPage.{IsActiveSlot, IsInRange}
 use Rattle.rollback_record.specs.SettledLaws.{both}
 use Rattle.rollback_record.specs.SoundFlash.{Follows, IsInstalled, IsNoEarlier, Sound, recorded_bank}
 use Rattle.rollback_record.specs.SoundLaws.{IsCommitted, IsStillSound, SaysRecorded, SoundLaws}
-use Rattle.rollback_record.proofs.Pages.{config_in, head_long}
+use Rattle.rollback_record.proofs.Pages.{config_in}
 use Rattle.rollback_record.proofs.StillSound as recorded
 use Rattle.update_proc.specs.Banks.{BesideBank, bank_for, is_kept}
 use Rattle.update_proc.specs.Records.{new_record, next_generation}
@@ -64,7 +66,7 @@ says_same : (held : Option Record) (bytes a c : List ℕ) → IfSome held (IsLoa
 says_same held bytes a c few fits same = record { size = same.size; same = λ i says. same.same i (says_beside held bytes fits few i says) }
 
 module _ (laws : SoundLaws) (held : Option Record) (bytes a c : List ℕ) (large : 49152 ≤ length a) (few : IfSome held (IsLoadable VERSION_1)) (fits : length bytes ≤ 16384)
-    (was : RecordOf VERSION_1 (head_of VERSION_1 a) held) (sound : Sound VERSION_1 a) (same : SameOn (BesideBank held bytes) a c) where
+    (was : RecordOf VERSION_1 (head_of VERSION_1 a) held) (sound : Sound a) (same : SameOn (BesideBank held bytes) a c) where
   pub still : IsStillSound held a c
   still = laws.kept held a c large was (says_same held bytes a c few fits same) sound
 
@@ -81,9 +83,10 @@ module _ (held : Option Record) (bytes a c : List ℕ) (large : 49152 ≤ length
   }
 
   -- the configuration was the same
-  config_back : (layout : List Entry) (key : Key) → ConfigOf VERSION_1 (length c) (head_of VERSION_1 c) (Configured layout key) → ConfigOf VERSION_1 (length a) (head_of VERSION_1 a) (Configured layout key)
+  config_back : (layout : List Entry) (key : Key) → ConfigOf (length c) c (Configured layout key VERSION_1) → ConfigOf (length a) a (Configured layout key VERSION_1)
   config_back layout key is = record {
-    whole = head_long a large;
+    version = refl;
+    whole = omega (arith, large);
     typed = is.typed;
     page = subst (λ (n : ℕ). IsConfigPage VERSION_1 n (config_page_of VERSION_1 (head_of VERSION_1 a)) layout key) same.size (subst (λ (l : List ℕ). IsConfigPage VERSION_1 (length c) l layout key) config_same is.page);
   }
@@ -101,7 +104,7 @@ module _ (held : Option Record) (bytes a c : List ℕ) (large : 49152 ≤ length
 -- ---- the new record
 
 module _ (laws : SoundLaws) (held : Option Record) (new : Record) (bytes a made : List ℕ) (large : 49152 ≤ length a) (few : IfSome held (IsLoadable VERSION_1)) (fits : length bytes ≤ 16384)
-    (was : RecordOf VERSION_1 (head_of VERSION_1 a) held) (sound : Sound VERSION_1 a) (filled : IsFilled held new bytes a made) where
+    (was : RecordOf VERSION_1 (head_of VERSION_1 a) held) (sound : Sound a) (filled : IsFilled held new bytes a made) where
   made_still : IsStillSound held a made
   made_still = still laws held bytes a made large few fits was sound filled.beside
 
@@ -115,19 +118,20 @@ module _ (laws : SoundLaws) (held : Option Record) (new : Record) (bytes a made 
     record_is = is.record_is;
   }
 
-  recording_sound : new.bank < 2 → new.length ≤ 16384 → HasActiveSlots a new.active → MayBeInstalled a bytes new → (image : List ℕ) → IsRecording held new made image → Sound VERSION_1 image
+  recording_sound : new.bank < 2 → new.length ≤ 16384 → HasActiveSlots a new.active → MayBeInstalled a bytes new → (image : List ℕ) → IsRecording held new made image → Sound image
   recording_sound bank size active may image is =
       laws.committed held new made image (committing image is) (in_range held bytes a made large few filled.beside new bank size active)
-      (λ layout key config. subst (λ (l : List ℕ). IsInstalled layout key l new) (sym filled.holds) (may layout key (config_back held bytes a made large few filled.beside layout key config)))
+      (λ layout key frame config. subst (λ (f : Frame). IsInstalled layout key (recorded_bank f (head_of f made) new) new) (sym config.version)
+      (subst (λ (l : List ℕ). IsInstalled layout key l new) (sym filled.holds) (may layout key (config_back held bytes a made large few filled.beside layout key (by_version_1 (length made) made layout key frame config)))))
       made_still.sound
 
-  recording_follows : IfSome held (λ r. IsNoEarlier r new) → (image : List ℕ) → IsRecording held new made image → Follows VERSION_1 a image
-  recording_follows sure image is = laws.onward VERSION_1 a made image made_still.follows (laws.follows held new made image (committing image is) sure made_still.sound)
+  recording_follows : IfSome held (λ r. IsNoEarlier r new) → (image : List ℕ) → IsRecording held new made image → Follows a image
+  recording_follows sure image is = laws.onward a made image made_still.follows (laws.follows held new made image (committing image is) sure made_still.sound)
 
 -- ---- each image
 
 module _ (laws : SoundLaws) (held : Option Record) (new : Record) (bytes : List ℕ) (a : Flash) (large : 49152 ≤ length a.reads) (few : IfSome held (IsLoadable VERSION_1)) (fits : length bytes ≤ 16384)
-    (was : RecordOf VERSION_1 (head_of VERSION_1 a.reads) held) (sound : Sound VERSION_1 a.reads) (firm : IsFirmOn (InHead VERSION_1) a) where
+    (was : RecordOf VERSION_1 (head_of VERSION_1 a.reads) held) (sound : Sound a.reads) (firm : IsFirmOn (InHead VERSION_1) a) where
   -- while the bank is written
   pub filling_still : (image : List ℕ) → ImageOn (BesideBank held bytes) a image → IsStillSound held a.reads image
   filling_still image on =
@@ -135,11 +139,11 @@ module _ (laws : SoundLaws) (held : Option Record) (new : Record) (bytes : List 
       laws.kept held a.reads image large was
       (record { size = on.same.size ∙ sure.size; same = λ i says. on.same.same i (says_beside held bytes fits few i says) ∙ sure.same i (omega arith, omega (arith, says_head held few i says)) }) sound
 
-  pub installing_sound : new.bank < 2 → new.length ≤ 16384 → HasActiveSlots a.reads new.active → MayBeInstalled a.reads bytes new → (image : List ℕ) → IsInstalling held new bytes a image → Sound VERSION_1 image
+  pub installing_sound : new.bank < 2 → new.length ≤ 16384 → HasActiveSlots a.reads new.active → MayBeInstalled a.reads bytes new → (image : List ℕ) → IsInstalling held new bytes a image → Sound image
   installing_sound bank size active may image (Filling on) = (filling_still image on).sound
   installing_sound bank size active may image (Recording made filled is) = recording_sound laws held new bytes a.reads made large few fits was sound filled bank size active may image is
 
-  pub installing_follows : IfSome held (λ r. IsNoEarlier r new) → (image : List ℕ) → IsInstalling held new bytes a image → Follows VERSION_1 a.reads image
+  pub installing_follows : IfSome held (λ r. IsNoEarlier r new) → (image : List ℕ) → IsInstalling held new bytes a image → Follows a.reads image
   installing_follows sure image (Filling on) = (filling_still image on).follows
   installing_follows sure image (Recording made filled is) = recording_follows laws held new bytes a.reads made large few fits was sound filled sure image is
 
@@ -187,16 +191,16 @@ bank_small (Some r) image bytes few = either_small (is_kept (Some r) image bytes
 -- ---- all of it
 
 module _ (laws : SoundLaws) (held : Option Record) (bytes : List ℕ) (sequence : ℕ) (digest : Digest) (active : List ℕ) (a : Flash) (large : 49152 ≤ length a.reads) (few : IfSome held (IsLoadable VERSION_1)) (fits : length bytes ≤ 16384)
-    (was : RecordOf VERSION_1 (head_of VERSION_1 a.reads) held) (sound : Sound VERSION_1 a.reads) (firm : IsFirmOn (InHead VERSION_1) a) where
+    (was : RecordOf VERSION_1 (head_of VERSION_1 a.reads) held) (sound : Sound a.reads) (firm : IsFirmOn (InHead VERSION_1) a) where
   abbrev new : Record
   new = new_record held a.reads bytes sequence digest active
 
-  pub each_sound : (d : Flash) → HasActiveSlots a.reads active → Passes a d (IsInstalling held new bytes a) → MayBeInstalled a.reads bytes new → Passes a d (Sound VERSION_1)
+  pub each_sound : (d : Flash) → HasActiveSlots a.reads active → Passes a d (IsInstalling held new bytes a) → MayBeInstalled a.reads bytes new → Passes a d Sound
   each_sound d slots run may =
-      weakens a d (IsInstalling held new bytes a) (Sound VERSION_1) (installing_sound laws held new bytes a large few fits was sound firm (bank_small held a.reads bytes few) fits slots may) run
+      weakens a d (IsInstalling held new bytes a) Sound (installing_sound laws held new bytes a large few fits was sound firm (bank_small held a.reads bytes few) fits slots may) run
 
-  pub each_follows : (d : Flash) → Passes a d (IsInstalling held new bytes a) → IfSome held (λ r. IsNoEarlier r new) → Passes a d (Follows VERSION_1 a.reads)
-  each_follows d run sure = weakens a d (IsInstalling held new bytes a) (Follows VERSION_1 a.reads) (installing_follows laws held new bytes a large few fits was sound firm sure) run
+  pub each_follows : (d : Flash) → Passes a d (IsInstalling held new bytes a) → IfSome held (λ r. IsNoEarlier r new) → Passes a d (Follows a.reads)
+  each_follows d run sure = weakens a d (IsInstalling held new bytes a) (Follows a.reads) (installing_follows laws held new bytes a large few fits was sound firm sure) run
 
 -- the bank and the commit
 module _ (held : Option Record) (new code : Record) (bytes : List ℕ) (a c d : Flash) (same : code ≡ new) (kept : Keeps (BesideBank held bytes) a c) where

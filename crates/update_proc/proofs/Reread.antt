@@ -81,23 +81,23 @@ module _ (a b c : Flash) (same : IsSame a b) where
   pub since_read : (P : List ℕ → Type 0) → ((image : List ℕ) → Now a image → P image) → Passes b c P → Passes a c P
   since_read P here run = joined a b c P (weakens a b (Now a) P here same.images) run
 
-  pub sound_from : Settled VERSION_1 a → Passes b c (Sound VERSION_1) → Passes a c (Sound VERSION_1)
-  sound_from settled run = since_read (Sound VERSION_1) (each_sound VERSION_1 a settled) run
+  pub sound_from : Settled a → Passes b c Sound → Passes a c Sound
+  sound_from settled run = since_read Sound (each_sound a settled) run
 
-  pub follows_from : SoundLaws → Settled VERSION_1 a → Passes b c (Follows VERSION_1 b.reads) → Passes a c (Follows VERSION_1 a.reads)
+  pub follows_from : SoundLaws → Settled a → Passes b c (Follows b.reads) → Passes a c (Follows a.reads)
   follows_from laws settled run =
-      since_read (Follows VERSION_1 a.reads) (follows_now laws a settled)
-      (subst (λ (l : List ℕ). Passes b c (Follows VERSION_1 l)) same.reads run)
+      since_read (Follows a.reads) (follows_now laws a settled)
+      (subst (λ (l : List ℕ). Passes b c (Follows l)) same.reads run)
 
   pub settled_from : (size : ℕ) → IsFlash b size → IsSame b c ⊎ IsSettled c → IsSame a c ⊎ IsSettled c
   settled_from size law (inl is) = inl (same_flash_then a b c size law same is)
   settled_from size law (inr is) = inr is
 
   module _ (size : ℕ) (law : IsFlash a size) (layout : List Entry) (allowed : IsLayout VERSION_1 size layout) (places : Places) (tree : PlanTree)
-      (held : Option Record) (key : Key) (config : ConfigOf VERSION_1 size (head_of VERSION_1 a.reads) (Configured layout key)) (settled : Settled VERSION_1 a)
+      (held : Option Record) (key : Key) (config : ConfigOf size a.reads (Configured layout key VERSION_1)) (settled : Settled a)
       (was : RecordOf VERSION_1 (head_of VERSION_1 a.reads) held) (bytes : List ℕ) (sequence : ℕ) (digest : Digest) where
-    config_a : ConfigOf VERSION_1 (length a.reads) (head_of VERSION_1 a.reads) (Configured layout key)
-    config_a = subst (λ (n : ℕ). ConfigOf VERSION_1 n (head_of VERSION_1 a.reads) (Configured layout key)) (sym law.fits) config
+    config_a : ConfigOf (length a.reads) a.reads (Configured layout key VERSION_1)
+    config_a = subst (λ (n : ℕ). ConfigOf n a.reads (Configured layout key VERSION_1)) (sym law.fits) config
 
     -- an image that a power loss then may have left has the old record and the old contents
     old_now : (numbers : List ℕ) (image : List ℕ) → Now a image → IsOld layout places tree numbers held a.reads image

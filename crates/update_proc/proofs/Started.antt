@@ -18,6 +18,7 @@ use Rattle.flash_layout.specs.declared.place.Places.{Places}
 use Rattle.flash_layout.specs.declared.slot.Record.{Record}
 use Rattle.flash_layout.specs.Configs.{ConfigOf, Configured}
 use Rattle.flash_layout.specs.Frames.{head_of}
+use Rattle.flash_layout.specs.ToldFrames.{same_config}
 use Rattle.flash_layout.specs.Layouts.{IsLayout, IsTypedEntry}
 use Rattle.flash_layout.specs.Slots.{extent_of, slot_at}
 use Rattle.rollback_record.specs.Committing.{InHead}
@@ -40,7 +41,7 @@ use Rattle.update_proc.specs.Records.{new_record}
 use Rattle.update_proc.proofs.Finished.{not_held}
 use Rattle.update_proc.proofs.MomentProofs.{behind}
 use Rattle.update_proc.proofs.Numbering.{other_default}
-use Rattle.rollback_record.proofs.HeadSince.{config_there, follows_since, same_head, sound_since}
+use Rattle.rollback_record.proofs.HeadSince.{follows_since, same_head, sound_since}
 use Rattle.update_proc.proofs.WholeUpdate.{finished, head_out, kept_old, listed, reads_old, settled_head, settled_slots}
 
 none : Entry
@@ -101,13 +102,13 @@ module _ (laws : SoundLaws) (moments : EachMoment) (choosing : ChoiceLaw) (size 
     (places : Places) (tree : PlanTree) (held : Option Record) (few : IfSome held (IsLoadable VERSION_1)) (numbers : List ℕ) (standings : List Standing) (distinct : AreDistinct layout places)
     (choice : IsChoice layout (record { number = numbers })) (stand : StandAs layout places (record { number = numbers }) standings)
     (chosen : AreChosen layout places tree (active_slots held) numbers)
-    (a b : Flash) (law : IsFlash a size) (law_b : IsFlash b size) (key : Key) (config : ConfigOf VERSION_1 size (head_of VERSION_1 a.reads) (Configured layout key))
+    (a b : Flash) (law : IsFlash a size) (law_b : IsFlash b size) (key : Key) (config : ConfigOf size a.reads (Configured layout key VERSION_1))
     (was : RecordOf VERSION_1 (head_of VERSION_1 a.reads) held) (kept : Keeps (OutsideTargets tree standings) a b) where
   typed : All IsTypedEntry layout
   typed = config.typed.entries
 
-  config_a : ConfigOf VERSION_1 (length a.reads) (head_of VERSION_1 a.reads) (Configured layout key)
-  config_a = subst (λ (n : ℕ). ConfigOf VERSION_1 n (head_of VERSION_1 a.reads) (Configured layout key)) (sym law.fits) config
+  config_a : ConfigOf (length a.reads) a.reads (Configured layout key VERSION_1)
+  config_a = subst (λ (n : ℕ). ConfigOf n a.reads (Configured layout key VERSION_1)) (sym law.fits) config
 
   kept_touched : Keeps (OutsideTouched layout places tree numbers) a b
   kept_touched = keeps_fewer (OutsideTouched layout places tree numbers) (OutsideTargets tree standings) (touched_outside layout places tree numbers standings distinct choice stand) a b kept
@@ -122,7 +123,7 @@ module _ (laws : SoundLaws) (moments : EachMoment) (choosing : ChoiceLaw) (size 
   was_b = subst (λ (h : List ℕ). RecordOf VERSION_1 h held) (sym head_b) was
 
   pub active_b : HasActiveSlots b.reads numbers
-  active_b = choosing b.reads layout key held places tree numbers (config_there a.reads a.reads b.reads kept_head.reads.size head_b layout key config_a) was_b chosen
+  active_b = choosing b.reads layout key held places tree numbers (same_config a.reads b.reads kept_head.reads.size head_b (Configured layout key VERSION_1) config_a) was_b chosen
 
   -- the procedure changed no content but those of slots that may be written
   pub contents_made : KeepsContents layout places tree numbers a.reads b.reads
@@ -136,18 +137,18 @@ module _ (laws : SoundLaws) (moments : EachMoment) (choosing : ChoiceLaw) (size 
   pub new_as : (bytes : List ℕ) (sequence : ℕ) (digest : Digest) → new_record held b.reads bytes sequence digest numbers ≡ new_record held a.reads bytes sequence digest numbers
   new_as bytes sequence digest = same_new held a.reads b.reads bytes sequence digest numbers head_b
 
-  module _ (settled : Settled VERSION_1 a) where
+  module _ (settled : Settled a) where
     pub firm_b : IsFirmOn (InHead VERSION_1) b
     firm_b = firm_then (InHead VERSION_1) a b size law_b (head_is_firm a settled) kept_head
 
-    sound_run : Passes a b (Sound VERSION_1)
+    sound_run : Passes a b Sound
     sound_run = sound_since laws a b size law large settled kept_head
 
-    follows_run : Passes a b (Follows VERSION_1 a.reads)
+    follows_run : Passes a b (Follows a.reads)
     follows_run = follows_since laws a b size law large settled kept_head
 
-    pub sound_b : Sound VERSION_1 b.reads
-    sound_b = each_read a b size (Sound VERSION_1) law_b sound_run
+    pub sound_b : Sound b.reads
+    sound_b = each_read a b size Sound law_b sound_run
 
     -- ---- behind it
 
@@ -195,18 +196,18 @@ module _ (laws : SoundLaws) (moments : EachMoment) (choosing : ChoiceLaw) (size 
           (settled_head layout key a settled config_a) (settled_slots layout key a settled config_a (listed size layout allowed typed none))
           b law_b kept_touched.images laws new bytes few fits sound_b firm_b d still
 
-      pub sound_all : (IsFirmOn (InHead VERSION_1) b → Sound VERSION_1 b.reads → MayBeInstalled b.reads bytes (new_record held b.reads bytes sequence digest numbers) → Passes b d (NowOr (Sound VERSION_1) b)) → MayBeInstalled a.reads bytes new → Passes a d (Sound VERSION_1)
+      pub sound_all : (IsFirmOn (InHead VERSION_1) b → Sound b.reads → MayBeInstalled b.reads bytes (new_record held b.reads bytes sequence digest numbers) → Passes b d (NowOr Sound b)) → MayBeInstalled a.reads bytes new → Passes a d Sound
       sound_all to may =
-          joined a b d (Sound VERSION_1) sound_run
-          (weakens b d (NowOr (Sound VERSION_1) b) (Sound VERSION_1) (λ image is. ⊎_elim (λ now. each_now a b size (Sound VERSION_1) law_b sound_run image now) (λ s. s) is)
+          joined a b d Sound sound_run
+          (weakens b d (NowOr Sound b) Sound (λ image is. ⊎_elim (λ now. each_now a b size Sound law_b sound_run image now) (λ s. s) is)
           (to firm_b sound_b (λ l k there. subst (λ (r : Record). IsInstalled l k bytes r) (sym new_is)
-          (may l k (config_there b.reads b.reads a.reads (sym kept_head.reads.size) (sym head_b) l k there)))))
+          (may l k (same_config b.reads a.reads (sym kept_head.reads.size) (sym head_b) (Configured l k VERSION_1) there)))))
 
-      pub follows_all : (IsFirmOn (InHead VERSION_1) b → Sound VERSION_1 b.reads → IfSome held (λ r. IsNoEarlier r (new_record held b.reads bytes sequence digest numbers)) → Passes b d (NowOr (Follows VERSION_1 b.reads) b))
-          → IfSome held (λ r. IsNoEarlier r (new_record held b.reads bytes sequence digest numbers)) → Passes a d (Follows VERSION_1 a.reads)
+      pub follows_all : (IsFirmOn (InHead VERSION_1) b → Sound b.reads → IfSome held (λ r. IsNoEarlier r (new_record held b.reads bytes sequence digest numbers)) → Passes b d (NowOr (Follows b.reads) b))
+          → IfSome held (λ r. IsNoEarlier r (new_record held b.reads bytes sequence digest numbers)) → Passes a d (Follows a.reads)
       follows_all to sure =
-          joined a b d (Follows VERSION_1 a.reads) follows_run
-          (weakens b d (NowOr (Follows VERSION_1 b.reads) b) (Follows VERSION_1 a.reads)
-          (λ image is. ⊎_elim (λ now. each_now a b size (Follows VERSION_1 a.reads) law_b follows_run image now)
-          (λ f. laws.onward VERSION_1 a.reads b.reads image (each_read a b size (Follows VERSION_1 a.reads) law_b follows_run) f) is)
+          joined a b d (Follows a.reads) follows_run
+          (weakens b d (NowOr (Follows b.reads) b) (Follows a.reads)
+          (λ image is. ⊎_elim (λ now. each_now a b size (Follows a.reads) law_b follows_run image now)
+          (λ f. laws.onward a.reads b.reads image (each_read a b size (Follows a.reads) law_b follows_run) f) is)
           (to firm_b sound_b sure))

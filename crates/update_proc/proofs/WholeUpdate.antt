@@ -73,7 +73,7 @@ module _ (size : ℕ) (layout : List Entry) (laws : MomentLaws size layout) (pla
   -- ---- and while its envelope is written and recorded
 
   module _ (b : Flash) (law_b : IsFlash b size) (run : Passes a b (ImageOn (OutsideTouched layout places tree numbers) a)) (sound_laws : SoundLaws) (new : Record) (bytes : List ℕ) (few : IfSome held (IsLoadable VERSION_1)) (fits : length bytes ≤ 16384)
-      (sound : Sound VERSION_1 b.reads) (firm : IsFirmOn (InHead VERSION_1) b) where
+      (sound : Sound b.reads) (firm : IsFirmOn (InHead VERSION_1) b) where
     old_run : Passes a b (IsOld layout places tree numbers held a.reads)
     old_run = weakens a b (ImageOn (OutsideTouched layout places tree numbers) a) (IsOld layout places tree numbers held a.reads) still_old run
 
@@ -115,10 +115,10 @@ module _ (size : ℕ) (layout : List Entry) (laws : MomentLaws size layout) (pla
 
 -- ---- on a settled flash
 
-module _ (layout : List Entry) (key : Key) (a : Flash) (settled : Settled VERSION_1 a) (config : ConfigOf VERSION_1 (length a.reads) (head_of VERSION_1 a.reads) (Configured layout key)) where
+module _ (layout : List Entry) (key : Key) (a : Flash) (settled : Settled a) (config : ConfigOf (length a.reads) a.reads (Configured layout key VERSION_1)) where
   pub settled_head : (image : List ℕ) → Now a image → head_of VERSION_1 image ≡ head_of VERSION_1 a.reads
   settled_head image now = (settled.sure image now).head
 
   pub settled_slots : ((i n : ℕ) (s : Slot) → IsSlotOf layout i n s → Contains (layout_slots layout) s) → (image : List ℕ) → Now a image → HasContentsOf layout a.reads image
   settled_slots listed image now i n slot is =
-      All-contains (λ s. slot_content s image ≡ slot_content s a.reads) (layout_slots layout) slot ((settled.sure image now).slots layout key config) (listed i n slot is)
+      All-contains (λ s. slot_content s image ≡ slot_content s a.reads) (layout_slots layout) slot ((settled.sure image now).slots layout key VERSION_1 config) (listed i n slot is)

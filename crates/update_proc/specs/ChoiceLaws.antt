@@ -16,5 +16,5 @@ use Rattle.update_proc.specs.Installing.{HasActiveSlots}
 abbrev pub ChoiceLaw : Type 0
 ChoiceLaw =
     (image : List ℕ) (layout : List Entry) (key : Key) (held : Option Record) (places : Places) (tree : PlanTree) (numbers : List ℕ)
-    → ConfigOf VERSION_1 (length image) (head_of VERSION_1 image) (Configured layout key) → RecordOf VERSION_1 (head_of VERSION_1 image) held
+    → ConfigOf (length image) image (Configured layout key VERSION_1) → RecordOf VERSION_1 (head_of VERSION_1 image) held
     → AreChosen layout places tree (active_slots held) numbers → HasActiveSlots image numbers

@@ -24,7 +24,7 @@ pub record IsFilled (held : Option Record) (new : Record) (bytes before made : L
 -- a flash of this size that reads so has the layout, under some key
 abbrev pub HasLayout : ℕ → List ℕ → List Entry → Type 0
 HasLayout size image layout =
-    (key : Key) × ConfigOf VERSION_1 size (head_of VERSION_1 image) (Configured layout key)
+    (key : Key) × ConfigOf size image (Configured layout key VERSION_1)
 
 -- the places of the slots
 abbrev pub BehindHead : ℕ → Type 0
@@ -66,5 +66,5 @@ pub record MayInstall (size : ℕ) (held : Option Record) (bytes : List ℕ) : T
 abbrev pub MayBeInstalled : List ℕ → List ℕ → Record → Type 0
 MayBeInstalled image bytes new =
     (layout : List Entry) (key : Key)
-    → ConfigOf VERSION_1 (length image) (head_of VERSION_1 image) (Configured layout key)
+    → ConfigOf (length image) image (Configured layout key VERSION_1)
     → IsInstalled layout key bytes new

@@ -89,16 +89,16 @@ pub(crate) fn finish<D: Disk>(
         bytes.now start) start) }
     ensures sound { IsTrue D.told → let held = option_map (λ r. r.now) held.entry in
         let start = D.flash disk.old in
-        IsFirmOn (InHead VERSION_1) start → Sound VERSION_1 start.reads
+        IsFirmOn (InHead VERSION_1) start → Sound start.reads
         → MayBeInstalled start.reads bytes.now
         (new_record held start.reads bytes.now offer.now.sequence offer.now.digest offer.now.active)
-        → Passes start (D.flash disk.new) (NowOr (Sound VERSION_1) start) }
+        → Passes start (D.flash disk.new) (NowOr Sound start) }
     ensures follows { IsTrue D.told → let held = option_map (λ r. r.now) held.entry in
         let start = D.flash disk.old in
-        IsFirmOn (InHead VERSION_1) start → Sound VERSION_1 start.reads
+        IsFirmOn (InHead VERSION_1) start → Sound start.reads
         → IfSome held (λ r. IsNoEarlier r (new_record held start.reads bytes.now offer.now.sequence
         offer.now.digest offer.now.active))
-        → Passes start (D.flash disk.new) (NowOr (Follows VERSION_1 start.reads) start) }
+        → Passes start (D.flash disk.new) (NowOr (Follows start.reads) start) }
     ensures grows { IsTrue D.told → Grows (D.flash disk.old) (D.flash disk.new) }
 {
     match end {

@@ -98,7 +98,7 @@ pub fn update<H: Host, D: Disk, L: Launcher>(
         (hosted H.told (H.file host.old) (H.asked host.old) (H.asked host.new)))
         (D.flash disk.old).reads made (L.launches launcher.old) (L.launches launcher.new) end)
         (D.flash disk.old).reads (L.launches launcher.old) (L.launches launcher.new) }
-    ensures keeps { IsTrue D.told → Settled VERSION_1 (D.flash disk.old)
+    ensures keeps { IsTrue D.told → Settled (D.flash disk.old)
         → let start = D.flash disk.old in
         let bytes = trimmed envelope.now.wrapper.now envelope.now.manifest.now in
         ForOffer start.reads envelope.now.wrapper.now (λ held digest.
@@ -115,7 +115,7 @@ pub fn update<H: Host, D: Disk, L: Launcher>(
         KeptSo (LeavesUpdate layout.now places.now (update_tree manifest.now members.now) held
         (λ numbers. new_record held start bytes manifest.now.sequence digest numbers)
         start (D.flash disk.new).reads result) ((D.flash disk.new).reads ≡ start) result) }
-    ensures sound { IsTrue D.told → Settled VERSION_1 (D.flash disk.old)
+    ensures sound { IsTrue D.told → Settled (D.flash disk.old)
         → let start = D.flash disk.old in
         let bytes = trimmed envelope.now.wrapper.now envelope.now.manifest.now in
         ForOffer start.reads envelope.now.wrapper.now (λ held digest.
@@ -123,10 +123,10 @@ pub fn update<H: Host, D: Disk, L: Launcher>(
         (active_slots held) numbers
         → MayBeInstalled start.reads bytes
         (new_record held start.reads bytes manifest.now.sequence digest numbers))
-        → Passes start (D.flash disk.new) (Sound VERSION_1)) }
-    ensures follows { IsTrue D.told → Settled VERSION_1 (D.flash disk.old)
+        → Passes start (D.flash disk.new) Sound) }
+    ensures follows { IsTrue D.told → Settled (D.flash disk.old)
         → Passes (D.flash disk.old) (D.flash disk.new)
-        (Follows VERSION_1 (D.flash disk.old).reads) }
+        (Follows (D.flash disk.old).reads) }
     ensures settled { IsTrue D.told → IfUnfaulted result
         (IsSame (D.flash disk.old) (D.flash disk.new) ⊎ IsSettled (D.flash disk.new)) }
     ensures later { IsTrue D.told → (D.flash disk.old).clock ≤ (D.flash disk.new).clock }

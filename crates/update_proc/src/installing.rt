@@ -75,16 +75,16 @@ pub fn install<D: Disk>(
         bytes.now start) }
     ensures sound { IsTrue D.told → let held = option_map (λ r. r.now) held.entry in
         let start = D.flash disk.old in
-        IsFirmOn (InHead VERSION_1) start → Sound VERSION_1 start.reads
+        IsFirmOn (InHead VERSION_1) start → Sound start.reads
         → MayBeInstalled start.reads bytes.now
         (new_record held start.reads bytes.now offer.now.sequence offer.now.digest offer.now.active)
-        → Passes start (D.flash disk.new) (Sound VERSION_1) }
+        → Passes start (D.flash disk.new) Sound }
     ensures follows { IsTrue D.told → let held = option_map (λ r. r.now) held.entry in
         let start = D.flash disk.old in
-        IsFirmOn (InHead VERSION_1) start → Sound VERSION_1 start.reads
+        IsFirmOn (InHead VERSION_1) start → Sound start.reads
         → IfSome held (λ r. IsNoEarlier r (new_record held start.reads bytes.now offer.now.sequence
         offer.now.digest offer.now.active))
-        → Passes start (D.flash disk.new) (Follows VERSION_1 start.reads) }
+        → Passes start (D.flash disk.new) (Follows start.reads) }
     ensures grows { IsTrue D.told → Grows (D.flash disk.old) (D.flash disk.new) }
 {
     sound_laws();

@@ -117,7 +117,7 @@ pub(crate) fn start<H: Host, D: Disk, L: Launcher>(
         (D.flash disk.old).reads made (L.launches launcher.old) (L.launches launcher.new) end)
         ((D.flash disk.new).reads ≡ (D.flash disk.old).reads) layout.now
         (D.flash disk.new).reads (L.launches launcher.old) (L.launches launcher.new) result }
-    ensures keeps { IsTrue D.told → Settled VERSION_1 (D.flash disk.old)
+    ensures keeps { IsTrue D.told → Settled (D.flash disk.old)
         → let held = option_map (λ r. r.now) accepted.now.held in
         let start = D.flash disk.old in
         KeptSo (KeepsUpdate layout.now places.now (plan_tree accepted.now.plan.now)
@@ -135,7 +135,7 @@ pub(crate) fn start<H: Host, D: Disk, L: Launcher>(
         accepted.now.digest numbers)
         start (D.flash disk.new).reads result) ((D.flash disk.new).reads ≡ start) result }
     ensures grows { IsTrue D.told → Grows (D.flash disk.old) (D.flash disk.new) }
-    ensures sound { IsTrue D.told → Settled VERSION_1 (D.flash disk.old)
+    ensures sound { IsTrue D.told → Settled (D.flash disk.old)
         → let held = option_map (λ r. r.now) accepted.now.held in
         let start = D.flash disk.old in
         ((numbers : List ℕ) → AreChosen layout.now places.now (plan_tree accepted.now.plan.now)
@@ -143,10 +143,10 @@ pub(crate) fn start<H: Host, D: Disk, L: Launcher>(
         → MayBeInstalled start.reads accepted.now.bytes.now
         (new_record held start.reads accepted.now.bytes.now accepted.now.sequence
         accepted.now.digest numbers))
-        → Passes start (D.flash disk.new) (Sound VERSION_1) }
-    ensures follows { IsTrue D.told → Settled VERSION_1 (D.flash disk.old)
+        → Passes start (D.flash disk.new) Sound }
+    ensures follows { IsTrue D.told → Settled (D.flash disk.old)
         → Passes (D.flash disk.old) (D.flash disk.new)
-        (Follows VERSION_1 (D.flash disk.old).reads) }
+        (Follows (D.flash disk.old).reads) }
 {
     record_laws();
     sound_laws();

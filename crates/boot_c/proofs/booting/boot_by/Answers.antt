@@ -1,31 +1,54 @@
-use Rattle.std.proofs.Common.{◌≡◌, ◌∙◌, ap, inl, inr, refl, subst, sym, ℕ, List, [], ◌∷◌, Some, None}
+use Rattle.std.proofs.Common.{◌≡◌, ◌⊎◌, ◌∙◌, ap, inl, inr, refl, subst, sym, ℕ, List, [], ◌∷◌, length, Some, None}
 use Rattle.boot_c.specs.Images.{IsLaunched}
 use Rattle.step_machine.specs.declared.plan_end.PlanEnd.TheVariants as plays
-use Rattle.boot_c.specs.BootAnswers.{boot_answer}
+use Rattle.boot_c.specs.BootAnswers.{IsAnswer, boot_answer}
 use Rattle.boot_c.proofs.Images.{one_safe, only_ended}
-use Rattle.flash_layout.specs.declared.frame.TheConstants.{VERSION_1}
+use Rattle.flash_layout.specs.declared.key.Key.{Key}
+use Rattle.flash_layout.specs.declared.layout.Entry.{Entry}
 use Rattle.flash_view.specs.Noting.{launches_in, launches_of, noted_launch}
 use Rattle.flash_view.specs.ViewDisk.{ViewState}
+use Rattle.invoke_proc.specs.Banks.{config_in}
 use Rattle.invoke_proc.specs.Booting.{Answers, PlayedSo, PlaysBoot}
 use Rattle.invoke_proc.specs.declared.boot_end.BootEnd.{BootEnd}
+use Rattle.invoke_proc.specs.declared.boot_end.BootEnd.TheVariants as ends
 use Rattle.rollback_record.specs.SoundFlash.{Sound}
+use Rattle.suit_answers.specs.declared.answer.Answer.{Answer}
+use Rattle.suit_answers.specs.declared.answer.Answer.TheVariants as answers
 use Rattle.suit_edge.specs.declared.launch.Launch.{Launch}
 use Rattle.boot_c.proofs.booting.boot_by.Goals as goal
 
+-- a boot by the configuration ended so, on the disk that views the flash
+ended_so : (flash : List ℕ) (layout : List Entry) (key : Key) (disk : ViewState) (end : BootEnd) (answer : Answer) → disk ≡ record { bytes = flash; faults = 0 } → config_in (length flash) flash layout key
+    → Answers layout key disk.bytes end → (answer ≡ boot_answer end) ⊎ ((end ≡ ends.Ended) × (answer ≡ answers.LaunchFault)) → IsAnswer flash answer
+ended_so flash layout key disk end answer same config ended told = inr (inr (inr (record {
+  layout = layout;
+  key = key;
+  config = config;
+  end = end;
+  ended = subst (λ (d : ViewState). Answers layout key d.bytes end) same ended;
+  told = told;
+})))
+
 pub returns-in_default-end : goal.returns-in_default-end
 returns-in_default-end c = record {
-  answers = inr (inr (inr (record {
-    layout = c.args.layout.now;
-    key = c.args.key.now;
-    config = c.requires.held;
-    end = c.boot-end.result;
-    ended = subst (λ (d : ViewState). Answers c.args.layout.now c.args.key.now d.bytes c.boot-end.result) c.new-disk.ensures (c.boot-end.ensures.answers refl);
-    told = inl c.boot_answer-answer.ensures;
-  })));
+  answers = ended_so c.args.flash.now c.args.layout.now c.args.key.now c.new-disk.result c.boot-end.result c.boot_answer-answer.result c.new-disk.ensures c.requires.held (c.boot-end.ensures.answers refl) (inl c.boot_answer-answer.ensures);
   image = tt;
   within = tt;
   none = λ done. λ none. absurd (c.in_default-end.not-Ended (only_ended c.boot-end.result (sym c.boot_answer-answer.ensures ∙ done)));
 }
+
+pub returns-in_default-noted-clause-answers : goal.returns-in_default-noted-clause-answers
+returns-in_default-noted-clause-answers c =
+    ended_so c.args.flash.now c.args.layout.now c.args.key.now c.new-disk.result c.boot-end.result c.boot_answer-answer.result c.new-disk.ensures c.requires.held (c.boot-end.ensures.answers refl) (inl c.boot_answer-answer.ensures)
+
+pub returns-in-Some-image_in-clause-answers : goal.returns-in-Some-image_in-clause-answers
+returns-in-Some-image_in-clause-answers c =
+    ended_so c.args.flash.now c.args.layout.now c.args.key.now c.new-disk.result c.boot-end.result c.boot_answer-answer.result c.new-disk.ensures c.requires.held (c.boot-end.ensures.answers refl) (inl c.boot_answer-answer.ensures)
+
+-- an image without a digest is no image
+pub returns-in-None-clause-answers : goal.returns-in-None-clause-answers
+returns-in-None-clause-answers c =
+    ended_so c.args.flash.now c.args.layout.now c.args.key.now c.new-disk.result c.boot-end.result answers.LaunchFault c.new-disk.ensures c.requires.held (c.boot-end.ensures.answers refl) (inr (c.in-Ended.is, refl))
 
 pub returns-in-Some-image_in-clause-image : goal.returns-in-Some-image_in-clause-image
 returns-in-Some-image_in-clause-image c =
@@ -47,6 +70,6 @@ returns-in-Some-image_in-clause-image c =
         plays = subst (λ (d : ViewState). PlaysBoot c.args.layout.now c.args.key.now (λ _. None) d.bytes c.boot-end.new.disk.bytes [] (launch ∷ []) plays.Done) c.new-disk.ensures
             (subst (λ (l : List Launch). PlaysBoot c.args.layout.now c.args.key.now (λ _. None) c.new-disk.result.bytes c.boot-end.new.disk.bytes l (launch ∷ []) plays.Done) none
             (subst (λ (l : List Launch). PlaysBoot c.args.layout.now c.args.key.now (λ _. None) c.new-disk.result.bytes c.boot-end.new.disk.bytes (launches_of c.new-launcher.result) l plays.Done) one played));
-        safe = λ sound. one_safe (launches_of c.new-launcher.result) (launches_of launcher) launch none one (c.boot-end.ensures.safe refl refl (subst (λ (d : ViewState). Sound VERSION_1 d.bytes) (sym c.new-disk.ensures) sound));
+        safe = λ sound. one_safe (launches_of c.new-launcher.result) (launches_of launcher) launch none one (c.boot-end.ensures.safe refl refl (subst (λ (d : ViewState). Sound d.bytes) (sym c.new-disk.ensures) sound));
       },
     )

@@ -1,7 +1,6 @@
 use Rattle.std.proofs.Common.{◌≡◌, ℕ, sym, subst}
 use Rattle.flash_layout.specs.declared.frame.TheConstants.{VERSION_1}
 use Rattle.flash_layout.specs.Configs.{ConfigOf, Configured}
-use Rattle.flash_layout.specs.Frames.{head_of}
 use Rattle.rollback_record.specs.SoundFlash.{Settled}
 use Rattle.invoke_proc.specs.Booting.{PlaysBoot}
 use Rattle.invoke_proc.proofs.HostNever.{never_host}
@@ -14,7 +13,7 @@ pub returns-clause-unrefused : goal.returns-clause-unrefused
 returns-clause-unrefused g c t sound =
     let d = g.D.Disk in
     let reads = (d.flash c.args.disk.now).reads in
-    let config = subst (λ (n : ℕ). ConfigOf VERSION_1 n (head_of VERSION_1 reads) (Configured c.args.layout.now c.args.key.now)) (sym (g.met.D.Disk.obeys c.args.disk.now t).fits) (c.requires.held t) in
+    let config = subst (λ (n : ℕ). ConfigOf n reads (Configured c.args.layout.now c.args.key.now VERSION_1)) (sym (g.met.D.Disk.obeys c.args.disk.now t).fits) (c.requires.held t) in
     unrefused c.config_laws.ensures.answer c.record_laws.ensures.answer c.boot_laws.ensures c.args.layout.now c.args.key.now reads config c.start_installed.result sound
     (c.start_installed.ensures.answers t)
 
@@ -35,7 +34,7 @@ returns-clause-safe g c td tl sound =
     let files = g.H.Host.file c.args.host.now in
     let launched = g.L.Launcher.launches c.args.launcher.now in
     let now = g.L.Launcher.launches c.start_installed.new.launcher in
-    let config = subst (λ (n : ℕ). ConfigOf VERSION_1 n (head_of VERSION_1 reads) (Configured layout key)) (sym (g.met.D.Disk.obeys c.args.disk.now td).fits) (c.requires.held td) in
+    let config = subst (λ (n : ℕ). ConfigOf n reads (Configured layout key VERSION_1)) (sym (g.met.D.Disk.obeys c.args.disk.now td).fits) (c.requires.held td) in
     played_gains c.play_laws.ensures.safe c.play_laws.ensures.faulted_safe c.manifest_laws.ensures size layout c.requires.allowed.layout_is c.has_identifiers.ensures key files reads after launched now
     (PlaysBoot layout key files reads after launched now) (after ≡ reads) c.start_installed.result
     (λ end p. gains c.play_laws.ensures.safe c.play_laws.ensures.faulted_safe c.manifest_laws.ensures size layout c.requires.allowed.layout_is c.has_identifiers.ensures key files reads after launched now end p
@@ -57,6 +56,6 @@ returns-clause-settled g c t settled =
     let d = g.D.Disk in
     let a = d.flash c.args.disk.now in
     let b = d.flash c.start_installed.new.disk in
-    unfaulted _ (Settled VERSION_1 b) c.start_installed.result
+    unfaulted _ (Settled b) c.start_installed.result
     (settled_end a b _ (g.met.D.Disk.obeys c.start_installed.new.disk t) settled (returns-clause-sound g c t settled))
     (c.start_installed.ensures.settled t)

@@ -1,3 +1,4 @@
+use Rattle.rollback_record.specs.SettledLaws.{same_sound}
 use Rattle.rollback_record.proofs.Sounds as sounds
 use Rattle.rollback_record.proofs.StillSound.{still_sound}
 use Rattle.rollback_record.proofs.sound_law.sound_laws.Goals as goal
@@ -9,7 +10,7 @@ returns c = record {
   committed = sounds.committed;
   follows = sounds.follows;
   kept = still_sound;
-  same = sounds.same_sound;
+  same = same_sound;
   itself = sounds.itself;
   onward = sounds.onward c.config_laws.ensures.answer;
 }

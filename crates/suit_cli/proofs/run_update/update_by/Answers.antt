@@ -2,7 +2,6 @@ use Rattle.std.proofs.Common.{ℕ, ◌^◌, inr, ⊎_elim, refl, sym, ap, subst}
 use Rattle.suit_edge.specs.FlashLaws.{same_flash}
 use Rattle.flash_layout.specs.declared.frame.TheConstants.{VERSION_1}
 use Rattle.flash_layout.specs.Configs.{ConfigOf, Configured}
-use Rattle.flash_layout.specs.Frames.{head_of}
 use Rattle.rollback_record.specs.SoundFlash.{Settled}
 use Rattle.admission.specs.Admission.{admission_of}
 use Rattle.step_machine.specs.Fetching.{asked_at}
@@ -83,8 +82,8 @@ returns-in-Err-clause-flash g c told = order_start c.sound_laws.ensures _ _
 pub returns-clause-flash : goal.returns-clause-flash
 returns-clause-flash g c told =
     let a = g.D.Disk.flash c.args.flash.now in
-    let config = subst (λ (n : ℕ). ConfigOf VERSION_1 n (head_of VERSION_1 a.reads) (Configured c.args.config.now.0 c.args.config.now.1)) (sym (g.met.D.Disk.obeys c.args.flash.now told).fits) (c.requires.held told) in
-    let sound = λ (settled : Settled VERSION_1 a). sound_update c.config_laws.ensures.answer c.args.config.now.0 c.args.config.now.1 a.reads config c.installation_laws.ensures c.args.accepted.now.envelope.whole.now (admission_of c.args.accepted.now) (facts c.args.config.now.0 c.args.config.now.1 c.args.accepted.now.envelope.whole.now (admission_of c.args.accepted.now) c.requires.accepted)
+    let config = subst (λ (n : ℕ). ConfigOf n a.reads (Configured c.args.config.now.0 c.args.config.now.1 VERSION_1)) (sym (g.met.D.Disk.obeys c.args.flash.now told).fits) (c.requires.held told) in
+    let sound = λ (settled : Settled a). sound_update c.config_laws.ensures.answer c.args.config.now.0 c.args.config.now.1 a.reads config c.installation_laws.ensures c.args.accepted.now.envelope.whole.now (admission_of c.args.accepted.now) (facts c.args.config.now.0 c.args.config.now.1 c.args.accepted.now.envelope.whole.now (admission_of c.args.accepted.now) c.requires.accepted)
     a (g.D.Disk.flash c.update-end.new.disk) settled.sound (c.update-end.ensures.sound told settled) in
     record {
       any_moment = record { later = c.update-end.ensures.later told; each = λ image may. tt; before = λ t image le may. inr tt };

@@ -5,7 +5,7 @@ use Rattle.suit_commands.specs.Plans.{plan_tree}
 use Rattle.suit_commands.specs.Tree.{PlanTree}
 use Rattle.step_machine.specs.PlanRuns.{Counts, counts_of}
 use Rattle.suit_edge.specs.Flash.{IsFlash, IsSame, IsSettled, Now, Passes}
-use Rattle.suit_edge.specs.FlashLaws.{same_flash_then, weakens}
+use Rattle.suit_edge.specs.FlashLaws.{grows_then, same_flash_then, weakens}
 use Rattle.suit_envelope.specs.Payloads.{HasPayloads}
 use Rattle.suit_envelope.specs.Trimmed.{trimmed}
 use Rattle.suit_manifest.specs.Procedures.{update_tree}
@@ -35,11 +35,11 @@ held_of held = option_map (λ r. r.now) held
 
 pub returns-in-Err-clause-sound : goal.returns-in-Err-clause-sound
 returns-in-Err-clause-sound g c t settled held digest blocks there said may =
-    weakens (g.D.Disk.flash c.args.disk.now) (g.D.Disk.flash c.load_pages_by.new.disk) (Now (g.D.Disk.flash c.args.disk.now)) (Sound VERSION_1) (each_sound VERSION_1 (g.D.Disk.flash c.args.disk.now) settled) (c.in-Err.ensures.same t).images
+    weakens (g.D.Disk.flash c.args.disk.now) (g.D.Disk.flash c.load_pages_by.new.disk) (Now (g.D.Disk.flash c.args.disk.now)) Sound (each_sound (g.D.Disk.flash c.args.disk.now) settled) (c.in-Err.ensures.same t).images
 
 pub returns-in-Err-clause-follows : goal.returns-in-Err-clause-follows
 returns-in-Err-clause-follows g c t settled =
-    weakens (g.D.Disk.flash c.args.disk.now) (g.D.Disk.flash c.load_pages_by.new.disk) (Now (g.D.Disk.flash c.args.disk.now)) (Follows VERSION_1 (g.D.Disk.flash c.args.disk.now).reads) (follows_now c.sound_laws.ensures (g.D.Disk.flash c.args.disk.now) settled) (c.in-Err.ensures.same t).images
+    weakens (g.D.Disk.flash c.args.disk.now) (g.D.Disk.flash c.load_pages_by.new.disk) (Now (g.D.Disk.flash c.args.disk.now)) (Follows (g.D.Disk.flash c.args.disk.now).reads) (follows_now c.sound_laws.ensures (g.D.Disk.flash c.args.disk.now) settled) (c.in-Err.ensures.same t).images
 
 pub start-requires-clause-said : goal.start-requires-clause-said
 start-requires-clause-said g c = (c.args.manifest.now, c.args.members.now, c.requires.manifest, c.requires.members, c.update_plan-plan.ensures)
@@ -106,7 +106,7 @@ returns-clause-launches g c t tl payloads has =
 
 pub returns-clause-keeps : goal.returns-clause-keeps
 returns-clause-keeps g c t settled =
-    let still = settled_still VERSION_1 (g.D.Disk.flash c.args.disk.now) (g.D.Disk.flash c.load_pages_by.new.disk) (g.D.Disk.extent c.args.disk.now) (subst (λ (n : ℕ). IsFlash (g.D.Disk.flash c.load_pages_by.new.disk) n) c.in-Ok.ensures.size (g.met.D.Disk.obeys c.load_pages_by.new.disk t)) (c.in-Ok.ensures.same t) settled in
+    let still = settled_still (g.D.Disk.flash c.args.disk.now) (g.D.Disk.flash c.load_pages_by.new.disk) (g.D.Disk.extent c.args.disk.now) (subst (λ (n : ℕ). IsFlash (g.D.Disk.flash c.load_pages_by.new.disk) n) c.in-Ok.ensures.size (g.met.D.Disk.obeys c.load_pages_by.new.disk t)) (c.in-Ok.ensures.same t) settled in
     for_offer c.record_laws.ensures.answer (g.D.Disk.flash c.args.disk.now).reads c.args.envelope.now.wrapper.now
     (λ held digest. KeptSo (KeepsUpdate c.args.layout.now c.args.places.now (update_tree c.args.manifest.now c.args.members.now) (λ made. IsTrue g.H.Host.told → IsTrue g.L.Launcher.told → PlaysToEnd c.args.layout.now c.args.places.now (update_tree c.args.manifest.now c.args.members.now) held c.args.envelope.now.whole.now c.args.uris.now (g.H.Host.file c.args.host.now) (g.D.Disk.flash c.args.disk.now).reads (g.L.Launcher.launches c.args.launcher.now) (g.L.Launcher.launches c.start.new.launcher) made) held (λ numbers. new_record held (g.D.Disk.flash c.args.disk.now).reads (trimmed c.args.envelope.now.wrapper.now c.args.envelope.now.manifest.now) c.args.manifest.now.sequence digest numbers) (g.D.Disk.flash c.args.disk.now) (g.D.Disk.flash c.start.new.disk) c.start.result) (IsSame (g.D.Disk.flash c.args.disk.now) (g.D.Disk.flash c.start.new.disk)) c.start.result)
     (held_of c.as_ref-held.result) c.stated_digest-digest.result (recorded_as (head_of VERSION_1 (g.D.Disk.flash c.args.disk.now).reads) c.as_ref-held.result c.in-Ok.pages.held c.as_ref-held.ensures.value (c.in-Ok.ensures.exact t).held) c.stated_digest-digest.ensures
@@ -137,18 +137,23 @@ returns-in-Err-clause-later g c t = (c.in-Err.ensures.same t).images.later
 pub returns-clause-later : goal.returns-clause-later
 returns-clause-later g c t = omega (arith, (c.in-Ok.ensures.same t).images.later, c.start.ensures.later t)
 
+pub returns-clause-grows : goal.returns-clause-grows
+returns-clause-grows g c t =
+    grows_then (g.D.Disk.flash c.args.disk.now) (g.D.Disk.flash c.load_pages_by.new.disk) (g.D.Disk.flash c.start.new.disk) (c.in-Ok.ensures.same t).images.later
+    (c.in-Ok.ensures.grows t) (c.start.ensures.grows t)
+
 pub returns-clause-sound : goal.returns-clause-sound
 returns-clause-sound g c t settled =
-    let still = settled_still VERSION_1 (g.D.Disk.flash c.args.disk.now) (g.D.Disk.flash c.load_pages_by.new.disk) (g.D.Disk.extent c.args.disk.now) (subst (λ (n : ℕ). IsFlash (g.D.Disk.flash c.load_pages_by.new.disk) n) c.in-Ok.ensures.size (g.met.D.Disk.obeys c.load_pages_by.new.disk t)) (c.in-Ok.ensures.same t) settled in
+    let still = settled_still (g.D.Disk.flash c.args.disk.now) (g.D.Disk.flash c.load_pages_by.new.disk) (g.D.Disk.extent c.args.disk.now) (subst (λ (n : ℕ). IsFlash (g.D.Disk.flash c.load_pages_by.new.disk) n) c.in-Ok.ensures.size (g.met.D.Disk.obeys c.load_pages_by.new.disk t)) (c.in-Ok.ensures.same t) settled in
     for_offer c.record_laws.ensures.answer (g.D.Disk.flash c.args.disk.now).reads c.args.envelope.now.wrapper.now
-    (λ held digest. ((numbers : List ℕ) → AreChosen c.args.layout.now c.args.places.now (update_tree c.args.manifest.now c.args.members.now) (active_slots held) numbers → MayBeInstalled (g.D.Disk.flash c.args.disk.now).reads (trimmed c.args.envelope.now.wrapper.now c.args.envelope.now.manifest.now) (new_record held (g.D.Disk.flash c.args.disk.now).reads (trimmed c.args.envelope.now.wrapper.now c.args.envelope.now.manifest.now) c.args.manifest.now.sequence digest numbers)) → Passes (g.D.Disk.flash c.args.disk.now) (g.D.Disk.flash c.start.new.disk) (Sound VERSION_1))
+    (λ held digest. ((numbers : List ℕ) → AreChosen c.args.layout.now c.args.places.now (update_tree c.args.manifest.now c.args.members.now) (active_slots held) numbers → MayBeInstalled (g.D.Disk.flash c.args.disk.now).reads (trimmed c.args.envelope.now.wrapper.now c.args.envelope.now.manifest.now) (new_record held (g.D.Disk.flash c.args.disk.now).reads (trimmed c.args.envelope.now.wrapper.now c.args.envelope.now.manifest.now) c.args.manifest.now.sequence digest numbers)) → Passes (g.D.Disk.flash c.args.disk.now) (g.D.Disk.flash c.start.new.disk) Sound)
     (held_of c.as_ref-held.result) c.stated_digest-digest.result (recorded_as (head_of VERSION_1 (g.D.Disk.flash c.args.disk.now).reads) c.as_ref-held.result c.in-Ok.pages.held c.as_ref-held.ensures.value (c.in-Ok.ensures.exact t).held) c.stated_digest-digest.ensures
     (λ may. sound_from (g.D.Disk.flash c.args.disk.now) (g.D.Disk.flash c.load_pages_by.new.disk) (g.D.Disk.flash c.start.new.disk) (c.in-Ok.ensures.same t) settled (c.start.ensures.sound t still (λ numbers chosen. subst (λ (l : List ℕ). MayBeInstalled (g.D.Disk.flash c.load_pages_by.new.disk).reads l (new_record (held_of c.as_ref-held.result) (g.D.Disk.flash c.load_pages_by.new.disk).reads l c.args.manifest.now.sequence c.stated_digest-digest.result numbers)) (sym (c.as_slice-whole.ensures ∙ c.in-Ok-installable.ensures.spelling))
     (subst (λ (l : List ℕ). MayBeInstalled l (trimmed c.args.envelope.now.wrapper.now c.args.envelope.now.manifest.now) (new_record (held_of c.as_ref-held.result) l (trimmed c.args.envelope.now.wrapper.now c.args.envelope.now.manifest.now) c.args.manifest.now.sequence c.stated_digest-digest.result numbers)) (sym (c.in-Ok.ensures.same t).reads) (may numbers (subst (λ (tree : PlanTree). AreChosen c.args.layout.now c.args.places.now tree (active_slots (held_of c.as_ref-held.result)) numbers) c.update_plan-plan.ensures chosen))))))
 
 pub returns-clause-follows : goal.returns-clause-follows
 returns-clause-follows g c t settled =
-    let still = settled_still VERSION_1 (g.D.Disk.flash c.args.disk.now) (g.D.Disk.flash c.load_pages_by.new.disk) (g.D.Disk.extent c.args.disk.now) (subst (λ (n : ℕ). IsFlash (g.D.Disk.flash c.load_pages_by.new.disk) n) c.in-Ok.ensures.size (g.met.D.Disk.obeys c.load_pages_by.new.disk t)) (c.in-Ok.ensures.same t) settled in
+    let still = settled_still (g.D.Disk.flash c.args.disk.now) (g.D.Disk.flash c.load_pages_by.new.disk) (g.D.Disk.extent c.args.disk.now) (subst (λ (n : ℕ). IsFlash (g.D.Disk.flash c.load_pages_by.new.disk) n) c.in-Ok.ensures.size (g.met.D.Disk.obeys c.load_pages_by.new.disk t)) (c.in-Ok.ensures.same t) settled in
     follows_from (g.D.Disk.flash c.args.disk.now) (g.D.Disk.flash c.load_pages_by.new.disk) (g.D.Disk.flash c.start.new.disk) (c.in-Ok.ensures.same t) c.sound_laws.ensures settled (c.start.ensures.follows t still)
 
 pub returns-clause-settled : goal.returns-clause-settled
@@ -207,11 +212,11 @@ returns-in-Err-installable-clause-left g c t held digest blocks there said =
 
 pub returns-in-Err-installable-clause-sound : goal.returns-in-Err-installable-clause-sound
 returns-in-Err-installable-clause-sound g c t settled held digest blocks there said may =
-    weakens (g.D.Disk.flash c.args.disk.now) (g.D.Disk.flash c.load_pages_by.new.disk) (Now (g.D.Disk.flash c.args.disk.now)) (Sound VERSION_1) (each_sound VERSION_1 (g.D.Disk.flash c.args.disk.now) settled) (c.in-Ok.ensures.same t).images
+    weakens (g.D.Disk.flash c.args.disk.now) (g.D.Disk.flash c.load_pages_by.new.disk) (Now (g.D.Disk.flash c.args.disk.now)) Sound (each_sound (g.D.Disk.flash c.args.disk.now) settled) (c.in-Ok.ensures.same t).images
 
 pub returns-in-Err-installable-clause-follows : goal.returns-in-Err-installable-clause-follows
 returns-in-Err-installable-clause-follows g c t settled =
-    weakens (g.D.Disk.flash c.args.disk.now) (g.D.Disk.flash c.load_pages_by.new.disk) (Now (g.D.Disk.flash c.args.disk.now)) (Follows VERSION_1 (g.D.Disk.flash c.args.disk.now).reads) (follows_now c.sound_laws.ensures (g.D.Disk.flash c.args.disk.now) settled) (c.in-Ok.ensures.same t).images
+    weakens (g.D.Disk.flash c.args.disk.now) (g.D.Disk.flash c.load_pages_by.new.disk) (Now (g.D.Disk.flash c.args.disk.now)) (Follows (g.D.Disk.flash c.args.disk.now).reads) (follows_now c.sound_laws.ensures (g.D.Disk.flash c.args.disk.now) settled) (c.in-Ok.ensures.same t).images
 
 pub returns-in-Err-installable-clause-settled : goal.returns-in-Err-installable-clause-settled
 returns-in-Err-installable-clause-settled g c t =
