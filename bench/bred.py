@@ -14,7 +14,7 @@ import random
 import worst
 from inputs import byte_string, head, parts_of
 
-WIDEST, LONGEST, LONGEST_FILE = worst.WIDEST, 16_000, 1_040_000
+WIDEST, LONGEST, LONGEST_FILE = worst.WIDEST, 16_200, 1_040_000
 DEEPEST = 7
 PLACES = ("invoke", "behind", "twice", "severed", "shared", "told")
 TESTS, ACTS = (3, 1, 2, 24, 5, 6), (18, 23, 31, 21, 22)

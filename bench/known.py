@@ -12,6 +12,9 @@ CELLS = tuple(
                                    (1, ("bytes", 4, 16)), (2, ("bytes", 5, 16)), (24, ("bytes", 6, 16))))
 )
 LAST = (size(8_888), MATCH)
+# Under these, behind the digest of 32 bytes 0x11, each match lies in the search tree below the one before it, and that of size 0 below all.
+DEEP = (1_283, 2_200, 10_751, 20_702, 46_874, 71_662, 272_081, 464_996, 1_022_571, 1_040_589, 5_691_220, 7_016_594, 9_657_326, 12_629_774,
+        27_040_640, 126_098_492, 247_349_042, 477_141_728, 1_234_494_685)
 
 
 def forks(count, *more):
@@ -104,11 +107,18 @@ def in_states():
     for count in (12, 13, 14):
         yield "%d forks, override and selection in turn" % count, (*FULL, run(forks(count), again(9, size(EACH), pick(0)))), "invoke", 8
         yield "%d forks, override and write in turn" % count, (*FULL, run(forks(count), again(9, size(EACH), WRITE))), "invoke", 8
-        yield "%d forks, all keys and write in turn" % count, (*FULL, run(forks(count), again(9, sets((14, EACH), *ALL_KEYS), WRITE))), "invoke", 8
+        yield "%d forks, all keys and write in turn" % count, (
+            *FULL, run(forks(count), again(9, sets((14, EACH), *ALL_KEYS), WRITE))), "invoke", 8
         yield "%d forks, runs of overrides" % count, (*FULL, run(forks(count), again(9, run(size(EACH))))), "invoke", 8
         yield "%d forks, five runs" % count, (*FULL, run(forks(count), again(9, nested(run, 5)))), "invoke", 8
         yield "%d forks, five tries" % count, (*FULL, run(forks(count), again(9, nested(lambda one: tries((one,), None), 5)))), "invoke", 8
-        yield "%d forks, invokes" % count, (sets((3, IMAGE)), MATCH, run(forks(count), sets((14, 9_000)), again(9, MATCH, INVOKE))), "invoke", 2
+        yield "%d forks, invokes" % count, (
+            sets((3, IMAGE)), MATCH, run(forks(count), sets((14, 9_000)), again(9, MATCH, INVOKE))), "invoke", 2
+    for count in (6, 11):
+        yield "%d forks in a run, pairs in a branch" % count, (run(forks(count), tries((pairs(10),), None)),), "invoke", 2
+        yield "%d forks in a run, pairs that may end a run" % count, (run(forks(count), run(sets((13, True)), pairs(10))),), "invoke", 2
+        yield "%d forks in a run, slots in branches" % count, (
+            run(forks(count), tries(*((sets((5, number)), ("test", 5)) for number in range(16)), None)),), "invoke", 2
     yield "tries of a run of two", (*FULL, run(forks(13), again(9, tries((pick(0, 1), run(pick(0))), None)))), "invoke", 8
     yield "runs that set and write", (CONTENT, run(forks(12), again(9, sets((18, ("v", ("bytes", 1, 1)))), run(WRITE)))), "invoke", 2
     for length in (100, 10_000):
@@ -118,7 +128,8 @@ def in_states():
 
     for count, selected in ((16, 5), (15, 8)):
         cut = pick(*range(8 - selected, 8))
-        yield "%d forks of cells, then an override at %d" % (count, selected), (run(*distinct(count), cut, sets((23, ("bytes", 7, 1))), pick(0)),), "invoke", 8
+        yield "%d forks of cells, then an override at %d" % (count, selected), (
+            run(*distinct(count), cut, sets((23, ("bytes", 7, 1))), pick(0)),), "invoke", 8
     twos = again(2, tries((size(EACH, (3, IMAGE)), MATCH), None))
     yield "two forks at eight components each, then an override", (
         run(pick(*range(8)), twos, pick(5, 6, 7), sets((23, ("bytes", 7, 1))), pick(0)),), "invoke", 8
@@ -128,7 +139,8 @@ def in_states():
 
 def compared():
     for length, count in ((6_000, 300), (13_900, 100)):
-        yield "states that differ in the last content, beside %d" % length, (*contents(length), run(ways(count, 23), run(MATCH)), pick(0)), "invoke", 8
+        yield "states that differ in the last content, beside %d" % length, (
+            *contents(length), run(ways(count, 23), run(MATCH)), pick(0)), "invoke", 8
         yield "three times eight ways beside %d" % length, (
             *contents(length), MATCH, run(ways(8, 18), ways(8, 21), ways(8, 23), run(MATCH)), pick(0)), "invoke", 8
     yield "the same beside 900,000, severed", (*contents(900_000), run(ways(100, 23), run(MATCH)), pick(0)), "severed", 8
@@ -144,15 +156,20 @@ def in_loops():
         yield "%s at 100 components in a loop" % name, (*START, *looped((20, 20), pick(0, 1, times=50), again(10, act))), "invoke", 2
         yield "%s at 2 components in a loop" % name, (*START, *looped((100, 100), pick(0, 1), again(10, act))), "invoke", 2
         yield "%s, selected anew" % name, (*START, *looped((100, 100), again(10, pick(0), act, pick(1), act))), "invoke", 2
-        yield "%s in both procedures" % name, (*START, *looped((100, 100), pick(0, 1), again(10, act))), "twice", 2
     eight = (pick(0, 1, times=50), run(pick(0, 1, times=25), run(ALL, again(10, INVOKE))), pick(0))
     yield "invokes at eight", (*digests("digest", 8), *eight), "invoke", 8
-    yield "invokes at eight in both procedures", (*digests("digest", 8), *eight), "twice", 8
-    few = (pick(0, times=100), run(pick(0, times=200), run(again(100, size(EACH), INVOKE))), pick(0))
-    yield "invokes under many sizes", (sets((3, IMAGE)), pairs(100), *few), "invoke", 2
-    yield "the same in both procedures", (sets((3, IMAGE)), pairs(100), *few), "twice", 2
-    alike = (pick(0, times=100), run(pick(0, times=200), run(again(100, sets((3, ("v", ("alike", 0, 64)))), INVOKE))), pick(0))
-    yield "invokes under digests that begin alike", (again(100, sets((3, ("v", ("alike", 0, 64)))), MATCH), *alike), "invoke", 2
+    few = tuple(node for number in range(100) for node in (size(number), INVOKE))
+    yield "invokes under many sizes", (sets((3, IMAGE)), pairs(100), pick(0, times=100), run(pick(0, times=200), run(*few)), pick(0)), "invoke", 2
+    alike = tuple(sets((3, ("alike", number, 64))) for number in range(100))
+    matched, invoked = (tuple(node for one in alike for node in (one, act)) for act in (MATCH, INVOKE))
+    yield "invokes under digests that begin alike", (*matched, pick(0, times=100), run(pick(0, times=200), run(*invoked)), pick(0)), "invoke", 2
+    yield "invokes under two digests that begin alike", (
+        ALL, *matched[:4], pick(0), *looped((100, 100), again(10, *invoked[:4]))), "invoke", 2
+    yield "an override and an invoke in turn", (ALL, sets((3, IMAGE)), MATCH, pick(0), *looped((100, 100), again(10, sets((3, IMAGE)), INVOKE))), "invoke", 2
+    deep = (ALL, sets((3, IMAGE)), *(node for number in DEEP + (0,) for node in (size(number), MATCH)), pick(0))
+    yield "invokes of a match twenty deep", (*deep, *looped((100, 100), again(10, INVOKE))), "invoke", 2
+    yield "matches twenty deep at 2,000 components", (*deep, pick(0, 1, times=1_000), again(10, MATCH)), "invoke", 2
+    yield "invokes of two matches in turn, twenty deep", (*deep, *looped((100, 100), again(10, size(0), INVOKE, size(DEEP[-1]), INVOKE))), "invoke", 2
     yield "runs of a selection", looped((126, 126), again(10, run(pick(0)))), "invoke", 2
     yield "five runs, one in the next", looped((100, 100), again(10, nested(run, 4))), "invoke", 2
     yield "tries of a selection", looped((100, 100), again(10, tries((pick(0),), None))), "invoke", 2
