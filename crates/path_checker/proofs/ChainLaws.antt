@@ -1,7 +1,8 @@
 -- Lists in the order in which things happened.
-use Rattle.std.proofs.Common.{◌≡◌, ℕ, List, [], ◌∷◌, ◌++◌, refl, sym, ap, ◌∙◌, append_assoc}
+use Rattle.std.proofs.Common.{◌≡◌, ℕ, List, [], ◌∷◌, ◌++◌, ◌+◌, ◌<◌, ◌≤◌, length, take, slice_set, refl, sym, ap, ◌∙◌, append_assoc}
 use Rattle.std.specs.Prelude.{map}
-use Rattle.std.proofs.lemmas.List.{append-nil}
+use Rattle.std.proofs.lemmas.Grind.{take-set_at}
+use Rattle.std.proofs.lemmas.List.{append-nil, take_all}
 use Rattle.path_model.specs.declared.event.Event.{Event}
 use Rattle.path_model.specs.declared.event.Event.TheVariants.{Failed}
 use Rattle.path_checker.specs.declared.judge_plan.trace.Told.{Told}
@@ -36,3 +37,13 @@ end_told past missed e place all one told = ap (λ (xs : List Event). xs ++ Fail
 pub all_told-last : (ts : List Told) (t : Told) → all_told (ts ++ t ∷ []) ≡ all_told ts ++ told_by t
 all_told-last [] t = append-nil (told_by t)
 all_told-last (x ∷ ts) t = ap (λ (es : List Event). told_by x ++ es) (all_told-last ts t) ∙ sym (append_assoc (told_by x) (all_told ts) (told_by t))
+
+-- one that waits more
+pub wait_more : (before : List Event) (ts : List Told) (n m : ℕ) (t : Told) → m ≡ n + 1 → n < length ts → before ++ all_told (take m (slice_set ts n t)) ≡ before ++ all_told (take n ts) ++ told_by t
+wait_more before ts n m t more room =
+    ap (λ (xs : List Told). before ++ all_told xs) (take-set_at ts n m t more room) ∙ ap (λ (es : List Event). before ++ es) (all_told-last (take n ts) t) ∙ sym (append_assoc before (all_told (take n ts)) (told_by t))
+
+-- a part more, of all that wait and one more
+pub part_more : (before : List Event) (ts : List Told) (n : ℕ) (t : Told) → length ts ≤ n → before ++ (all_told ts ++ told_by t) ++ [] ≡ before ++ all_told (take n ts) ++ told_by t
+part_more before ts n t full =
+    append-nil (before ++ (all_told ts ++ told_by t)) ∙ sym (append_assoc before (all_told ts) (told_by t)) ∙ ap (λ (xs : List Told). before ++ all_told xs ++ told_by t) (sym (take_all n ts full))

@@ -41,6 +41,17 @@ pub all_kept-all : (xs : List Stopped) → all_kept true true xs ≡ xs
 all_kept-all [] = refl
 all_kept-all (x ∷ xs) = ap (λ (b : Bool). stop_if b x ++ all_kept true true xs) (is_kept-both true x.soft_failure) ∙ ap (λ (ys : List Stopped). x ∷ ys) (all_kept-all xs)
 
+all_kept-none : (xs : List Stopped) → all_kept false false xs ≡ []
+all_kept-none [] = refl
+all_kept-none (x ∷ xs) = ap (λ (b : Bool). stop_if b x ++ all_kept false false xs) (is_kept-both false x.soft_failure) ∙ all_kept-none xs
+
+-- nothing is kept of some: none is kept, or there are none
+pub after_unkept : (f : Failures) (tests : Bool) (xs : List Stopped) → (tests ≡ true → f.soft ≡ false) → (tests ≡ true → f.hard ≡ false) → (tests ≡ false → xs ≡ []) → f ≡ after_stops f xs
+after_unkept f true xs soft hard none =
+    let kept : all_kept f.soft f.hard xs ≡ [] = ap (λ (b : Bool). all_kept b f.hard xs) (soft refl) ∙ ap (λ (b : Bool). all_kept false b xs) (hard refl) ∙ all_kept-none xs in
+    sym (ap (λ (ys : List Stopped). with_items f (f.items ++ ys)) kept ∙ after_none f)
+after_unkept f false xs soft hard none = sym (ap (λ (ys : List Stopped). after_stops f ys) (none refl) ∙ after_none f)
+
 -- ---- which are kept
 
 one_in : (x : Stopped) (b : Bool) → b ≡ true → In x (stop_if b x)

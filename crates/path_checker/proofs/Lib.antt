@@ -32,6 +32,7 @@ pub mod PlanJudging
 pub mod OwnTests
 pub mod Among
 pub mod Choices
+pub mod Continuing
 pub mod Counting
 pub mod StandingLaws
 pub mod Passing

@@ -14,7 +14,7 @@ use Rattle.path_model.specs.Runs.{Runs, Does}
 use Rattle.path_model.proofs.TwoComponents.{same_state}
 use Rattle.path_checker.specs.declared.judge_plan.facts.Knowledge.{Knowledge}
 use Rattle.path_checker.specs.declared.judge_plan.halt.Halt.{Halt}
-use Rattle.path_checker.specs.Exploring.{Course, Kept, Stopped, Failures, Leads, Explores, Uncovers}
+use Rattle.path_checker.specs.Exploring.{Course, Kept, Stopped, Failures, after_stops, Leads, Explores, Uncovers}
 use Rattle.path_checker.specs.Halting.{Halts}
 use Rattle.path_checker.specs.Happening.{sets_at, sequence_sets}
 use Rattle.path_checker.specs.Overriding.{IsOverride, AreOverrides, overridden_by}
@@ -22,7 +22,6 @@ use Rattle.path_checker.specs.Small.{IsSmallSequence}
 use Rattle.path_checker.proofs.Carrying.{Carries, Carries-then, Explores-nothing}
 use Rattle.path_checker.proofs.Exploring.{then_course, Explores-then}
 use Rattle.path_checker.proofs.Going.{then-left, then-right}
-use Rattle.path_checker.proofs.Keeping.{after_none}
 use Rattle.path_checker.proofs.Leaves.{Same, Explores-same}
 use Rattle.path_checker.proofs.OverridesEach.{set_at, each_override, Explores-set}
 use Rattle.path_checker.proofs.Uncovering.{Uncovered-lift}
@@ -131,13 +130,13 @@ pub both_parts : (steps xs : List Step) (i : ℕ) → xs ≡ take (length xs) (d
 both_parts steps xs i part =
     sym (take-append-drop (length xs) (drop i steps)) ∙ ap (λ (t : List Step). t ++ drop (length xs) (drop i steps)) (sym part) ∙ ap (λ (t : List Step). xs ++ t) (drop-drop (length xs) i steps)
 
--- the next steps of a walk at once
-pub Walks-steps : (steps xs : List Step) (i count : ℕ) (whole : Course) (from now mid : List Kept) (failed0 failed : Failures) → Walks whole from failed0 (runs_course (sequence_tree (drop i steps)) count) now failed → xs ≡ take (length xs) (drop i steps) → Explores (runs_course (sequence_tree xs) count) now mid [] → Walks whole from failed0 (runs_course (sequence_tree (drop (i + length xs) steps)) count) mid failed
-Walks-steps steps xs i count whole from now mid failed0 failed w part x =
+-- the next steps of a walk at once, where none of their failed conditions is kept
+pub Walks-steps : (steps xs : List Step) (i count : ℕ) (whole : Course) (from now mid : List Kept) (failed0 failed : Failures) (f : List Stopped) → Walks whole from failed0 (runs_course (sequence_tree (drop i steps)) count) now failed → xs ≡ take (length xs) (drop i steps) → Explores (runs_course (sequence_tree xs) count) now mid f → failed ≡ after_stops failed f → Walks whole from failed0 (runs_course (sequence_tree (drop (i + length xs) steps)) count) mid failed
+Walks-steps steps xs i count whole from now mid failed0 failed f w part x same =
     let ys : List Step = drop (i + length xs) steps in
     let both : drop i steps ≡ xs ++ ys = both_parts steps xs i part in
     let w' = Walks-parted xs ys count whole from now failed0 failed (subst (λ (t : List Step). Walks whole from failed0 (runs_course (sequence_tree t) count) now failed) both w) in
-    Walks-then whole (runs_course (sequence_tree xs) count) (runs_course (sequence_tree ys) count) from now mid failed0 failed failed w' (record { done = mid; failed = []; next_is = refl; failed_is = sym (after_none failed); explores = x })
+    Walks-then whole (runs_course (sequence_tree xs) count) (runs_course (sequence_tree ys) count) from now mid failed0 failed failed w' (record { done = mid; failed = f; next_is = refl; failed_is = same; explores = x })
 
 -- and where they halt
 pub Walks-halted : (steps xs : List Step) (i count : ℕ) (whole : Course) (from now : List Kept) (failed0 failed : Failures) → Walks whole from failed0 (runs_course (sequence_tree (drop i steps)) count) now failed → xs ≡ take (length xs) (drop i steps) → (h : Halt) → Halts (runs_course (sequence_tree xs) count) now h → Halts whole from h
@@ -148,12 +147,12 @@ Walks-halted steps xs i count whole from now failed0 failed w part h u =
     Walks-halt whole (runs_course (sequence_tree xs) count) (runs_course (sequence_tree ys) count) from now failed0 failed w' h u
 
 -- the next steps of a state at once
-pub Carries-steps : (steps xs : List Step) (i count : ℕ) (whole : Course) (from now mid : List Kept) → Carries whole from (runs_course (sequence_tree (drop i steps)) count) now [] [] → xs ≡ take (length xs) (drop i steps) → Explores (runs_course (sequence_tree xs) count) now mid [] → Carries whole from (runs_course (sequence_tree (drop (i + length xs) steps)) count) mid [] []
-Carries-steps steps xs i count whole from now mid w part x =
+pub Carries-steps : (steps xs : List Step) (i count : ℕ) (whole : Course) (from now mid : List Kept) (failed f : List Stopped) → Carries whole from (runs_course (sequence_tree (drop i steps)) count) now [] failed → xs ≡ take (length xs) (drop i steps) → Explores (runs_course (sequence_tree xs) count) now mid f → Carries whole from (runs_course (sequence_tree (drop (i + length xs) steps)) count) mid [] (failed ++ f)
+Carries-steps steps xs i count whole from now mid failed f w part x =
     let ys : List Step = drop (i + length xs) steps in
     let both : drop i steps ≡ xs ++ ys = both_parts steps xs i part in
-    let w' = Carries-parted xs ys count whole from now [] [] (subst (λ (t : List Step). Carries whole from (runs_course (sequence_tree t) count) now [] []) both w) in
-    Carries-then whole (runs_course (sequence_tree xs) count) (runs_course (sequence_tree ys) count) from now mid [] [] [] w' x
+    let w' = Carries-parted xs ys count whole from now [] failed (subst (λ (t : List Step). Carries whole from (runs_course (sequence_tree t) count) now [] failed) both w) in
+    Carries-then whole (runs_course (sequence_tree xs) count) (runs_course (sequence_tree ys) count) from now mid [] failed f w' x
 
 -- the rest of small steps
 pub small_rest : (count : ℕ) (xs ys : List Step) → IsSmallSequence count (sequence_tree (xs ++ ys)) → IsSmallSequence count (sequence_tree ys)

@@ -12,7 +12,7 @@ use Rattle.path_checker.specs.declared.judge_plan.halt.Halt.{Halt}
 use Rattle.path_checker.specs.Halting.{Halts}
 use Rattle.path_checker.specs.Exploring.{Course, Kept, Stopped, Explores, Failures, after_stops, Adds, Passes}
 use Rattle.path_checker.specs.Forking.{Learnt}
-use Rattle.path_checker.specs.Small.{IsAtEach, IsStraight}
+use Rattle.path_checker.specs.Small.{IsStraight}
 use Rattle.path_checker.specs.Unconditional.{IsUnconditional}
 use Rattle.path_checker.specs.Steps.{with_events, knowing}
 use Rattle.path_checker.specs.Wanting.{wanted_by, TestsOwn}
@@ -21,8 +21,7 @@ use Rattle.path_checker.proofs.Exploring.{Explores-none}
 use Rattle.path_checker.proofs.Keeping.{after_none, all_kept-all}
 use Rattle.path_checker.proofs.Leaves.{Same, Explores-same}
 use Rattle.path_checker.proofs.OwnTests.{Adds-no_own}
-use Rattle.path_checker.proofs.Popping.{Pops, Pops-start, Pops-step, Pops-halt, Pops-moved, Pops-end, each_course}
-use Rattle.path_checker.proofs.Walking.{does_course}
+use Rattle.path_checker.proofs.Popping.{Pops, Pops-start, Pops-step, Pops-halt, Pops-moved, Pops-end}
 
 -- ---- what is added to none
 
@@ -89,14 +88,6 @@ pub Passed-end : (course : Course) (from now next : List Kept) → Passed course
 Passed-end course from now next w none = Passes-added course from next none_yet w.0 (Pops-end course from none_yet now next w.0 w.1 none)
 
 -- what is no condition holds none that is met
-pub at_each_unconditional : (cmd : Command) → ((kind : _) (report : _) → cmd ≡ commands.Test kind report → ⊥) → IsAtEach (command_tree cmd) → IsUnconditional (command_tree cmd)
-at_each_unconditional (commands.Test kind report) test straight = test kind report refl
-at_each_unconditional (commands.Act kind report) test straight = tt
-at_each_unconditional (commands.Index s) test straight = absurd straight
-at_each_unconditional (commands.Override list) test straight = tt
-at_each_unconditional (commands.TryEach bs) test straight = straight
-at_each_unconditional (commands.Run inner) test straight = straight
-
 pub straight_unconditional : (cmd : Command) → ((kind : _) (report : _) → cmd ≡ commands.Test kind report → ⊥) → IsStraight (command_tree cmd) → IsUnconditional (command_tree cmd)
 straight_unconditional (commands.Test kind report) test straight = test kind report refl
 straight_unconditional (commands.Act kind report) test straight = tt
@@ -105,31 +96,5 @@ straight_unconditional (commands.Override list) test straight = tt
 straight_unconditional (commands.TryEach bs) test straight = straight
 straight_unconditional (commands.Run inner) test straight = straight
 
-pub unconditional_straight : (cmd : Command) → IsUnconditional (command_tree cmd) → IsStraight (command_tree cmd)
-unconditional_straight (commands.Test kind report) none = tt
-unconditional_straight (commands.Act kind report) none = tt
-unconditional_straight (commands.Index s) none = tt
-unconditional_straight (commands.Override list) none = tt
-unconditional_straight (commands.TryEach bs) none = none
-unconditional_straight (commands.Run inner) none = none
-
-pub straight_each : (cmd : Command) → IsAtEach (command_tree cmd) → (count p : ℕ) (k : Kept) → Same k (each_course (command_tree cmd) count p k.state.selection) (does_course (command_tree cmd) count p)
-straight_each (commands.Test kind report) straight count p k = record { there = λ ids al es e r. r; back = λ ids al es e r. r }
-straight_each (commands.Act kind report) straight count p k = record { there = λ ids al es e r. r; back = λ ids al es e r. r }
-straight_each (commands.Index s) straight count p k = absurd straight
-straight_each (commands.Override list) straight count p k = record { there = λ ids al es e r. r; back = λ ids al es e r. r }
-straight_each (commands.TryEach bs) straight count p k = record { there = λ ids al es e r. r; back = λ ids al es e r. r }
-straight_each (commands.Run inner) straight count p k = record { there = λ ids al es e r. r; back = λ ids al es e r. r }
-
 pub Passed-halt : (course : Course) (from old rest next : List Kept) (k : Kept) → Passed course from old next → old ≡ rest ++ k ∷ [] → (h : Halt) → Halts course (k ∷ []) h → Halts course from h
 Passed-halt course from old rest next k w popped h u = Pops-halt course from none_yet old rest next w.0 k w.1 popped h u
-
--- ---- set component index
-
-pub at_each_of : (cmd : Command) → IsStraight (command_tree cmd) → ((s : _) → cmd ≡ commands.Index s → ⊥) → IsAtEach (command_tree cmd)
-at_each_of (commands.Test kind report) straight other = tt
-at_each_of (commands.Act kind report) straight other = tt
-at_each_of (commands.Index s) straight other = other s refl
-at_each_of (commands.Override list) straight other = tt
-at_each_of (commands.TryEach bs) straight other = straight
-at_each_of (commands.Run inner) straight other = straight

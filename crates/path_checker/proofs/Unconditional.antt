@@ -1,8 +1,8 @@
--- Commands in which no condition is met, done in a state in place.
+-- Commands that are done in a state in place.
 use Rattle.std.proofs.Common.{◌≡◌, ℕ, zero, suc, ◌+◌, ◌-◌, ◌<◌, ◌≤◌, Bool, true, false, List, [], ◌∷◌, ◌++◌, length, get_or, set, take, drop, Option, Some, None, refl, sym, ap, ◌∙◌, subst, arith, inl, inr}
 use Rattle.std.specs.List.{swap}
 use Rattle.std.proofs.lemmas.Bool.{cases_lt}
-use Rattle.std.proofs.lemmas.List.{append-nil, drop_more, drop_all, drop-drop, drop-set-lt, get_or-drop, get_or-set_same, length-set, take_all, take_more, take_more_set, take-set-le}
+use Rattle.std.proofs.lemmas.List.{append-nil, drop_more, drop-drop, drop-set-lt, get_or-drop, get_or-set_same, length-set, take_all, take_more, take_more_set, take-set-le}
 use Rattle.std.proofs.lemmas.List.Edits.{swap_is, length-swap}
 use Rattle.suit_params.specs.InForce.{Parameters}
 use Rattle.suit_commands.specs.declared.command.Command.{Command}
@@ -11,63 +11,102 @@ use Rattle.suit_commands.specs.declared.command.Step.{Step}
 use Rattle.suit_commands.specs.declared.selection.Selection.{Selection}
 use Rattle.suit_commands.specs.Size.{sequence_size, command_size}
 use Rattle.suit_commands.specs.Selections.{selected_by}
-use Rattle.suit_commands.specs.Tree.{CommandTree, Index, SequenceTree, BranchesTree}
+use Rattle.suit_commands.specs.Tree.{CommandTree, Test, Act, Index, Override, TryEach, RunSequence, SequenceTree, NoSteps, StepThen, BranchesTree}
 use Rattle.suit_commands.specs.View.{sequence_tree, command_tree, branches_tree}
 use Rattle.path_model.specs.declared.event.Event.{Event}
 use Rattle.path_checker.specs.declared.judge_plan.facts.Knowledge.{Knowledge}
 use Rattle.path_checker.specs.declared.judge_plan.halt.Halt.{Halt}
-use Rattle.path_checker.specs.Exploring.{Course, In, Kept, Explores, Uncovers, kept_if, kept_of, state_of}
+use Rattle.path_checker.specs.Exploring.{Course, In, Kept, Stopped, Explores, Continues, Uncovers, kept_if, kept_of, state_of}
 use Rattle.path_checker.specs.Halting.{Halts}
 use Rattle.path_checker.specs.Inner.{RunsInside, entered, left}
-use Rattle.path_checker.specs.Small.{IsSmallSequence, IsSmallCommand}
-use Rattle.path_checker.specs.Steps.{At, with_selection}
+use Rattle.path_checker.specs.Small.{IsSmallSequence, IsSmallCommand, IsStraight, IsInPlace, AreInPlace, AreStraight}
+use Rattle.path_checker.specs.Steps.{with_selection}
 use Rattle.path_checker.specs.Unconditional.{IsUnconditional, AreUnconditional, FirstIsUnconditional}
 use Rattle.path_checker.proofs.Branching.{at-one, rest_course, at_some, Halts-run}
-use Rattle.path_checker.proofs.Carrying.{Carries, Carries-then, Carries-end}
-use Rattle.path_checker.proofs.Exploring.{then_course, Explores-none, Found-left, Found-right}
+use Rattle.path_checker.proofs.Continuing.{no_more}
+use Rattle.path_checker.proofs.Exploring.{Explores-none, Found-left, Found-right}
 use Rattle.path_checker.proofs.InnerSequences.{inner_course, Explores-inner}
 use Rattle.path_checker.proofs.Membership.{In-left, In-right, In-cases}
 use Rattle.path_checker.proofs.OneBranch.{branch_course, Explores-branch}
 use Rattle.path_checker.proofs.Overriding.{taken_more, both_parts}
-use Rattle.path_checker.proofs.Popping.{each_course, Explores-becomes}
+use Rattle.path_checker.proofs.Popping.{Explores-becomes}
 use Rattle.path_checker.proofs.Smallness.{small_step}
-use Rattle.path_checker.proofs.Uncovering.{Uncovers-first, Uncovers-branch}
-use Rattle.path_checker.proofs.Walking.{Halts-lift, runs_course, does_course, rest-is}
+use Rattle.path_checker.proofs.Uncovering.{Uncovers-branch}
+use Rattle.path_checker.proofs.Walking.{Halts-lift, runs_course, does_course}
 
 -- ---- which they are
 
-unconditional-last : (xs : List Step) (x : Step) → AreUnconditional (sequence_tree xs) → IsUnconditional (command_tree x.command) → AreUnconditional (sequence_tree (xs ++ x ∷ []))
-unconditional-last [] x all one = (one, tt)
-unconditional-last (y ∷ xs) x all one = (all.0, unconditional-last xs x all.1 one)
+in_place-last : (tests : Bool) (xs : List Step) (x : Step) → AreInPlace tests (sequence_tree xs) → IsInPlace tests (command_tree x.command) → AreInPlace tests (sequence_tree (xs ++ x ∷ []))
+in_place-last tests [] x all one = (one, tt)
+in_place-last tests (y ∷ xs) x all one = (all.0, in_place-last tests xs x all.1 one)
 
 element : {A : Type 0} → (xs : List A) (i : ℕ) → i < length xs → A
 element [] i lt = absurd (omega arith)
 element (x ∷ xs) zero lt = x
 element (x ∷ xs) (suc i) lt = element xs i (omega arith)
 
-pub unconditional_more : (steps : List Step) (at end : ℕ) → at ≤ end → end < length steps → AreUnconditional (sequence_tree (take (end - at) (drop at steps))) → ((d : Step) → IsUnconditional (command_tree (get_or steps end d).command)) → AreUnconditional (sequence_tree (take (end + 1 - at) (drop at steps)))
-unconditional_more steps at end behind lt all one =
+pub in_place_more : (tests : Bool) (steps : List Step) (at end : ℕ) → at ≤ end → end < length steps → AreInPlace tests (sequence_tree (take (end - at) (drop at steps))) → ((d : Step) → IsInPlace tests (command_tree (get_or steps end d).command)) → AreInPlace tests (sequence_tree (take (end + 1 - at) (drop at steps)))
+in_place_more tests steps at end behind lt all one =
     let d : Step = element steps end lt in
-    subst (λ (xs : List Step). AreUnconditional (sequence_tree xs)) (sym (taken_more steps at end d behind lt)) (unconditional-last (take (end - at) (drop at steps)) (get_or steps end d) all (one d))
+    subst (λ (xs : List Step). AreInPlace tests (sequence_tree xs)) (sym (taken_more steps at end d behind lt)) (in_place-last tests (take (end - at) (drop at steps)) (get_or steps end d) all (one d))
 
 -- the next step, and the others
-pub unconditional_step : (ss : List Step) (i : ℕ) (step : Step) → i < length ss → step ≡ get_or ss i step → AreUnconditional (sequence_tree (drop i ss))
-    → IsUnconditional (command_tree step.command) × AreUnconditional (sequence_tree (drop (i + 1) ss))
-unconditional_step ss i step lt is all =
-    subst (λ (s : Step). IsUnconditional (command_tree s.command) × AreUnconditional (sequence_tree (drop (i + 1) ss))) (sym is) (subst (λ (xs : List Step). AreUnconditional (sequence_tree xs)) (drop_more ss i step lt) all)
+pub straight_step : (ss : List Step) (i : ℕ) (step : Step) → i < length ss → step ≡ get_or ss i step → AreStraight (sequence_tree (drop i ss))
+    → IsStraight (command_tree step.command) × AreStraight (sequence_tree (drop (i + 1) ss))
+straight_step ss i step lt is all =
+    subst (λ (s : Step). IsStraight (command_tree s.command) × AreStraight (sequence_tree (drop (i + 1) ss))) (sym is) (subst (λ (xs : List Step). AreStraight (sequence_tree xs)) (drop_more ss i step lt) all)
 
 pub small_next : (count : ℕ) (ss : List Step) (i : ℕ) (step : Step) → i < length ss → step ≡ get_or ss i step → IsSmallSequence count (sequence_tree (drop i ss))
     → IsSmallCommand count (command_tree step.command) × IsSmallSequence count (sequence_tree (drop (i + 1) ss))
 small_next count ss i step lt is all =
     subst (λ (s : Step). IsSmallCommand count (command_tree s.command) × IsSmallSequence count (sequence_tree (drop (i + 1) ss))) (sym is) (small_step count ss i step lt all)
 
-unconditional_rest : (xs ys : List Step) → AreUnconditional (sequence_tree (xs ++ ys)) → AreUnconditional (sequence_tree ys)
-unconditional_rest [] ys all = all
-unconditional_rest (x ∷ xs) ys all = unconditional_rest xs ys all.1
+straight_rest : (xs ys : List Step) → AreStraight (sequence_tree (xs ++ ys)) → AreStraight (sequence_tree ys)
+straight_rest [] ys all = all
+straight_rest (x ∷ xs) ys all = straight_rest xs ys all.1
 
 -- those after some
-pub unconditional_steps : (steps xs : List Step) (i : ℕ) → xs ≡ take (length xs) (drop i steps) → AreUnconditional (sequence_tree (drop i steps)) → AreUnconditional (sequence_tree (drop (i + length xs) steps))
-unconditional_steps steps xs i part all = unconditional_rest xs (drop (i + length xs) steps) (subst (λ (t : List Step). AreUnconditional (sequence_tree t)) (both_parts steps xs i part) all)
+pub straight_steps : (steps xs : List Step) (i : ℕ) → xs ≡ take (length xs) (drop i steps) → AreStraight (sequence_tree (drop i steps)) → AreStraight (sequence_tree (drop (i + length xs) steps))
+straight_steps steps xs i part all = straight_rest xs (drop (i + length xs) steps) (subst (λ (t : List Step). AreStraight (sequence_tree t)) (both_parts steps xs i part) all)
+
+-- ---- what holds no condition that is met, and what is done in place
+
+pub unconditional_straight : (command : CommandTree) → IsUnconditional command → IsStraight command
+unconditional_straight (Test kind report) none = tt
+unconditional_straight (Act kind report) none = tt
+unconditional_straight (Index s) none = tt
+unconditional_straight (Override list) none = tt
+unconditional_straight (TryEach bs) none = none
+unconditional_straight (RunSequence inner) none = none
+
+pub are_straight : (s : SequenceTree) → AreUnconditional s → AreStraight s
+are_straight NoSteps all = tt
+are_straight (StepThen p command rest) all = (unconditional_straight command all.0, are_straight rest all.1)
+
+pub unconditional_in_place : (tests : Bool) (command : CommandTree) → IsUnconditional command → IsInPlace tests command
+unconditional_in_place true command none = unconditional_straight command none
+unconditional_in_place false command none = none
+
+straight_in_place : (tests : Bool) (command : CommandTree) → IsInPlace tests command → IsStraight command
+straight_in_place true command here = here
+straight_in_place false command here = unconditional_straight command here
+
+pub in_place_straight : (tests : Bool) (s : SequenceTree) → AreInPlace tests s → AreStraight s
+in_place_straight tests NoSteps all = tt
+in_place_straight tests (StepThen p command rest) all = (straight_in_place tests command all.0, in_place_straight tests rest all.1)
+
+-- without the conditions
+pub in_place_unconditional : (s : SequenceTree) → AreInPlace false s → AreUnconditional s
+in_place_unconditional NoSteps all = tt
+in_place_unconditional (StepThen p command rest) all = (all.0, in_place_unconditional rest all.1)
+
+unconditional_here : (ss : List Step) (i : ℕ) (d : Step) → i < length ss → AreUnconditional (sequence_tree ss) → IsUnconditional (command_tree (get_or ss i d).command)
+unconditional_here [] i d lt all = absurd (omega arith)
+unconditional_here (s ∷ ss) zero d lt all = all.0
+unconditional_here (s ∷ ss) (suc i) d lt all = unconditional_here ss i d (omega arith) all.1
+
+pub unconditional_at : (ss : List Step) (i : ℕ) (step : Step) → i < length ss → step ≡ get_or ss i step → AreUnconditional (sequence_tree ss) → IsUnconditional (command_tree step.command)
+unconditional_at ss i step lt is all = subst (λ (s : Step). IsUnconditional (command_tree s.command)) (sym is) (unconditional_here ss i step lt all)
 
 -- ---- a command in which a condition may be met
 
@@ -82,11 +121,11 @@ conditional_holds (commands.Override list) test tries run conditional = conditio
 conditional_holds (commands.TryEach branches) test tries run conditional = tries branches refl
 conditional_holds (commands.Run inner) test tries run conditional = run inner refl
 
--- the one that follows no unconditional one
-pub conditional_next : (steps xs : List Step) (at : ℕ) (step : Step) → length xs ≤ 0 → at < length steps → step ≡ get_or steps at step → ((s : Step) → at + length xs < length steps → IsUnconditional (command_tree (get_or steps (at + length xs) s).command) → ⊥) → IsUnconditional (command_tree step.command) → ⊥
-conditional_next steps xs at step none lt is next here =
+-- the one that follows none that is done in place
+pub conditional_next : (tests : Bool) (steps xs : List Step) (at : ℕ) (step : Step) → length xs ≤ 0 → at < length steps → step ≡ get_or steps at step → ((s : Step) → at + length xs < length steps → IsInPlace tests (command_tree (get_or steps (at + length xs) s).command) → ⊥) → IsUnconditional (command_tree step.command) → ⊥
+conditional_next tests steps xs at step none lt is next here =
     let e : at + length xs ≡ at = omega (arith, none) in
-    next step (omega (arith, e, lt)) (subst (λ (n : ℕ). IsUnconditional (command_tree (get_or steps n step).command)) (sym e) (subst (λ (x : Step). IsUnconditional (command_tree x.command)) is here))
+    next step (omega (arith, e, lt)) (subst (λ (n : ℕ). IsInPlace tests (command_tree (get_or steps n step).command)) (sym e) (subst (λ (x : Step). IsInPlace tests (command_tree x.command)) is (unconditional_in_place tests (command_tree step.command) here)))
 
 -- a try each in which no condition is met has a first branch
 pub first_there : (bs : List (Option SequenceTree)) → FirstIsUnconditional (branches_tree bs) → 0 < length bs
@@ -107,55 +146,6 @@ size_here (s ∷ ss) (suc i) d lt = omega (arith, size_here ss i d (omega arith)
 
 pub size_at : (ss : List Step) (i : ℕ) (step : Step) → i < length ss → step ≡ get_or ss i step → command_size (command_tree step.command) + 1 ≤ sequence_size (sequence_tree ss)
 size_at ss i step lt is = subst (λ (s : Step). command_size (command_tree s.command) + 1 ≤ sequence_size (sequence_tree ss)) (sym is) (size_here ss i step lt)
-
--- ---- one step after another
-
-module _ (steps : List Step) (i count : ℕ) (step : Step) (lt : i < length steps) (is : step ≡ get_or steps i step) (whole : Course) (from now : List Kept) (w : Carries whole from (runs_course (sequence_tree (drop i steps)) count) now [] []) where
-  abbrev step_first : Course
-  step_first = does_course (command_tree step.command) count step.place
-
-  abbrev step_rest : Course
-  step_rest = runs_course (sequence_tree (drop (i + 1) steps)) count
-
-  parted : Carries whole from (then_course step_first step_rest) now [] []
-  parted =
-      subst (λ (s : Step). Carries whole from (then_course (does_course (command_tree s.command) count s.place) step_rest) now [] []) (sym is) (subst (λ (r : Course). Carries whole from r now [] []) (rest-is steps i count step lt) w)
-
-  pub Carries-step : (mid : List Kept) → Explores step_first now mid [] → Carries whole from step_rest mid [] []
-  Carries-step mid x = Carries-then whole step_first step_rest from now mid [] [] [] parted x
-
-  pub Carries-stops : (h : Halt) → Halts step_first now h → Halts whole from h
-  Carries-stops h u = Halts-lift step_first whole now from (λ facts events x. parted.uncovers facts events (Uncovers-first step_first step_rest now facts events x)) h u
-
--- no state goes on
-pub Carries-none : (whole rest : Course) (from : List Kept) → Carries whole from rest [] [] [] → Explores whole from [] []
-Carries-none whole rest from w = w.explores [] [] (Explores-none rest)
-
--- no step is left
-pub Carries-over : (steps : List Step) (i count : ℕ) (whole : Course) (from now : List Kept) → length steps ≤ i → Carries whole from (runs_course (sequence_tree (drop i steps)) count) now [] [] → Explores whole from now []
-Carries-over steps i count whole from now past w = Carries-end whole from now [] [] (subst (λ (xs : List Step). Carries whole from (runs_course (sequence_tree xs) count) now [] []) (drop_all i steps past) w)
-
--- ---- one component after another
-
-module _ (cmd : CommandTree) (count p : ℕ) (cs : List ℕ) (i c : ℕ) (lt : i < length cs) (is : c ≡ get_or cs i c) (whole : Course) (from now : List Kept) (w : Carries whole from (each_course cmd count p (drop i cs)) now [] []) where
-  abbrev at_first : Course
-  at_first = At cmd count p c
-
-  abbrev at_rest : Course
-  at_rest = each_course cmd count p (drop (i + 1) cs)
-
-  parted_at : Carries whole from (then_course at_first at_rest) now [] []
-  parted_at =
-      subst (λ (d : ℕ). Carries whole from (then_course (At cmd count p d) at_rest) now [] []) (sym is) (subst (λ (xs : List ℕ). Carries whole from (each_course cmd count p xs) now [] []) (drop_more cs i c lt) w)
-
-  pub Carries-at : (mid : List Kept) → Explores at_first now mid [] → Carries whole from at_rest mid [] []
-  Carries-at mid x = Carries-then whole at_first at_rest from now mid [] [] [] parted_at x
-
-  pub Carries-at_stops : (h : Halt) → Halts at_first now h → Halts whole from h
-  Carries-at_stops h u = Halts-lift at_first whole now from (λ facts events x. parted_at.uncovers facts events (Uncovers-first at_first at_rest now facts events x)) h u
-
-pub Carries-at_over : (cmd : CommandTree) (count p : ℕ) (cs : List ℕ) (i : ℕ) (whole : Course) (from now : List Kept) → length cs ≤ i → Carries whole from (each_course cmd count p (drop i cs)) now [] [] → Explores whole from now []
-Carries-at_over cmd count p cs i whole from now past w = Carries-end whole from now [] [] (subst (λ (xs : List ℕ). Carries whole from (each_course cmd count p xs) now [] []) (drop_all i cs past) w)
 
 -- ---- inner sequences
 
@@ -215,28 +205,34 @@ Explores-index k to selection count p cmd is made =
 
 -- ---- one state after another in one list: those that go on are at its front
 
-Explores-behind : (course : Course) (k : Kept) (ks d d' : List Kept) → Explores course ks d [] → Explores course (k ∷ []) d' [] → Explores course (ks ++ k ∷ []) (d ++ d') []
-Explores-behind course k ks d d' x y = record {
+Explores-behind : (course : Course) (k : Kept) (ks d d' : List Kept) (f f' : List Stopped) → Explores course ks d f → Explores course (k ∷ []) d' f' → Explores course (ks ++ k ∷ []) (d ++ d') (f ++ f')
+Explores-behind course k ks d d' f f' x y = record {
   complete = λ k' h ids al es e r. elim (In-cases k' ks (k ∷ []) h) [
-    | inl i ↦ let z = x.complete k' i ids al es e r in (z.0, Found-left k' ids es d d' [] [] e z.1)
-    | inr i ↦ let z = y.complete k' i ids al es e r in (z.0, Found-right k' ids es d d' [] [] e z.1)
+    | inl i ↦ let z = x.complete k' i ids al es e r in (z.0, Found-left k' ids es d d' f f' e z.1)
+    | inr i ↦ let z = y.complete k' i ids al es e r in (z.0, Found-right k' ids es d d' f f' e z.1)
   ];
   reached = λ to h. elim (In-cases to d d' h) [
     | inl i ↦ let z = x.reached to i in (z.0, In-left z.0 ks (k ∷ []) z.1, z.2)
     | inr i ↦ let z = y.reached to i in (z.0, In-right z.0 ks (k ∷ []) z.1, z.2)
   ];
-  stopped = λ to h. absurd h;
+  stopped = λ to h. elim (In-cases to f f' h) [
+    | inl i ↦ let z = x.stopped to i in (z.0, In-left z.0 ks (k ∷ []) z.1, z.2)
+    | inr i ↦ let z = y.stopped to i in (z.0, In-right z.0 ks (k ∷ []) z.1, z.2)
+  ];
 }
 
+Continues-behind : (none : Type 0) (course : Course) (k : Kept) (ks d d' : List Kept) → Continues none course ks d → Continues none course (k ∷ []) d' → Continues none course (ks ++ k ∷ []) (d ++ d')
+Continues-behind none course k ks d d' (f, x, quiet) (f', y, quiet') = (f ++ f', Explores-behind course k ks d d' f f' x y, λ n. no_more f f' (quiet n) (quiet' n))
+
 -- the first ones were done, and of these some are kept
-pub record Compacts (course : Course) (from now : List Kept) (at kept : ℕ) : Type 0 where
+pub record Compacts (none : Type 0) (course : Course) (from now : List Kept) (at kept : ℕ) : Type 0 where
   pub behind : kept ≤ at
   pub count : length now ≡ length from
   pub rest : drop at now ≡ drop at from
-  pub explores : Explores course (take at from) (take kept now) []
+  pub continues : Continues none course (take at from) (take kept now)
 
-pub Compacts-start : (course : Course) (from : List Kept) → Compacts course from from 0 0
-Compacts-start course from = record { behind = omega arith; count = refl; rest = refl; explores = Explores-none course }
+pub Compacts-start : (none : Type 0) (course : Course) (from : List Kept) → Compacts none course from from 0 0
+Compacts-start none course from = record { behind = omega arith; count = refl; rest = refl; continues = ([], Explores-none course, λ n. refl) }
 
 -- after a swap, one more stands at the front
 swapped-front : {X : Type 0} → (xs : List X) (i j : ℕ) (d : X) → i ≤ j → j < length xs → take (i + 1) (swap xs i j) ≡ take i xs ++ get_or xs j d ∷ []
@@ -261,7 +257,7 @@ swapped-rest {X} xs i j d le lt =
     let is : set (set xs i (get_or xs j d)) j (get_or xs i d) ≡ swap xs i j = swap_is xs i j d (omega (arith, le, lt)) lt in
     ap (λ (ys : List X). drop (j + 1) ys) (sym is) ∙ drop-set-lt (j + 1) (set xs i (get_or xs j d)) j (get_or xs i d) (omega arith) ∙ drop-set-lt (j + 1) xs i (get_or xs j d) (omega (arith, le))
 
-module _ (course : Course) (from now : List Kept) (at kept : ℕ) (d : Kept) (w : Compacts course from now at kept) (lt : at < length now) where
+module _ (none : Type 0) (course : Course) (from now : List Kept) (at kept : ℕ) (d : Kept) (w : Compacts none course from now at kept) (lt : at < length now) where
   -- the next one is as it was at first
   pub next-is : get_or now at d ≡ get_or from at d
   next-is =
@@ -271,21 +267,21 @@ module _ (course : Course) (from now : List Kept) (at kept : ℕ) (d : Kept) (w 
   rest-next : drop (at + 1) now ≡ drop (at + 1) from
   rest-next = sym (drop-drop 1 at now) ∙ ap (λ (ks : List Kept). drop 1 ks) w.rest ∙ drop-drop 1 at from
 
-  done-next : (to : Kept) (goes_on : Bool) → Explores course (get_or now at d ∷ []) (kept_if goes_on to) [] → Explores course (take (at + 1) from) (take kept now ++ kept_if goes_on to) []
+  done-next : (to : Kept) (goes_on : Bool) → Continues none course (get_or now at d ∷ []) (kept_if goes_on to) → Continues none course (take (at + 1) from) (take kept now ++ kept_if goes_on to)
   done-next to goes_on x =
       let all : take (at + 1) from ≡ take at from ++ get_or now at d ∷ [] = take_more from at d (omega (arith, lt, w.count)) ∙ ap (λ (k : Kept). take at from ++ k ∷ []) (sym next-is) in
-      subst (λ (ks : List Kept). Explores course ks (take kept now ++ kept_if goes_on to) []) (sym all) (Explores-behind course (get_or now at d) (take at from) (take kept now) (kept_if goes_on to) w.explores x)
+      subst (λ (ks : List Kept). Continues none course ks (take kept now ++ kept_if goes_on to)) (sym all) (Continues-behind none course (get_or now at d) (take at from) (take kept now) (kept_if goes_on to) w.continues x)
 
-  pub Compacts-gone : (to : Kept) → Explores course (get_or now at d ∷ []) [] [] → Compacts course from (set now at to) (at + 1) kept
+  pub Compacts-gone : (to : Kept) → Continues none course (get_or now at d ∷ []) [] → Compacts none course from (set now at to) (at + 1) kept
   Compacts-gone to x = record {
     behind = omega (arith, w.behind);
     count = length-set now at to ∙ w.count;
     rest = drop-set-lt (at + 1) now at to (omega arith) ∙ rest-next;
-    explores =
-        subst (λ (ks : List Kept). Explores course (take (at + 1) from) ks []) (append-nil (take kept now) ∙ sym (take-set-le kept now at to w.behind)) (done-next to false x);
+    continues =
+        subst (λ (ks : List Kept). Continues none course (take (at + 1) from) ks) (append-nil (take kept now) ∙ sym (take-set-le kept now at to w.behind)) (done-next to false x);
   }
 
-  pub Compacts-kept : (to : Kept) → Explores course (get_or now at d ∷ []) (to ∷ []) [] → Compacts course from (swap (set now at to) kept at) (at + 1) (kept + 1)
+  pub Compacts-kept : (to : Kept) → Continues none course (get_or now at d ∷ []) (to ∷ []) → Compacts none course from (swap (set now at to) kept at) (at + 1) (kept + 1)
   Compacts-kept to x =
       let ks : List Kept = set now at to in
       let within : at < length ks = omega (arith, lt, length-set now at to) in
@@ -296,7 +292,7 @@ module _ (course : Course) (from now : List Kept) (at kept : ℕ) (d : Kept) (w 
         behind = omega (arith, w.behind);
         count = length-swap ks kept at ∙ length-set now at to ∙ w.count;
         rest = swapped-rest ks kept at d w.behind within ∙ drop-set-lt (at + 1) now at to (omega arith) ∙ rest-next;
-        explores = subst (λ (xs : List Kept). Explores course (take (at + 1) from) xs []) (sym front) (done-next to true x);
+        continues = subst (λ (xs : List Kept). Continues none course (take (at + 1) from) xs) (sym front) (done-next to true x);
       }
 
   pub Compacts-halts : (h : Halt) → Halts course (get_or now at d ∷ []) h → Halts course from h
@@ -311,5 +307,5 @@ module _ (course : Course) (from now : List Kept) (at kept : ℕ) (d : Kept) (w 
       here facts events (k', inl p, v) = (k', subst (λ (k : Kept). In k from) (sym next-is ∙ p) (member from at (omega (arith, lt, w.count))), v)
       here facts events (k', inr n, v) = absurd n
 
-pub Compacts-end : (course : Course) (from now : List Kept) (at kept : ℕ) → Compacts course from now at kept → length from ≤ at → Explores course from (take kept now) []
-Compacts-end course from now at kept w past = subst (λ (ks : List Kept). Explores course ks (take kept now) []) (take_all at from past) w.explores
+pub Compacts-end : (none : Type 0) (course : Course) (from now : List Kept) (at kept : ℕ) → Compacts none course from now at kept → length from ≤ at → Continues none course from (take kept now)
+Compacts-end none course from now at kept w past = subst (λ (ks : List Kept). Continues none course ks (take kept now)) (take_all at from past) w.continues

@@ -129,3 +129,7 @@ pub record Adds (course : Course) (from old_next new_next : List Kept) (old_fail
 -- the same where failed conditions are not kept
 abbrev pub Passes : Course → List Kept → List Kept → Type 0
 Passes course from done = (failed : List Stopped) × Explores course from done failed
+
+-- and none fails where this holds
+abbrev pub Continues : Type 0 → Course → List Kept → List Kept → Type 0
+Continues none course from done = (failed : List Stopped) × Explores course from done failed × (none → failed ≡ [])

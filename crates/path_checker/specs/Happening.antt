@@ -1,5 +1,5 @@
 -- The events that lent ones are.
-use Rattle.std.specs.Prelude.{ℕ, false, List, [], ◌∷◌, ◌++◌}
+use Rattle.std.specs.Prelude.{ℕ, false, List, [], ◌∷◌, ◌++◌, take}
 use Rattle.std.specs.Option.{option_copied}
 use Rattle.path_model.specs.declared.event.Event.{Event}
 use Rattle.path_model.specs.declared.event.Event.TheVariants as events
@@ -18,7 +18,6 @@ use Rattle.path_checker.specs.declared.judge_plan.trace.Told.{Told}
 use Rattle.path_checker.specs.declared.judge_plan.trace.Told.TheVariants as told
 use Rattle.path_checker.specs.declared.judge_plan.trace.Four.{Four}
 use Rattle.path_checker.specs.declared.judge_plan.trace.Waiting.{Waiting}
-use Rattle.path_checker.specs.declared.judge_plan.trace.Waiting.TheVariants as waiting
 use Rattle.path_checker.specs.declared.judge_plan.sets.SetsAt.{SetsAt}
 use Rattle.path_checker.specs.declared.judge_plan.sets.Several.{Several}
 
@@ -67,18 +66,15 @@ told_by (told.Sets component list) = sets_at (component ∷ []) list.now
 told_by (told.SetsAt sets) = sets_of sets.now
 told_by (told.Several several) = several_sets several.now
 
-abbrev pub four_told : Four → List Event
-four_told told = told_by told.one ++ told_by told.two ++ told_by told.three ++ told_by told.four
-
-abbrev pub waiting_told : Waiting → List Event
-waiting_told waiting.Nothing = []
-waiting_told (waiting.One one) = told_by one
-waiting_told (waiting.Two one two) = told_by one ++ told_by two
-waiting_told (waiting.Three one two three) = told_by one ++ told_by two ++ told_by three
-
 abbrev pub all_told : List Told → List Event
 all_told [] = []
 all_told (told ∷ rest) = told_by told ++ all_told rest
+
+abbrev pub four_told : Four → List Event
+four_told told = all_told told.first ++ told_by told.last
+
+abbrev pub waiting_told : Waiting → List Event
+waiting_told waiting = all_told (take waiting.count waiting.told)
 
 -- the events up to a failed condition at a place
 abbrev pub after_end : List Event → Ended → ℕ → List Event

@@ -1,9 +1,9 @@
 -- Components that there is room for: the first eight.
-use Rattle.std.specs.Prelude.{◌<◌, ◌≤◌, ℕ, List}
+use Rattle.std.specs.Prelude.{◌<◌, ◌≤◌, ℕ, Bool, true, false, List}
 use Rattle.std.specs.List.{AllByRecursion}
 use Rattle.suit_commands.specs.declared.selection.Selection.{Selection}
 use Rattle.suit_commands.specs.declared.selection.Selection.TheVariants.{One, All, Listed}
-use Rattle.path_checker.specs.Unconditional.{AreUnconditional, FirstIsUnconditional}
+use Rattle.path_checker.specs.Unconditional.{IsUnconditional, AreUnconditional, FirstIsUnconditional}
 use Rattle.suit_commands.specs.Tree.{CommandTree, Test, Act, Override, Index, TryEach, RunSequence, SequenceTree, NoSteps, StepThen, BranchesTree, NoBranches, BranchThen, NullThen}
 
 abbrev pub AreSmall : List ℕ → Type 0
@@ -30,15 +30,20 @@ abbrev mutual
   AreSmallBranches count (NullThen rest) = AreSmallBranches count rest
   AreSmallBranches count (BranchThen inner rest) = IsSmallSequence count inner × AreSmallBranches count rest
 
--- a command that is done at each selected component, and is a condition or holds none that is met
-abbrev pub IsAtEach : CommandTree → Type 0
-IsAtEach (Index selection) = ⊥
-IsAtEach (TryEach branches) = FirstIsUnconditional branches
-IsAtEach (RunSequence inner) = AreUnconditional inner
-IsAtEach _ = Unit {0}
-
 -- a command that is a condition, or holds none that is met
 abbrev pub IsStraight : CommandTree → Type 0
 IsStraight (TryEach branches) = FirstIsUnconditional branches
 IsStraight (RunSequence inner) = AreUnconditional inner
 IsStraight _ = Unit {0}
+
+-- a command that is done in a state in place: conditions are among them where their failures are not kept
+abbrev pub IsInPlace : Bool → CommandTree → Type 0
+IsInPlace true command = IsStraight command
+IsInPlace false command = IsUnconditional command
+
+abbrev pub AreInPlace : Bool → SequenceTree → Type 0
+AreInPlace tests NoSteps = Unit {0}
+AreInPlace tests (StepThen place command rest) = IsInPlace tests command × AreInPlace tests rest
+
+abbrev pub AreStraight : SequenceTree → Type 0
+AreStraight sequence = AreInPlace true sequence

@@ -22,6 +22,7 @@ mod invoking;
 mod kept;
 mod known;
 mod links;
+mod made;
 mod matches;
 mod memory;
 mod merged;
@@ -52,6 +53,9 @@ use suit_commands::{Plan, width};
 
 // The largest width of a procedure that is judged.
 const WIDEST: u64 = 4_194_304;
+
+// How many bytes there are for events at first: as many as a small procedure needs.
+const ROOM: usize = 900;
 
 /// The verdict on a whole procedure.
 #[derive(Debug, Drop)]
@@ -90,7 +94,7 @@ fn judge_in<'a>(memory: Memory<'a>, plan: Plan<'a>) -> CheckVerdict
     match procedure(memory, &plan, from) {
         Ok(_) => CheckVerdict::Safe,
         Err(Halt::NoMemory) => CheckVerdict::NoMemory,
-        Err(Halt::Uncovered(k)) => told(memory.alloc, k),
+        Err(Halt::Uncovered(k)) => told(memory.alloc, k.into_kept()),
     }
 }
 
@@ -122,7 +126,9 @@ fn judge(alloc: Global, plan: &Plan<'_>) -> CheckVerdict
     if !invokes(plan) {
         return CheckVerdict::Safe;
     }
-    let events = Bump::new(alloc);
+    let Ok(events) = Bump::try_with_capacity(alloc, ROOM) else {
+        return CheckVerdict::NoMemory;
+    };
     let left = Cell::new(COMPARED);
     judge_with(alloc, &events, &left, *plan)
 }

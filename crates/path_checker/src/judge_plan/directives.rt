@@ -8,7 +8,7 @@ ghost use Rattle.path_checker.specs.Steps.{soft_after_all, overridden_at, soft_a
 ghost use Rattle.path_checker.specs.Small.{AreSmall};
 ghost use Rattle.path_checker.specs.Halting.{Halts};
 
-use crate::judge_plan::halt::Halt;
+use crate::judge_plan::halt::{Halt, Uncovered};
 use crate::judge_plan::happened::Happened;
 use crate::judge_plan::in_force::InForce;
 use crate::judge_plan::kept::{Kept, happens};
@@ -118,7 +118,7 @@ fn invoke<'a>(
                 size,
             };
             happens(memory, k, bad)?;
-            Err(Halt::Uncovered(k.copy(memory)?))
+            Err(Halt::Uncovered(Uncovered::copy(memory, k)?))
         }
         Some(digest) => {
             let own = Match::lent(memory, digest, size)?;
@@ -132,7 +132,7 @@ fn invoke<'a>(
                 size,
             };
             happens(memory, k, bad)?;
-            Err(Halt::Uncovered(k.copy(memory)?))
+            Err(Halt::Uncovered(Uncovered::copy(memory, k)?))
         }
     }
 }
@@ -250,17 +250,12 @@ pub(crate) fn override_each_in<'a>(
 
 // ---- where many states are kept at once
 
-/// Where the parameters of a state were made anew and many states are kept, shares them with those that were made last.
-pub(crate) fn settle<'a>(
-    memory: Memory<'a>,
-    was_own: bool,
-    k: &mut Kept<'a>,
-) -> Result<(), AllocError>
+/// Where some parameters of a state were overridden and many states are kept, shares them with those that were made last.
+pub(crate) fn settle<'a>(memory: Memory<'a>, k: &mut Kept<'a>) -> Result<(), AllocError>
     ensures { OnOk result (k.new ≡ k.old) }
 {
-    let made = !was_own && k.params.is_own();
-    if made && memory.is_crowded() && memory.may_read(k.params.bytes()) {
-        k.params.share(&memory.last.params)?;
+    if memory.is_crowded() && k.params.is_fresh() {
+        k.params.share(memory)?;
     }
     Ok(())
 }

@@ -179,7 +179,12 @@ impl Shared {
     fn unknown(alloc: Global) -> Result<Shared, AllocError>
         ensures { IfOk result (λ shared. shared ≡ nothing) }
     {
-        Shared::new(alloc, Knowledge::new(alloc))
+        let held = Rc::new(alloc, Knowledge::new(alloc))?;
+        Ok(Shared {
+            held,
+            print: 0,
+            others: 0,
+        })
     }
 
     fn new(alloc: Global, known: Knowledge) -> Result<Shared, AllocError>
@@ -253,7 +258,7 @@ impl Shared {
         ensures { IfOk result (λ other. other ≡ learnt self.now own.now) }
     {
         let known = self.held.with(memory.alloc, own)?;
-        Shared::shared(memory.alloc, known, memory.having(component))
+        Shared::shared(memory.alloc, known, memory.having(component)?)
     }
 
     // It has this. Others that share the knowledge keep it.
@@ -269,7 +274,7 @@ impl Shared {
         ensures { IfOk result (λ other. other ≡ excluded self.now own.now) }
     {
         let known = self.held.without(memory.alloc, own)?;
-        Shared::shared(memory.alloc, known, memory.lacking(component))
+        Shared::shared(memory.alloc, known, memory.lacking(component)?)
     }
 }
 
@@ -300,7 +305,7 @@ impl Facts {
     fn copied(&self, alloc: Global) -> Result<Vec<Shared>, AllocError>
         ensures { IfOk result (λ other. other.items ≡ self.now) }
     {
-        let mut held = Vec::new(alloc);
+        let mut held = Vec::with_capacity(alloc, self.held.len())?;
         for known in self.as_slice() {
             held.push(known.copy()?)?;
         }

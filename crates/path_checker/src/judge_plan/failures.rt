@@ -1,6 +1,6 @@
 //! The failed conditions that are kept. One that nothing goes on from is dropped where it comes to be.
 
-ghost use Rattle.std.specs.Prelude.{◌≡◌, [], ◌∷◌, ◌++◌, OnOk, IfOk};
+ghost use Rattle.std.specs.Prelude.{◌≡◌, false, [], ◌∷◌, ◌++◌, IsTrue, OnOk, IfOk};
 ghost use Rattle.path_checker.specs.Exploring.{Failures as TheFailures, keeps, after_stops};
 ghost use Rattle.path_checker.specs.Merging.{Settles};
 ghost use Rattle.path_checker.specs.Steps.{knowing, stopped_after};
@@ -51,6 +51,14 @@ impl<'a> Failures<'a> {
         ensures { result ≡ keeps self.now soft_failure }
     {
         if soft_failure { self.soft } else { self.hard }
+    }
+
+    /// Whether no more failed condition is kept.
+    pub(crate) fn keeps_none(&self) -> bool
+        ensures soft { IsTrue result → self.now.soft ≡ false }
+        ensures hard { IsTrue result → self.now.hard ≡ false }
+    {
+        !self.soft && !self.hard
     }
 
     /// One more, where it is kept.

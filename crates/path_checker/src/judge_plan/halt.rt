@@ -1,18 +1,52 @@
 //! Why a judgement ends early.
 
-ghost use Rattle.std.specs.Prelude.{◌≡◌};
+ghost use Rattle.std.specs.Prelude.{◌≡◌, IfOk};
 ghost use Rattle.path_checker.specs.declared.judge_plan.halt.Halt.TheVariants.{NoMemory};
 
 use crate::judge_plan::kept::Kept;
+use crate::judge_plan::memory::Memory;
 use std::alloc::{AllocError, AllocFailed};
+use std::marker::Model;
+
+/// A state whose last event is an invoke that is not covered, in memory of its own: what may end early stays small.
+#[derive(Drop)]
+pub(crate) struct Uncovered<'a> {
+    held: Box<Kept<'a>>,
+}
+
+impl<'a> Model for Uncovered<'a> {
+    ghost use Rattle.path_checker.specs.Exploring.{Kept as TheKept};
+
+    ghost Value = { TheKept };
+
+    ghost view = { λ a. a.held.value };
+}
+
+impl<'a> Uncovered<'a> {
+    /// The same as a state.
+    pub(crate) fn copy(memory: Memory<'a>, k: &Kept<'a>) -> Result<Uncovered<'a>, AllocError>
+        ensures { IfOk result (λ uncovered. uncovered ≡ k.now) }
+    {
+        let k = k.copy(memory)?;
+        let held = Box::new(memory.alloc, k)?;
+        Ok(Uncovered { held })
+    }
+
+    /// The state.
+    pub(crate) fn into_kept(self) -> Kept<'a>
+        ensures { result ≡ self.entry }
+    {
+        Box::into_inner(self.held)
+    }
+}
 
 /// Why a judgement ends early.
 #[derive(Drop)]
 pub(crate) enum Halt<'a> {
     /// Memory ran out.
     NoMemory,
-    /// The last event is an invoke that is not covered.
-    Uncovered(Kept<'a>),
+    /// An invoke is not covered.
+    Uncovered(Uncovered<'a>),
 }
 
 impl<'a> From<AllocError> for Halt<'a> {

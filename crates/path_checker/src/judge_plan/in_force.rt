@@ -1,6 +1,6 @@
 //! The parameters in force, and their values.
 
-ghost use Rattle.std.specs.Prelude.{◌≡◌, ◌<◌, [], length, replicate, slice_get, slice_set, slice_index_or, Some, None, is_some, IsTrue, IfOk, OnOk, OnErr};
+ghost use Rattle.std.specs.Prelude.{◌≡◌, ◌<◌, [], length, replicate, slice_get, slice_set, slice_index_or, Some, None, is_some, IsTrue, IfOk, IfSome, OnOk, OnErr};
 ghost use Rattle.std.specs.Option.{option_copied};
 ghost use Rattle.suit_params.specs.declared.param.ParamKey.TheVariants.{Content, Uri, Source};
 ghost use Rattle.suit_params.specs.ParamKeys.{key_of};
@@ -10,6 +10,8 @@ ghost use Rattle.path_checker.specs.Wanting.{wanted_by};
 
 use crate::judge_plan::facts::Own;
 use crate::judge_plan::fingerprint::{mixed, of_param};
+use crate::judge_plan::made::Made;
+use crate::judge_plan::memory::{Memory, WAYS};
 use crate::judge_plan::same_param::same_param;
 use path_model::overriding_laws;
 use std::alloc::{AllocError, Global};
@@ -18,6 +20,9 @@ use std::marker::Model;
 use std::rc::Rc;
 use suit_commands::TestKind;
 use suit_params::{Digest, Param, ParamKey, ParamList, identifier_of, number_of, rank};
+
+// How many components there is room for.
+const ROWS: usize = 8;
 
 /// A component's parameters in force, by the rank of their keys, and their fingerprint, or 0 where none was made.
 #[derive(Drop)]
@@ -57,6 +62,8 @@ impl<'a> Model for Row<'a> {
 #[derive(Drop)]
 pub(crate) struct InForce<'a> {
     held: Rc<Vec<Row<'a>>>,
+    // Whether some were overridden since they were last shared with those of other states.
+    fresh: bool,
 }
 
 impl<'a> Model for InForce<'a> {
@@ -234,6 +241,52 @@ impl<'a> Row<'a> {
         }
     }
 
+    // Whether it was made anew, and no other state shares it.
+    fn is_fresh(&self) -> bool {
+        self.held.print.get() == 0 && Rc::strong_count(&self.held) == 1
+    }
+
+    // An equal one of those that were made last with a fingerprint.
+    fn found(
+        &self,
+        memory: Memory<'a>,
+        made: &Made<Row<'a>>,
+        print: u64,
+    ) -> Result<Option<Row<'a>>, AllocError>
+        ensures { IfOk result (λ found. IfSome found (λ row. row ≡ self.now)) }
+    {
+        for way in 0..WAYS {
+            if let Some(row) = made.get(print, way) {
+                let alike = row.fingerprint() == self.fingerprint();
+                if alike && memory.may_read(self.bytes()) && row.is_same(self) {
+                    return Ok(Some(row.copy()?));
+                }
+            }
+        }
+        Ok(None)
+    }
+
+    // The same, shared. Where it was made anew, an equal one of those that were made last, or else this one, which is kept with them.
+    fn shared(
+        &self,
+        memory: Memory<'a>,
+        made: &mut Made<Row<'a>>,
+        component: usize,
+    ) -> Result<Row<'a>, AllocError>
+        ensures { IfOk result (λ row. row ≡ self.now) }
+    {
+        if !self.is_fresh() {
+            return self.copy();
+        }
+        let print = mixed(self.fingerprint(), component as u64);
+        if let Some(row) = self.found(memory, made, print)? {
+            return Ok(row);
+        }
+        let own = self.copy()?;
+        made.keep(print, own);
+        self.copy()
+    }
+
     // Whether the same is in force.
     fn is_same(&self, other: &Row<'_>) -> bool
         ensures { IsTrue result → self.now ≡ other.now }
@@ -262,7 +315,7 @@ fn empty_rows<'a>(alloc: Global) -> Result<Vec<Row<'a>>, AllocError>
     ensures { IfOk result (λ rows. rows.items ≡ replicate 8 (replicate 12 None)) }
 {
     let row = Row::new(alloc)?;
-    let mut rows = Vec::new(alloc);
+    let mut rows = Vec::with_capacity(alloc, 8)?;
     for _ in 0..8_u32 {
         rows.push(row.copy()?)?;
     }
@@ -273,7 +326,7 @@ fn empty_rows<'a>(alloc: Global) -> Result<Vec<Row<'a>>, AllocError>
 fn copied<'a>(alloc: Global, rows: &[Row<'a>]) -> Result<Vec<Row<'a>>, AllocError>
     ensures { IfOk result (λ other. other.items ≡ rows.now) }
 {
-    let mut all = Vec::new(alloc);
+    let mut all = Vec::with_capacity(alloc, rows.len())?;
     for row in rows {
         all.push(row.copy()?)?;
     }
@@ -304,6 +357,38 @@ fn override_shared<'a>(
     }
 }
 
+// The same rows, shared, in a list of its own: equal ones of those that were made last.
+fn shared_rows<'a>(
+    memory: Memory<'a>,
+    made: &mut Made<Row<'a>>,
+    rows: &[Row<'a>],
+) -> Result<Vec<Row<'a>>, AllocError>
+    ensures { IfOk result (λ other. other.items ≡ rows.now) }
+{
+    let mut all = Vec::with_capacity(memory.alloc, rows.len())?;
+    for row in rows {
+        let component = all.len();
+        all.push(row.shared(memory, made, component)?)?;
+    }
+    Ok(all)
+}
+
+// Where no other state shares the list, shares each row that was made anew with an equal one of those that were made last.
+fn share_rows<'a>(
+    held: &mut Rc<Vec<Row<'a>>>,
+    memory: Memory<'a>,
+    made: &mut Made<Row<'a>>,
+) -> Result<(), AllocError>
+    ensures { held.new.value.items ≡ held.old.value.items }
+{
+    if Rc::strong_count(held) > 1 {
+        return Ok(());
+    }
+    let all = shared_rows(memory, made, held.as_slice())?;
+    *held = Rc::new(memory.alloc, all)?;
+    Ok(())
+}
+
 impl<'a> InForce<'a> {
     /// Nothing is in force.
     pub(crate) fn new(alloc: Global) -> Result<InForce<'a>, AllocError>
@@ -311,7 +396,7 @@ impl<'a> InForce<'a> {
     {
         overriding_laws();
         let held = Rc::new(alloc, empty_rows(alloc)?)?;
-        Ok(InForce { held })
+        Ok(InForce { held, fresh: false })
     }
 
     /// The same, shared.
@@ -319,7 +404,10 @@ impl<'a> InForce<'a> {
         ensures { IfOk result (λ params. params ≡ self.now) }
     {
         let held = self.held.clone()?;
-        Ok(InForce { held })
+        Ok(InForce {
+            held,
+            fresh: self.fresh,
+        })
     }
 
     fn rows(&self) -> &[Row<'a>]
@@ -350,20 +438,23 @@ impl<'a> InForce<'a> {
         ensures { OnOk result (self.new ≡ overridden self.old component list.now) }
     {
         overriding_laws();
+        self.fresh = true;
         override_shared(&mut self.held, alloc, component as usize, list)
     }
 
-    /// Whether no other state shares them.
-    pub(crate) fn is_own(&self) -> bool {
-        Rc::strong_count(&self.held) == 1
+    /// Whether some were overridden since they were last shared.
+    pub(crate) fn is_fresh(&self) -> bool {
+        self.fresh
     }
 
-    /// Shares them with those that were made last, where they are equal.
-    pub(crate) fn share(&mut self, last: &Cell<Option<InForce<'a>>>) -> Result<(), AllocError>
+    // Shares them with those that were made last, where they are equal.
+    fn share_all(&mut self, memory: Memory<'a>) -> Result<(), AllocError>
         ensures { OnOk result (self.new ≡ self.old) }
     {
+        let last = &memory.last.params;
         if let Some(made) = last.replace(None) {
-            if made.is_same(self) {
+            let alike = made.fingerprint(ROWS) == self.fingerprint(ROWS);
+            if alike && memory.may_read(self.bytes()) && made.is_same(self) {
                 self.held = made.held.clone()?;
                 last.set(Some(made));
                 return Ok(());
@@ -371,6 +462,27 @@ impl<'a> InForce<'a> {
         }
         last.set(Some(self.copy()?));
         Ok(())
+    }
+
+    // Shares those of each component with equal ones of those that were made last.
+    fn share_each(&mut self, memory: Memory<'a>, made: &mut Made<Row<'a>>) -> Result<(), AllocError>
+        ensures { self.new ≡ self.old }
+    {
+        self.fresh = false;
+        share_rows(&mut self.held, memory, made)
+    }
+
+    /// Shares what was made anew with what was made last, where that is equal: those of each component, and then all.
+    pub(crate) fn share(&mut self, memory: Memory<'a>) -> Result<(), AllocError>
+        ensures { OnOk result (self.new ≡ self.old) }
+    {
+        let mut made = match memory.last.rows.replace(None) {
+            Some(made) => made,
+            None => Made::none(memory.alloc)?,
+        };
+        self.share_each(memory, &mut made)?;
+        memory.last.rows.set(Some(made));
+        self.share_all(memory)
     }
 
     /// How many bytes are in force.

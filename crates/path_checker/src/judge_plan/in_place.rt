@@ -1,16 +1,18 @@
-//! Commands in which no condition is met, done in a state in place. One state at most follows, and no sequence ends by a condition.
+//! Conditions, and commands in which none is met, done in a state in place, where a failed condition ends the procedure: one state at
+//! most follows. Where no condition is met, no sequence ends by one.
 
 ghost use Rattle.std.specs.Prelude.{◌<◌, [], ◌∷◌, IfOk, IfErr};
 ghost use Rattle.suit_commands.specs.View.{command_tree, sequence_tree};
 ghost use Rattle.path_model.specs.Behaviour.{Each};
 ghost use Rattle.path_model.specs.Runs.{Runs, Does, Tries};
-ghost use Rattle.path_checker.specs.Exploring.{Explores, kept_if};
+ghost use Rattle.path_checker.specs.Exploring.{Explores, Continues, kept_if};
 ghost use Rattle.path_checker.specs.Halting.{Halts};
 ghost use Rattle.path_checker.specs.Inner.{RunsInside, entered};
-ghost use Rattle.path_checker.specs.Small.{IsSmallSequence, IsSmallCommand, AreSmallBranches};
+ghost use Rattle.path_checker.specs.Small.{IsSmallSequence, IsSmallCommand, AreSmallBranches, IsStraight, AreStraight};
 ghost use Rattle.path_checker.specs.Steps.{At};
 ghost use Rattle.path_checker.specs.Unconditional.{IsUnconditional, AreUnconditional, FirstIsUnconditional};
 
+use crate::judge_plan::conditions::pass_test;
 use crate::judge_plan::directives::{act_in, override_each_in, override_in, settle};
 use crate::judge_plan::halt::Halt;
 use crate::judge_plan::kept::Kept;
@@ -22,19 +24,20 @@ use suit_commands::{Branches, Command, Sequence, Step};
 // More overrides than these, one after another, are told as one.
 const FEW: usize = 3;
 
-/// Does commands one after another: whether the procedure goes on. The state is then the one after them.
+// Does commands one after another.
 #[cycle(in_place)]
-pub(crate) fn steps_in<'a>(
+fn steps_in<'a>(
     memory: Memory<'a>,
     count: u32,
     steps: &'a [Step],
     k: &mut Kept<'a>,
 ) -> Result<bool, Halt<'a>>
     requires small { IsSmallSequence count (sequence_tree steps.now) }
-    requires unconditional { AreUnconditional (sequence_tree steps.now) }
+    requires straight { AreStraight (sequence_tree steps.now) }
     ensures ok { IfOk result
-        (λ goes_on. Explores (λ identities. Runs (sequence_tree steps.now) identities count)
-        (k.old ∷ []) (kept_if goes_on k.new) []) }
+        (λ goes_on. Continues (AreUnconditional (sequence_tree steps.now))
+        (λ identities. Runs (sequence_tree steps.now) identities count)
+        (k.old ∷ []) (kept_if goes_on k.new)) }
     ensures err { IfErr result
         (λ h. Halts (λ identities. Runs (sequence_tree steps.now) identities count)
         (k.old ∷ []) h) }
@@ -56,20 +59,20 @@ pub(crate) fn steps_in<'a>(
     Ok(true)
 }
 
-// Does a command.
+/// Does a command: whether the procedure goes on. The state is then the one after it.
 #[cycle(in_place)]
-fn command_in<'a>(
+pub(crate) fn command_in<'a>(
     memory: Memory<'a>,
     count: u32,
     step: &'a Step,
     k: &mut Kept<'a>,
 ) -> Result<bool, Halt<'a>>
     requires small { IsSmallCommand count (command_tree step.now.command) }
-    requires unconditional { IsUnconditional (command_tree step.now.command) }
+    requires straight { IsStraight (command_tree step.now.command) }
     ensures ok { IfOk result
-        (λ goes_on. Explores
+        (λ goes_on. Continues (IsUnconditional (command_tree step.now.command))
         (λ identities. Does (command_tree step.now.command) identities count step.now.place)
-        (k.old ∷ []) (kept_if goes_on k.new) []) }
+        (k.old ∷ []) (kept_if goes_on k.new)) }
     ensures err { IfErr result
         (λ h. Halts
         (λ identities. Does (command_tree step.now.command) identities count step.now.place)
@@ -91,13 +94,13 @@ fn each_in<'a>(
     k: &mut Kept<'a>,
 ) -> Result<bool, Halt<'a>>
     requires small { IsSmallCommand count (command_tree step.now.command) }
-    requires unconditional { IsUnconditional (command_tree step.now.command) }
+    requires straight { IsStraight (command_tree step.now.command) }
     ensures ok { IfOk result
-        (λ goes_on. Explores
+        (λ goes_on. Continues (IsUnconditional (command_tree step.now.command))
         (λ identities. Each
         (λ c. At (command_tree step.now.command) count step.now.place c identities)
         k.old.state.selection)
-        (k.old ∷ []) (kept_if goes_on k.new) []) }
+        (k.old ∷ []) (kept_if goes_on k.new)) }
     ensures err { IfErr result
         (λ h. Halts
         (λ identities. Each
@@ -122,9 +125,9 @@ fn each_in<'a>(
     Ok(true)
 }
 
-/// Does a command at one component: whether the procedure goes on. The state is then the one after it.
+// Does a command at one component.
 #[cycle(in_place)]
-pub(crate) fn one_in<'a>(
+fn one_in<'a>(
     memory: Memory<'a>,
     count: u32,
     step: &'a Step,
@@ -133,15 +136,17 @@ pub(crate) fn one_in<'a>(
 ) -> Result<bool, Halt<'a>>
     requires room { component < 8 }
     requires small { IsSmallCommand count (command_tree step.now.command) }
-    requires unconditional { IsUnconditional (command_tree step.now.command) }
+    requires straight { IsStraight (command_tree step.now.command) }
     ensures ok { IfOk result
-        (λ goes_on. Explores (At (command_tree step.now.command) count step.now.place component)
-        (k.old ∷ []) (kept_if goes_on k.new) []) }
+        (λ goes_on. Continues (IsUnconditional (command_tree step.now.command))
+        (At (command_tree step.now.command) count step.now.place component)
+        (k.old ∷ []) (kept_if goes_on k.new)) }
     ensures err { IfErr result
         (λ h. Halts (At (command_tree step.now.command) count step.now.place component)
         (k.old ∷ []) h) }
 {
     match &step.command {
+        Command::Test { kind, .. } => Ok(pass_test(memory, step.place, *kind, component, k)?),
         Command::Act { kind, .. } => act_in(memory, step.place, *kind, component, k),
         Command::Override(list) => {
             override_in(memory, step.place, list, component, k)?;
@@ -149,7 +154,7 @@ pub(crate) fn one_in<'a>(
         }
         Command::TryEach(branches) => try_in(memory, count, branches, step.place, component, k),
         Command::Run(inner) => inside(memory, count, inner, component, false, k),
-        _ => Ok(true),
+        Command::Index(_) => Ok(true),
     }
 }
 
@@ -217,17 +222,17 @@ fn all_in<'a>(
     k: &mut Kept<'a>,
 ) -> Result<bool, Halt<'a>>
     requires small { IsSmallSequence count (sequence_tree steps.now) }
-    requires unconditional { AreUnconditional (sequence_tree steps.now) }
+    requires straight { AreStraight (sequence_tree steps.now) }
     ensures ok { IfOk result
-        (λ goes_on. Explores (λ identities. Runs (sequence_tree steps.now) identities count)
-        (k.old ∷ []) (kept_if goes_on k.new) []) }
+        (λ goes_on. Continues (AreUnconditional (sequence_tree steps.now))
+        (λ identities. Runs (sequence_tree steps.now) identities count)
+        (k.old ∷ []) (kept_if goes_on k.new)) }
     ensures err { IfErr result
         (λ h. Halts (λ identities. Runs (sequence_tree steps.now) identities count)
         (k.old ∷ []) h) }
 {
-    let was_own = k.params.is_own();
     let goes_on = steps_in(memory, count, steps, k)?;
-    settle(memory, was_own, k)?;
+    settle(memory, k)?;
     Ok(goes_on)
 }
 
@@ -239,10 +244,11 @@ pub(crate) fn steps_in_all<'a>(
     from: Vec<Kept<'a>>,
 ) -> Result<Vec<Kept<'a>>, Halt<'a>>
     requires small { IsSmallSequence count (sequence_tree steps.now) }
-    requires unconditional { AreUnconditional (sequence_tree steps.now) }
+    requires straight { AreStraight (sequence_tree steps.now) }
     ensures ok { IfOk result
-        (λ v. Explores (λ identities. Runs (sequence_tree steps.now) identities count)
-        from.entry.items v.items []) }
+        (λ v. Continues (AreUnconditional (sequence_tree steps.now))
+        (λ identities. Runs (sequence_tree steps.now) identities count)
+        from.entry.items v.items) }
     ensures err { IfErr result
         (λ h. Halts (λ identities. Runs (sequence_tree steps.now) identities count)
         from.entry.items h) }

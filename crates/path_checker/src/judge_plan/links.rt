@@ -92,8 +92,13 @@ pub(crate) struct Links {
     below: Vec<Below>,
 }
 
-// Whether the wanted match is at an index.
-fn is_at(all: &[&Match<'_>], at: usize, wanted: &Match<'_>) -> bool
+/// For how many more there is to be room in a list: an eighth where it is full, since many states hold lists.
+pub(crate) fn room_after(len: usize, capacity: usize) -> usize {
+    if len < capacity { 0 } else { len / 8 + 1 }
+}
+
+/// Whether the wanted match is at an index.
+pub(crate) fn is_at(all: &[&Match<'_>], at: usize, wanted: &Match<'_>) -> bool
     ensures { IsTrue result → In (match_of wanted.now) (all_lent all.now) }
 {
     if at >= all.len() {
@@ -127,10 +132,11 @@ impl Links {
         Ok(links)
     }
 
-    /// The same, in memory of their own.
+    /// The same, in memory of their own, with room for one more.
     pub(crate) fn copy(&self, alloc: Global) -> Result<Links, AllocError> {
         let first = Vec::from_slice(alloc, &self.first)?;
-        let below = Vec::from_slice(alloc, &self.below)?;
+        let mut below = Vec::with_capacity(alloc, self.below.len().saturating_add(1))?;
+        below.extend_from_slice(&self.below)?;
         Ok(Links { first, below })
     }
 
@@ -197,6 +203,8 @@ impl Links {
     // Links the next match of a list where a search for it ended.
     fn link(&mut self, own: &Match<'_>, place: Place) -> Result<(), AllocError> {
         let link = Link::to(self.below.len(), own);
+        let room = room_after(self.below.len(), self.below.capacity());
+        self.below.reserve_exact(room)?;
         self.below.push(Below::none())?;
         match place {
             Place::First => {
@@ -223,7 +231,7 @@ impl Links {
     fn to_all(alloc: Global, all: &[&Match<'_>]) -> Result<Links, AllocError> {
         let mut links = Links {
             first: first_links(alloc, all.len())?,
-            below: Vec::new(alloc),
+            below: Vec::with_capacity(alloc, all.len())?,
         };
         for own in all {
             let ended = links.search(all, own);

@@ -4,12 +4,13 @@ ghost use Rattle.std.specs.Prelude.{◌≡◌, ◌↔◌, [], ◌∷◌, IsTrue,
 ghost use Rattle.path_checker.specs.Exploring.{In};
 ghost use Rattle.path_checker.specs.Matches.{Match as TheMatch, match_of, match_event, covered_event, SameMembers};
 
-use crate::judge_plan::fingerprint::mixed;
-use crate::judge_plan::links::{Ended, Links};
+use crate::judge_plan::fingerprint::{mixed, of_bytes};
+use crate::judge_plan::links::{Ended, Links, is_at, room_after};
 use crate::judge_plan::memory::Memory;
 use crate::judge_plan::same_param::same_digest;
 use path_model::Event;
 use std::alloc::{AllocError, Global};
+use std::cell::Cell;
 use std::hash::{DefaultHasher, Hasher};
 use std::marker::Model;
 use std::rc::Rc;
@@ -33,14 +34,13 @@ fn print_of(digest: &Digest, size: Option<u64>) -> u64 {
     hasher.finish()
 }
 
-// A number that is soon found. Other matches with the same one are easily made.
+// A number that is soon found, of the whole digest. Other matches with the same one are easily made.
 fn number_of(digest: &Digest, size: Option<u64>) -> u64 {
-    let first = match digest.bytes().split_first_chunk::<8>() {
-        Some((eight, _)) => u64::from_le_bytes(*eight),
-        None => 0,
-    };
-    mixed(first, size.unwrap_or(0))
+    mixed(of_bytes(digest.bytes()), size.unwrap_or(0))
 }
+
+// As many matches as are searched among all at most. Then they are forgotten, and equal ones may be made anew.
+const MANY: usize = 65_536;
 
 // A bit of a digest. Behind the last one they come again.
 fn bit_of(digest: &Digest, depth: u32) -> Option<bool> {
@@ -71,20 +71,13 @@ impl<'a> Match<'a> {
         ensures { IfOk result (λ own. match_of own.now ≡ (digest.now, size)) }
     {
         let own = Match::new(digest, size);
-        match memory.last.matches.replace(None) {
-            Some(made) => {
-                let mut all = made;
-                let lent = all.lent(memory, own)?;
-                memory.last.matches.set(Some(all));
-                Ok(lent)
-            }
-            None => {
-                let lent = memory.events.try_alloc(own)?;
-                let all = Matches::of(memory.alloc, lent)?;
-                memory.last.matches.set(Some(all));
-                Ok(lent)
-            }
+        let mut all = memory.last.matches.replace(Held::none());
+        if all.len() >= MANY {
+            all = Held::none();
         }
+        let lent = all.lent(memory, own)?;
+        memory.last.matches.set(all);
+        Ok(lent)
     }
 
     /// In memory that all states share. The one used last of those with its number is looked at first.
@@ -96,13 +89,15 @@ impl<'a> Match<'a> {
         ensures { IfOk result (λ own. match_of own.now ≡ (digest.now, size)) }
     {
         let number = number_of(digest, size);
-        if let Some(last) = memory.used(number) {
-            if last.is_of(digest, size) {
-                return Ok(last);
+        for second in &[false, true] {
+            if let Some(last) = memory.used(number, *second) {
+                if last.is_of(digest, size) {
+                    return Ok(last);
+                }
             }
         }
         let own = Match::made(memory, digest, size)?;
-        memory.keep_used(number, own);
+        memory.keep_used(number, own)?;
         Ok(own)
     }
 
@@ -162,13 +157,16 @@ impl<'a> Match<'a> {
     }
 }
 
-/// The matches of a component.
+// Some matches, each once.
 #[derive(Drop)]
-pub(crate) struct Matches<'a> {
+struct Matches<'a> {
     all: Vec<&'a Match<'a>>,
     links: Links,
     // The fingerprints of all matches, added up.
     sum: u64,
+    // Where the last two stand that were found by a search.
+    last: Cell<usize>,
+    before: Cell<usize>,
 }
 
 impl<'a> Model for Matches<'a> {
@@ -192,19 +190,24 @@ impl<'a> Matches<'a> {
             all,
             links,
             sum: own.print,
+            last: Cell::new(0),
+            before: Cell::new(0),
         })
     }
 
-    // The same, in memory of its own.
+    // The same, in memory of its own, with room for one more.
     fn copy(&self, alloc: Global) -> Result<Matches<'a>, AllocError>
         ensures { IfOk result (λ held. held ≡ self.now) }
     {
-        let all = Vec::from_slice(alloc, &self.all)?;
+        let mut all = Vec::with_capacity(alloc, self.all.len().saturating_add(1))?;
+        all.extend_from_slice(&self.all)?;
         let links = self.links.copy(alloc)?;
         Ok(Matches {
             all,
             links,
             sum: self.sum,
+            last: Cell::new(self.last.get()),
+            before: Cell::new(self.before.get()),
         })
     }
 
@@ -215,30 +218,49 @@ impl<'a> Matches<'a> {
         self.links.search(self.all.as_slice(), wanted)
     }
 
+    // Whether a match is one of the two that were found last.
+    fn is_recent(&self, wanted: &Match<'_>) -> bool
+        ensures { IsTrue result → In (match_of wanted.now) self.now }
+    {
+        let all = self.all.as_slice();
+        is_at(all, self.last.get(), wanted) || is_at(all, self.before.get(), wanted)
+    }
+
+    // Searches a match, and keeps where it is found.
+    fn search_kept(&self, wanted: &Match<'_>) -> Ended
+        ensures { IsTrue result.found → In (match_of wanted.now) self.now }
+    {
+        let ended = self.search(wanted);
+        if let Some(at) = self.links.found_at(ended, wanted) {
+            self.before.set(self.last.get());
+            self.last.set(at);
+        }
+        ended
+    }
+
     // Whether a match is found.
     fn finds(&self, wanted: &Match<'_>) -> bool
         ensures { IsTrue result → In (match_of wanted.now) self.now }
     {
-        self.search(wanted).found
+        self.is_recent(wanted) || self.search_kept(wanted).found
     }
 
     // One match more, where a search for it ended.
     fn put(&mut self, alloc: Global, own: &'a Match<'a>, ended: Ended) -> Result<(), AllocError>
         ensures { OnOk result (SameMembers self.new (match_of own.now ∷ self.old)) }
     {
+        let room = room_after(self.all.len(), self.all.capacity());
+        self.all.reserve_exact(room)?;
         self.all.push(own)?;
         self.sum = self.sum.wrapping_add(own.print);
         self.links.add(alloc, self.all.as_slice(), own, ended)?;
         Ok(())
     }
 
-    // The match at which a search ended, if it is the wanted one.
-    fn found(&self, ended: Ended, wanted: &Match<'_>) -> Option<&'a Match<'a>>
+    // The match at an index, if it is the wanted one.
+    fn at(&self, at: usize, wanted: &Match<'_>) -> Option<&'a Match<'a>>
         ensures { IfSome result (λ made. match_of made.now ≡ match_of wanted.now) }
     {
-        let Some(at) = self.links.found_at(ended, wanted) else {
-            return None;
-        };
         let all = self.all.as_slice();
         if at >= all.len() {
             return None;
@@ -250,11 +272,34 @@ impl<'a> Matches<'a> {
         None
     }
 
+    // The match at which a search ended, if it is the wanted one.
+    fn found(&self, ended: Ended, wanted: &Match<'_>) -> Option<&'a Match<'a>>
+        ensures { IfSome result (λ made. match_of made.now ≡ match_of wanted.now) }
+    {
+        match self.links.found_at(ended, wanted) {
+            Some(at) => self.at(at, wanted),
+            None => None,
+        }
+    }
+
+    // One of the two that were found last, if it is the wanted one.
+    fn recent(&self, wanted: &Match<'_>) -> Option<&'a Match<'a>>
+        ensures { IfSome result (λ made. match_of made.now ≡ match_of wanted.now) }
+    {
+        match self.at(self.last.get(), wanted) {
+            Some(made) => Some(made),
+            None => self.at(self.before.get(), wanted),
+        }
+    }
+
     // A match in memory that all states share: one of these, or one more.
     fn lent(&mut self, memory: Memory<'a>, own: Match<'a>) -> Result<&'a Match<'a>, AllocError>
         ensures { IfOk result (λ lent. match_of lent.now ≡ match_of own.entry) }
     {
-        let ended = self.search(&own);
+        if let Some(made) = self.recent(&own) {
+            return Ok(made);
+        }
+        let ended = self.search_kept(&own);
         if let Some(made) = self.found(ended, &own) {
             return Ok(made);
         }
@@ -321,7 +366,10 @@ fn add_shared<'a>(
 ) -> Result<(), AllocError>
     ensures { OnOk result (SameMembers held.new.value (match_of own.now ∷ held.old.value)) }
 {
-    let ended = held.search(own);
+    if held.is_recent(own) {
+        return Ok(());
+    }
+    let ended = held.search_kept(own);
     if ended.found {
         return Ok(());
     }
@@ -405,6 +453,15 @@ impl<'a> Held<'a> {
         }
     }
 
+    // How many there are.
+    fn len(&self) -> usize {
+        match &self.held {
+            Holding::Nothing => 0,
+            Holding::One(_) => 1,
+            Holding::Several(all) => all.all.len(),
+        }
+    }
+
     // Whether a match is found.
     fn finds(&self, wanted: &Match<'_>) -> bool
         ensures { IsTrue result → In (match_of wanted.now) self.now }
@@ -440,6 +497,28 @@ impl<'a> Held<'a> {
                 _ => false,
             },
         }
+    }
+
+    // A match in memory that all states share: one of these, which no others share, or one more.
+    fn lent(&mut self, memory: Memory<'a>, own: Match<'a>) -> Result<&'a Match<'a>, AllocError>
+        ensures { IfOk result (λ lent. match_of lent.now ≡ match_of own.entry) }
+    {
+        match &mut self.held {
+            Holding::Several(all) => {
+                if let Some(all) = Rc::get_mut(all) {
+                    return all.lent(memory, own);
+                }
+            }
+            Holding::One(one) => {
+                if one.is(&own) {
+                    return Ok(*one);
+                }
+            }
+            Holding::Nothing => {}
+        }
+        let lent = memory.events.try_alloc(own)?;
+        self.add(memory.alloc, lent)?;
+        Ok(lent)
     }
 
     /// One match more.

@@ -2,7 +2,7 @@
 
 ghost use Rattle.std.specs.Prelude.{◌≡◌, [], ◌∷◌, ◌++◌, map, IfOk, OnOk, OnErr};
 ghost use Rattle.suit_commands.specs.View.{sequence_tree};
-ghost use Rattle.path_checker.specs.Happening.{event_of, invoke_event, sets_at, sequence_sets, told_by, four_told, waiting_told};
+ghost use Rattle.path_checker.specs.Happening.{event_of, invoke_event, sets_at, sequence_sets, told_by, all_told, four_told, waiting_told};
 ghost use Rattle.path_checker.specs.Overriding.{AreOverrides};
 ghost use Rattle.path_checker.specs.Selecting.{components_of};
 ghost use Rattle.path_checker.specs.Standing.{all_in_order};
@@ -67,13 +67,14 @@ pub(crate) enum Told<'a> {
     Several(&'a Several<'a>),
 }
 
+// How many events wait at most.
+const FEW: usize = 3;
+
 /// Four of these, in order.
 #[derive(Clone, Copy)]
 struct Four<'a> {
-    one: Told<'a>,
-    two: Told<'a>,
-    three: Told<'a>,
-    four: Told<'a>,
+    first: [Told<'a>; FEW],
+    last: Told<'a>,
 }
 
 // Events, and those before them.
@@ -108,13 +109,11 @@ impl<'a> Model for Trace<'a> {
     ghost size_decreases = { λ a h. Prim.grind (arith) };
 }
 
-/// The last events, which are too few for a part.
+/// The last events, which are too few for a part: so many of these.
 #[derive(Clone, Copy)]
-enum Waiting<'a> {
-    Nothing,
-    One(Told<'a>),
-    Two(Told<'a>, Told<'a>),
-    Three(Told<'a>, Told<'a>, Told<'a>),
+struct Waiting<'a> {
+    told: [Told<'a>; FEW],
+    count: usize,
 }
 
 /// The events of a path, in memory that all states share.
@@ -267,36 +266,44 @@ impl<'a> Told<'a> {
     }
 }
 
+// Adds the events, in memory of their own.
+fn tell_all(told: &[Told<'_>], alloc: Global, events: &mut Events) -> Result<(), AllocError>
+    ensures { OnOk result (events.new ≡ events.old ++ all_told told.now) }
+{
+    for one in told {
+        one.tell(alloc, events)?;
+    }
+    Ok(())
+}
+
 impl<'a> Four<'a> {
     // Adds the events, in memory of their own.
     fn tell(&self, alloc: Global, events: &mut Events) -> Result<(), AllocError>
         ensures { OnOk result (events.new ≡ events.old ++ four_told self.now) }
     {
-        self.one.tell(alloc, events)?;
-        self.two.tell(alloc, events)?;
-        self.three.tell(alloc, events)?;
-        self.four.tell(alloc, events)
+        tell_all(&self.first, alloc, events)?;
+        self.last.tell(alloc, events)
     }
 }
 
 impl<'a> Waiting<'a> {
+    // None.
+    fn new() -> Waiting<'a>
+        ensures { waiting_told result ≡ [] }
+    {
+        Waiting {
+            told: [Told::Failed { place: 0 }; FEW],
+            count: 0,
+        }
+    }
+
     // Adds the events, in memory of their own.
+    #[tactic(auto, using(std::proofs::lemmas::List::take_min))]
     fn tell(&self, alloc: Global, events: &mut Events) -> Result<(), AllocError>
         ensures { OnOk result (events.new ≡ events.old ++ waiting_told self.now) }
     {
-        match self {
-            Waiting::Nothing => Ok(()),
-            Waiting::One(one) => one.tell(alloc, events),
-            Waiting::Two(one, two) => {
-                one.tell(alloc, events)?;
-                two.tell(alloc, events)
-            }
-            Waiting::Three(one, two, three) => {
-                one.tell(alloc, events)?;
-                two.tell(alloc, events)?;
-                three.tell(alloc, events)
-            }
-        }
+        let told = &self.told[..];
+        tell_all(&told[..self.count.min(told.len())], alloc, events)
     }
 }
 
@@ -359,7 +366,7 @@ impl<'a> SharedEvents<'a> {
     {
         SharedEvents {
             trace: Trace::new(),
-            waiting: Waiting::Nothing,
+            waiting: Waiting::new(),
         }
     }
 
@@ -378,21 +385,19 @@ impl<'a> SharedEvents<'a> {
         ensures ok { OnOk result (self.new ≡ self.old ++ told_by told.entry) }
         ensures err { OnErr result (self.new ≡ self.old) }
     {
-        match self.waiting {
-            Waiting::Nothing => self.waiting = Waiting::One(told),
-            Waiting::One(one) => self.waiting = Waiting::Two(one, told),
-            Waiting::Two(one, two) => self.waiting = Waiting::Three(one, two, told),
-            Waiting::Three(one, two, three) => {
-                let four = Four {
-                    one,
-                    two,
-                    three,
-                    four: told,
-                };
-                self.trace = self.trace.with(bump, four)?;
-                self.waiting = Waiting::Nothing;
-            }
+        let count = self.waiting.count;
+        let waiting = &mut self.waiting.told[..];
+        if count < waiting.len() {
+            waiting[count] = told;
+            self.waiting.count = count + 1;
+            return Ok(());
         }
+        let four = Four {
+            first: self.waiting.told,
+            last: told,
+        };
+        self.trace = self.trace.with(bump, four)?;
+        self.waiting.count = 0;
         Ok(())
     }
 

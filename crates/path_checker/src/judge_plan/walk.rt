@@ -22,7 +22,7 @@ use crate::judge_plan::kept::Kept;
 use crate::judge_plan::memory::Memory;
 use crate::judge_plan::merged::merged_states;
 use crate::judge_plan::reuse::reuse;
-use crate::judge_plan::unconditional::unconditional_from;
+use crate::judge_plan::straight::in_place_from;
 use suit_commands::{Branches, Command, Sequence, Step};
 
 /// Runs a sequence from each of the states.
@@ -47,10 +47,10 @@ pub(crate) fn sequence<'a>(
     let steps = sequence.as_slice();
     let mut at = 0;
     while at < steps.len() {
-        let unconditional = unconditional_from(steps, at);
-        if unconditional.len() > 0 {
-            now = steps_in_all(memory, count, unconditional, now)?;
-            at += unconditional.len();
+        let in_place = in_place_from(steps, at, stops.keeps_none());
+        if in_place.len() > 0 {
+            now = steps_in_all(memory, count, in_place, now)?;
+            at += in_place.len();
         } else {
             now = command(memory, count, &steps[at], now, &mut stops)?;
             stops = stops.settled(memory, &mut left)?;

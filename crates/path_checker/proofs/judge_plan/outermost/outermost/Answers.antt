@@ -4,7 +4,8 @@ use Rattle.std.proofs.lemmas.Result.{IfOk-weaker}
 use Rattle.suit_commands.specs.View.{command_tree}
 use Rattle.path_checker.specs.Exploring.{Adds, Passes}
 use Rattle.path_checker.proofs.DirectiveLeaves.{never_true}
-use Rattle.path_checker.proofs.Passing.{Passes-added, unconditional_straight}
+use Rattle.path_checker.proofs.Passing.{Passes-added}
+use Rattle.path_checker.proofs.Unconditional.{unconditional_straight}
 use Rattle.path_checker.proofs.Walking.{does_course}
 use Rattle.path_checker.proofs.judge_plan.outermost.outermost.Goals as goal
 
@@ -16,5 +17,5 @@ returns-clause-ok c =
 pub command-requires : goal.command-requires
 command-requires c = record {
   small = c.requires.small;
-  conditional = λ none. never_true (subst (λ (b : Bool). IsTrue b) c.if-is_straight.false (c.is_straight.ensures.1 (unconditional_straight c.args.step.now.command none)));
+  conditional = λ none. never_true (subst (λ (b : Bool). IsTrue b) c.if-is_straight.false (c.is_straight.ensures.1 (unconditional_straight (command_tree c.args.step.now.command) none)));
 }

@@ -14,17 +14,17 @@ use Rattle.suit_commands.specs.Smaller.{step_smaller, branch_smaller}
 use Rattle.path_checker.specs.Exploring.{Course, Failures, Adds}
 use Rattle.path_checker.specs.Steps.{At}
 use Rattle.path_checker.specs.Halting.{Halts}
-use Rattle.path_checker.specs.Small.{IsSmallSequence, IsSmallCommand, AreSmallBranches, AreSmall}
+use Rattle.path_checker.specs.Small.{IsSmallSequence, IsSmallCommand, AreSmallBranches, AreSmall, AreInPlace}
 use Rattle.path_checker.proofs.DirectiveLeaves.{never_true}
 use Rattle.path_checker.specs.Inner.{all_left, left}
 use Rattle.path_checker.proofs.Overriding.{Walks-steps, Walks-halted, small_part, small_steps}
-use Rattle.path_checker.proofs.Unconditional.{conditional_each, conditional_holds, conditional_next}
+use Rattle.path_checker.proofs.Unconditional.{in_place_straight, in_place_unconditional, conditional_each, conditional_holds, conditional_next}
 use Rattle.path_checker.proofs.Smallness.{small_step, small_index, small_branch}
 use Rattle.path_checker.proofs.Walking.{Walks, Walks-start, Walks-step, Walks-stops, Walks-end, runs_course, does_course}
 use Rattle.path_checker.proofs.Popping.{Pops-start, Pops-step, Pops-halt, Pops-moved, Pops-end, none_left, each_course, each_sole, does_each, Adds-same, Halts-same, Each-step, Each-stops}
 use Rattle.path_checker.proofs.Branching.{Trying, Trying-start, Trying-branch, Trying-halt, Trying-null, Trying-end, rest_course, at_some, at_none, Adds-run, Halts-run, Adds-branch, Adds-appended}
 use Rattle.path_checker.proofs.Merging.{Adds-states, Adds-behind, Walks-settled}
-use Rattle.path_checker.proofs.Keeping.{none_of}
+use Rattle.path_checker.proofs.Keeping.{none_of, after_unkept}
 use Rattle.path_checker.proofs.judge_plan.walk.+walk.Goals as goal
 
 pub all_at-loop-k-init : goal.all_at-loop-k-init
@@ -124,7 +124,7 @@ pub sequence-command-requires : goal.sequence-command-requires
 sequence-command-requires t c =
     let e : deep-Step c.index-steps-at.result ≤ sequence_size c.args.sequence.now = step_smaller c.as_slice-steps.result.now c.loop-at.at c.index-steps-at.result c.index-steps-at.result c.args.sequence.now c.loop-at-test.true c.index-steps-at.is c.as_slice-steps.ensures in
     let small : IsSmallCommand c.args.count (command_tree c.index-steps-at.result.command) = subst (λ (s : Step). IsSmallCommand c.args.count (command_tree s.command)) (sym c.index-steps-at.is) (small_step c.args.count c.as_slice-steps.result.now c.loop-at.at c.index-steps-at.result c.loop-at-test.true c.loop-at.invariant.small).0 in
-    let conditional = conditional_next c.as_slice-steps.result.now c.unconditional_from-unconditional.result.now c.loop-at.at c.index-steps-at.result c.if-unconditional-gt0.false c.loop-at-test.true c.index-steps-at.is c.unconditional_from-unconditional.ensures.next in
+    let conditional = conditional_next c.keeps_none.result c.as_slice-steps.result.now c.in_place_from-in_place.result.now c.loop-at.at c.index-steps-at.result c.if-in_place-gt0.false c.loop-at-test.true c.index-steps-at.is c.in_place_from-in_place.ensures.next in
     (omega (arith, e, c.decreases), (small, conditional))
 
 pub sequence-returns-in_err-now-2-clause-err : goal.sequence-returns-in_err-now-2-clause-err
@@ -134,21 +134,25 @@ sequence-returns-in_err-now-2-clause-err t c =
 
 pub sequence-steps_in_all-requires : goal.sequence-steps_in_all-requires
 sequence-steps_in_all-requires t c = record {
-  small = small_part c.as_slice-steps.result.now c.unconditional_from-unconditional.result.now c.loop-at.at c.args.count c.unconditional_from-unconditional.ensures.part c.loop-at.invariant.small;
-  unconditional = c.unconditional_from-unconditional.ensures.unconditional;
+  small = small_part c.as_slice-steps.result.now c.in_place_from-in_place.result.now c.loop-at.at c.args.count c.in_place_from-in_place.ensures.part c.loop-at.invariant.small;
+  straight = in_place_straight c.keeps_none.result (sequence_tree c.in_place_from-in_place.result.now) c.in_place_from-in_place.ensures.in_place;
 }
 
 pub sequence-returns-in_err-now-clause-err : goal.sequence-returns-in_err-now-clause-err
 sequence-returns-in_err-now-clause-err t c =
     let p = err_from_is_err_and c.from_residual.result c.from_residual.ensures.1 in
-    rw (p.1, p.2) (Walks-halted c.as_slice-steps.result.now c.unconditional_from-unconditional.result.now c.loop-at.at c.args.count (runs_course c.args.sequence.now c.args.count) c.args.from.items c.loop-at.now.items (none_of c.args.failed.now) c.loop-at.stops c.loop-at.invariant.walks c.unconditional_from-unconditional.ensures.part c.in_err-now.field-0.0 c.in_err-now.ensures.err)
+    rw (p.1, p.2) (Walks-halted c.as_slice-steps.result.now c.in_place_from-in_place.result.now c.loop-at.at c.args.count (runs_course c.args.sequence.now c.args.count) c.args.from.items c.loop-at.now.items (none_of c.args.failed.now) c.loop-at.stops c.loop-at.invariant.walks c.in_place_from-in_place.ensures.part c.in_err-now.field-0.0 c.in_err-now.ensures.err)
 
-pub sequence-loop-at-preserved-then-unconditional-gt0 : goal.sequence-loop-at-preserved-then-unconditional-gt0
-sequence-loop-at-preserved-then-unconditional-gt0 t c = record {
-  within = omega (arith, c.unconditional_from-unconditional.ensures.fits);
-  small = small_steps c.as_slice-steps.result.now c.unconditional_from-unconditional.result.now c.loop-at.at c.args.count c.unconditional_from-unconditional.ensures.part c.loop-at.invariant.small;
-  walks = Walks-steps c.as_slice-steps.result.now c.unconditional_from-unconditional.result.now c.loop-at.at c.args.count (runs_course c.args.sequence.now c.args.count) c.args.from.items c.loop-at.now.items c.in_ok-now.now.items (none_of c.args.failed.now) c.loop-at.stops c.loop-at.invariant.walks c.unconditional_from-unconditional.ensures.part c.in_ok-now.ensures.ok;
-}
+pub sequence-loop-at-preserved-then-in_place-gt0 : goal.sequence-loop-at-preserved-then-in_place-gt0
+sequence-loop-at-preserved-then-in_place-gt0 t c =
+    let tests = c.keeps_none.result in
+    let done = c.in_ok-now.ensures.ok in
+    let quiet : c.keeps_none.result ≡ false → done.0 ≡ [] = λ off. done.2 (in_place_unconditional (sequence_tree c.in_place_from-in_place.result.now) (subst (λ b. AreInPlace b (sequence_tree c.in_place_from-in_place.result.now)) off c.in_place_from-in_place.ensures.in_place)) in
+    record {
+      within = omega (arith, c.in_place_from-in_place.ensures.fits);
+      small = small_steps c.as_slice-steps.result.now c.in_place_from-in_place.result.now c.loop-at.at c.args.count c.in_place_from-in_place.ensures.part c.loop-at.invariant.small;
+      walks = Walks-steps c.as_slice-steps.result.now c.in_place_from-in_place.result.now c.loop-at.at c.args.count (runs_course c.args.sequence.now c.args.count) c.args.from.items c.loop-at.now.items c.in_ok-now.now.items (none_of c.args.failed.now) c.loop-at.stops done.0 c.loop-at.invariant.walks c.in_place_from-in_place.ensures.part done.1 (after_unkept c.loop-at.stops tests done.0 c.keeps_none.ensures.soft c.keeps_none.ensures.hard quiet);
+    }
 
 pub sequence-loop-at-preserved : goal.sequence-loop-at-preserved
 sequence-loop-at-preserved t c = record {
