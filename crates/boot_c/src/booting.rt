@@ -2,16 +2,14 @@
 
 ghost use Rattle.boot_c.specs.BootAnswers.{IsAnswer, boot_answer, cause_answer};
 ghost use Rattle.boot_c.specs.Images.{ImageLiesIn, Starts, StartsNone};
-ghost use Rattle.flash_layout.specs.Configs.{IsAllowed};
-ghost use Rattle.flash_layout.specs.declared.frame.TheConstants.{VERSION_1};
-ghost use Rattle.invoke_proc.specs.Banks.{config_in};
+ghost use Rattle.flash_layout.specs.Configs.{ConfigOf, Configured, IsAllowed};
 ghost use Rattle.std.specs.Prelude.{◌≡◌, ◌≢◌, ◌⊎◌, IfSome, IsNone, length};
 ghost use Rattle.suit_answers.specs.Answers.{code_of};
 ghost use Rattle.suit_answers.specs.declared.answer.Answer.{Answer};
 ghost use Rattle.suit_answers.specs.declared.answer.Answer.TheVariants as answers;
 
 use crate::image::{SuitImage, image_in};
-use flash_layout::{Key, Layout, Loaded, load_config};
+use flash_layout::{Frame, Key, Layout, Loaded, load_config};
 use flash_view::{NoFiles, ViewDisk, ViewLauncher};
 use invoke_proc::{BootBuffer, BootEnd, boot};
 use path_model::Cause;
@@ -54,16 +52,16 @@ fn boot_answer(end: &BootEnd) -> Answer
 }
 
 // Boots by the configuration of the flash.
-fn boot_by(alloc: Global, flash: &[u8], layout: &Layout, key: &Key) -> Told
-    requires allowed { IsAllowed VERSION_1 (length flash.now) layout.now key.now }
-    requires held { config_in (length flash.now) flash.now layout.now key.now }
+fn boot_by(alloc: Global, flash: &[u8], layout: &Layout, frame: Frame, key: &Key) -> Told
+    requires allowed { IsAllowed frame (length flash.now) layout.now key.now }
+    requires held { ConfigOf (length flash.now) flash.now (Configured layout.now key.now frame) }
     ensures answers { IsAnswer flash.now result.answer }
     ensures image { IfSome result.image (λ image. (result.answer ≡ answers.Done)
         × (image.found ≡ 1) × Starts flash.now image) }
     ensures within { IfSome result.image (ImageLiesIn flash.now) }
     ensures none { result.answer ≡ answers.Done → IsNone result.image → StartsNone flash.now }
 {
-    let Ok(buffer) = BootBuffer::new(alloc, layout) else {
+    let Ok(buffer) = BootBuffer::new(alloc, layout, frame) else {
         return Told {
             answer: Answer::NoMemory,
             image: None,
@@ -72,7 +70,15 @@ fn boot_by(alloc: Global, flash: &[u8], layout: &Layout, key: &Key) -> Told
     let mut disk = ViewDisk::new(flash);
     let mut host = NoFiles::new();
     let mut launcher = ViewLauncher::new(flash);
-    let end = boot(buffer, &mut host, &mut disk, &mut launcher, layout, key);
+    let end = boot(
+        buffer,
+        &mut host,
+        &mut disk,
+        &mut launcher,
+        layout,
+        frame,
+        key,
+    );
     let answer = boot_answer(&end);
     match end {
         BootEnd::Ended => {}
@@ -111,7 +117,9 @@ fn boot_from(alloc: Global, flash: &[u8]) -> Told
 {
     let mut disk = ViewDisk::new(flash);
     let answer = match load_config(alloc, &mut disk) {
-        Loaded::Config(layout, key, _) => return boot_by(alloc, flash, &layout, &key),
+        Loaded::Config(layout, key, frame) => {
+            return boot_by(alloc, flash, &layout, frame, &key);
+        }
         Loaded::Blank | Loaded::BadConfig => Answer::Unconfigured,
         Loaded::FlashFault => Answer::FlashFault,
         Loaded::NoMemory => Answer::NoMemory,

@@ -2,11 +2,9 @@
 
 ghost use Rattle.boot_c.specs.SlotAnswers.{IsFaultAnswer, IsHeldAnswer, IsSlotAnswer};
 ghost use Rattle.boot_c.specs.SlotsInUse.{IsInUse, IsSlotOf, SlotLiesIn};
-ghost use Rattle.flash_layout.specs.Configs.{IsAllowed};
+ghost use Rattle.flash_layout.specs.Configs.{ConfigOf, Configured, IsAllowed};
 ghost use Rattle.flash_layout.specs.Layouts.{IsEntry};
-ghost use Rattle.flash_layout.specs.declared.frame.TheConstants.{VERSION_1};
 ghost use Rattle.flash_layout.specs.declared.layout.Memory.TheVariants as memory;
-ghost use Rattle.invoke_proc.specs.Banks.{config_in};
 ghost use Rattle.std.specs.Prelude.{◌≡◌, ◌≢◌, ◌⊎◌, ◌<◌, IfErr, IfOk, length};
 ghost use Rattle.step_machine.specs.InUse.{slot_in_use};
 ghost use Rattle.suit_answers.specs.Answers.{code_of};
@@ -14,8 +12,8 @@ ghost use Rattle.suit_answers.specs.declared.answer.Answer.{Answer};
 ghost use Rattle.suit_answers.specs.declared.answer.Answer.TheVariants as answers;
 
 use flash_layout::{
-    Entry, FlashFault, Key, LENGTH_SIZE, Layout, Loaded, Memory, Slot, config_laws, load_config,
-    slots_of,
+    Entry, FlashFault, Frame, Key, LENGTH_SIZE, Layout, Loaded, Memory, Slot, config_laws,
+    load_config, slots_of,
 };
 use flash_slots::length;
 use flash_view::ViewDisk;
@@ -83,9 +81,15 @@ fn slot_in(entry: &Entry, number: u32, flash: &[u8]) -> Result<SuitSlot, FlashFa
 }
 
 // The slot of a component that the flash's record has in use, by its configuration.
-fn slot_by(flash: &[u8], layout: &Layout, key: &Key, component: u32) -> Result<SuitSlot, Answer>
-    requires allowed { IsAllowed VERSION_1 (length flash.now) layout.now key.now }
-    requires held { config_in (length flash.now) flash.now layout.now key.now }
+fn slot_by(
+    flash: &[u8],
+    layout: &Layout,
+    frame: Frame,
+    key: &Key,
+    component: u32,
+) -> Result<SuitSlot, Answer>
+    requires allowed { IsAllowed frame (length flash.now) layout.now key.now }
+    requires held { ConfigOf (length flash.now) flash.now (Configured layout.now key.now frame) }
     ensures slot { IfOk result (IsInUse flash.now component) }
     ensures within { IfOk result (SlotLiesIn flash.now) }
     ensures told { IfErr result (λ answer. answer ≢ answers.Done) }
@@ -101,7 +105,7 @@ fn slot_by(flash: &[u8], layout: &Layout, key: &Key, component: u32) -> Result<S
         Memory::Ram => return Err(Answer::UnknownComponent),
     }
     let mut disk = ViewDisk::new(flash);
-    let installed = match load_record_by(&mut disk, layout) {
+    let installed = match load_record_by(&mut disk, frame, layout) {
         Ok(Some(installed)) => installed,
         Ok(None) => return Err(Answer::NothingInstalled),
         Err(FlashFault) => return Err(Answer::FlashFault),
@@ -122,7 +126,7 @@ fn slot_from(alloc: Global, flash: &[u8], component: u32) -> Result<SuitSlot, An
 {
     let mut disk = ViewDisk::new(flash);
     match load_config(alloc, &mut disk) {
-        Loaded::Config(layout, key, _) => slot_by(flash, &layout, &key, component),
+        Loaded::Config(layout, key, frame) => slot_by(flash, &layout, frame, &key, component),
         Loaded::Blank | Loaded::BadConfig => Err(Answer::Unconfigured),
         Loaded::FlashFault => Err(Answer::FlashFault),
         Loaded::NoMemory => Err(Answer::NoMemory),

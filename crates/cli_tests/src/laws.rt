@@ -11,6 +11,7 @@ ghost use Rattle.suit_cli.specs.Program.{
 };
 ghost use Rattle.suit_cli.specs.Words.{RunBoot, task_of};
 ghost use Rattle.flash_layout.specs.declared.frame.TheConstants.{VERSION_1};
+ghost use Rattle.flash_layout.specs.Frames.{head_size};
 
 use det_cbor::Names;
 use std::alloc::Global;
@@ -26,7 +27,7 @@ pub(crate) fn run_by_laws<H: Host, D: Disk, L: Launcher, K: Sink>(
     launcher: &mut L,
     sink: &mut K,
 ) -> Status
-    requires { VERSION_1.size ≤ D.extent flash.old }
+    requires { head_size VERSION_1 ≤ D.extent flash.old }
     ensures size { D.extent flash.new ≡ D.extent flash.old }
     ensures usage { result.0 ≡ 2 →
         IsUsage words.now (⟦<K as SeenSink>⟧.seen sink.old) (⟦<K as SeenSink>⟧.seen sink.new) }

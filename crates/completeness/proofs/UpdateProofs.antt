@@ -184,7 +184,7 @@ module _ (configs : OneAnswer) (envelopes : EnvelopeLaws) (manifests : ManifestL
 
     of_stages : (e : Ending) → answers words b a e → n ≡ l → IsFaultless l n b a → Installs words l b ready n a (Answered e) ⊎ LeavesFlash l n b a (Answered e)
     of_stages (Says reply) answer same faultless =
-        absurd (laws.accepted ready.name b a (O.layout, O.key) O.bytes O.accepted reply ready.told.host ready.told.flash O.configured O.read O.is_accepted
+        absurd (laws.accepted ready.name b a (O.layout, O.key, VERSION_1) O.bytes O.accepted reply ready.told.host ready.told.flash O.configured O.read O.is_accepted
         (does_of words b a reply (RunUpdate ready.name ready.uris) ready.asks answer))
     of_stages (FaultOf object) answer same faultless = absurd (never_fault words l n b a (FaultOf object) answer tt faultless)
     of_stages NoMemory answer same faultless = inr (starved_leaves words l n b a ready.told answer same)

@@ -33,7 +33,7 @@ use Rattle.completeness.specs.Plays.{Completes, LeavesPlay}
 pub record Records (before : Outside) : Type 0 where
   pub layout : List Entry
   pub key : Key
-  pub configured : Holds before.flash (layout, key)
+  pub configured : Holds before.flash (layout, key, VERSION_1)
   pub installed : Record
   pub recorded : RecordOf VERSION_1 (head_of VERSION_1 before.flash.reads) (Some installed)
   pub is : IsInstalled layout key (bank_in before.flash.reads installed) installed

@@ -50,7 +50,7 @@ States a digest = (blocks : List (List ℕ)) × WrapperSays a.said.wrapper diges
 pub record Offers (name : List ℕ) (before : Outside) : Type 0 where
   pub layout : List Entry
   pub key : Key
-  pub configured : Holds before.flash (layout, key)
+  pub configured : Holds before.flash (layout, key, VERSION_1)
   pub bytes : List ℕ
   pub read : IsRead longest_file name before bytes
   pub accepted : Accepted

@@ -6,9 +6,9 @@ use Rattle.std.proofs.lemmas.Bool.{cases_eq}
 use Rattle.std.proofs.lemmas.List.{ext_get_or, get_or-drop, get_or-replicate, length-take-le, take-take}
 use Rattle.std.proofs.lemmas.List.Edits.{get_or-between, length-between}
 use Rattle.std.proofs.lemmas.List.Elements.{All-cons, All-from_get_or, All-get_or, All-head, All-nil, All-tail, All-weaker}
-use Rattle.suit_edge.specs.Ranges.{Outside, OutsideEach}
+use Rattle.suit_edge.specs.Ranges.{Outside}
 use Rattle.suit_edge.specs.Flash.{Flash, Now, Passes, ImageOn, Keeps, IsSame, IsFlash}
-use Rattle.suit_edge.specs.Gate.{IsShut, IsNewPage, IsOpening, page_at}
+use Rattle.suit_edge.specs.Gate.{IsShut, IsNewPage, IsOpening}
 use Rattle.suit_edge.specs.FlashLaws.{each_now, joined, weakens}
 use Rattle.flash_layout.specs.declared.frame.TheConstants.{VERSION_1}
 use Rattle.flash_layout.specs.declared.layout.Entry.{Entry}
@@ -156,7 +156,3 @@ module _ (size : ℕ) (layout : List Entry) (key : Key) (large : 49152 ≤ size)
         (λ is_open. inr (formatted b.reads image (o.apart.same.size ∙ law_b.sized b.clock o.apart.from (omega arith) o.apart.was) ready (o.opens shut is_open) is_open))
         (λ closed. inl (inr closed))
         (cases_eq (get_or image 0 0) 0xA5)) run)
-
--- the page and its gate are the bytes that are read
-pub page_fewer : (body : List ℕ) → length body ≡ 1203 → (i : ℕ) → Outside 0 1204 i → OutsideEach (page_at 0 1 (length body)) i
-page_fewer body long i out = ⊎_elim (λ low. absurd (omega (arith, low))) (λ high. (inr (omega (arith, high)), (inr (omega (arith, high, long)), tt))) out

@@ -20,7 +20,7 @@ use Rattle.flash_layout.specs.declared.layout.Entry.{Entry}
 use Rattle.flash_layout.specs.declared.layout.Memory.{Memory}
 use Rattle.flash_layout.specs.declared.layout.Memory.TheVariants as memory
 use Rattle.flash_layout.specs.declared.key.Key.{Key}
-use Rattle.flash_layout.specs.Frames.{page_bytes}
+use Rattle.flash_layout.specs.Frames.{most, page_bytes}
 use Rattle.suit_params.specs.Identifiers.{string_items, spelled_id}
 use Rattle.flash_layout.specs.Layouts.{IsUuid, IsTypedEntry, AreTyped, IsEntry, IsLayout}
 use Rattle.suit_params.specs.declared.refusal.Refusal.{Refusal}
@@ -209,18 +209,18 @@ entries_long (e ∷ es) typed short =
 pub short_of : (frame : Frame) (size : ℕ) (layout : List Entry) → IsLayout frame size layout → All IsShort layout
 short_of frame size layout allowed = All-weaker (IsEntry size) IsShort (λ e is. is.short) layout allowed.each
 
-page_fields : (frame : Frame) (layout : List Entry) (key : Key) → AreTyped layout key → All IsShort layout → length layout ≤ frame.most → page_at frame (config_page frame layout key) ≡ Ok (layout, key)
+page_fields : (frame : Frame) (layout : List Entry) (key : Key) → AreTyped layout key → All IsShort layout → length layout ≤ most frame → page_at frame (config_page frame layout key) ≡ Ok (layout, key)
 unfolding page_at config_page
 page_fields frame layout key typed short few =
     let entries = entries_bytes layout in
-    let zeros : List ℕ = replicate (142 * frame.most - length entries) 0 in
+    let zeros : List ℕ = replicate (142 * most frame - length entries) 0 in
     let long : length entries ≡ 142 * length layout = entries_long layout typed.entries short in
-    let all : length (entries ++ zeros) ≡ 142 * frame.most = omega (arith, long, few, length-append entries zeros, length-replicate {A = ℕ} (142 * frame.most - length entries) 0) in
-    let size : length (entries ++ zeros) ≡ 68 + 142 * frame.most - 68 = omega (arith, all) in
+    let all : length (entries ++ zeros) ≡ 142 * most frame = omega (arith, long, few, length-append entries zeros, length-replicate {A = ℕ} (142 * most frame - length entries) 0) in
+    let size : length (entries ++ zeros) ≡ 68 + 142 * most frame - 68 = omega (arith, all) in
     let front : List ℕ = 0xA5 ∷ frame.version ∷ key.length ∷ length layout ∷ key.bytes in
-    let fits : ltb frame.most (length layout) ≡ false = le-ltb _ _ few in
+    let fits : ltb (most frame) (length layout) ≡ false = le-ltb _ _ few in
     let room : length front ≡ 68 = omega (arith, typed.room) in
-    let body : slice_range (front ++ (entries ++ zeros)) 68 (68 + 142 * frame.most) ≡ entries ++ zeros = field front (entries ++ zeros) [] (front ++ (entries ++ zeros)) 68 (68 + 142 * frame.most) (ap (λ (l : List ℕ). front ++ l) (sym (append-nil (entries ++ zeros)))) room size in
+    let body : slice_range (front ++ (entries ++ zeros)) 68 (68 + 142 * most frame) ≡ entries ++ zeros = field front (entries ++ zeros) [] (front ++ (entries ++ zeros)) 68 (68 + 142 * most frame) (ap (λ (l : List ℕ). front ++ l) (sym (append-nil (entries ++ zeros)))) room size in
     let bytes : slice_range (front ++ (entries ++ zeros)) 4 68 ≡ key.bytes = field (0xA5 ∷ frame.version ∷ key.length ∷ length layout ∷ []) key.bytes (entries ++ zeros) (front ++ (entries ++ zeros)) 4 68 refl refl typed.room in
     let same : key_at (front ++ (entries ++ zeros)) ≡ key = λ i. record { bytes = bytes i; length = key.length } in
     rw (fits, ap (entries_at (length layout)) body ∙ entries_read layout zeros typed.entries short) (ap (λ (k : Key). Ok (layout, k)) same)
@@ -233,7 +233,7 @@ pub page_long : (frame : Frame) (size : ℕ) (layout : List Entry) (key : Key) �
 unfolding config_page
 page_long frame size layout key typed allowed =
     let entries = entries_bytes layout in
-    let zeros : List ℕ = replicate (142 * frame.most - length entries) 0 in
+    let zeros : List ℕ = replicate (142 * most frame - length entries) 0 in
     let long : length entries ≡ 142 * length layout = entries_long layout typed.entries (short_of frame size layout allowed) in
     omega (
       arith,
@@ -241,7 +241,7 @@ page_long frame size layout key typed allowed =
       allowed.few,
       typed.room,
       length-append entries zeros,
-      length-replicate {A = ℕ} (142 * frame.most - length entries) 0,
+      length-replicate {A = ℕ} (142 * most frame - length entries) 0,
       length-append (0xA5 ∷ frame.version ∷ key.length ∷ length layout ∷ key.bytes) (entries ++ zeros),
     )
 

@@ -1,6 +1,7 @@
 mod Allowing
 mod BlankKept
 mod FieldPlaces
+mod FormatFrames
 mod Found
 mod Gating
 mod Judged

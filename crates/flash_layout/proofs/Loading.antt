@@ -7,9 +7,10 @@ use Rattle.flash_layout.specs.declared.layout.Entry.{Entry}
 use Rattle.flash_layout.specs.declared.key.Key.{Key}
 use Rattle.flash_layout.specs.declared.frame.TheConstants.{VERSION_1}
 use Rattle.flash_layout.specs.Frames.{head_of, config_page_of}
-use Rattle.flash_layout.specs.Layouts.{AreTyped}
+use Rattle.flash_layout.specs.FirstFrame.{version_1}
+use Rattle.flash_layout.specs.Layouts.{AreTyped, IsLayout}
 use Rattle.flash_layout.specs.ConfigPage.{IsConfigPage}
-use Rattle.flash_layout.specs.Configs.{IsBlank, IsConfigured, IsBad}
+use Rattle.flash_layout.specs.Configs.{IsAllowed, IsBlank, IsConfigured, IsBad}
 use Rattle.flash_layout.proofs.OneAnswers.{as_version_1}
 
 pub small_blank : (reads : List ℕ) (size : ℕ) → length reads ≡ size → size < 49152 → IsBlank reads
@@ -30,6 +31,15 @@ configured s size same reads room layout key long large is typed page = record {
   whole = omega (arith, long, large);
   typed = typed;
   page = subst (λ (n : ℕ). IsConfigPage VERSION_1 n (config_page_of VERSION_1 (head_of VERSION_1 reads)) layout key) same (subst (λ (l : List ℕ). IsConfigPage VERSION_1 s l layout key) (page_same reads room is) page);
+}
+
+pub allowed : (s size : ℕ) → s ≡ size → (room : List ℕ) (layout : List Entry) (key : Key) → 49152 ≤ size → AreTyped layout key → IsConfigPage VERSION_1 s room layout key → IsAllowed VERSION_1 size layout key
+allowed s size same room layout key large typed page = record {
+  frame_is = version_1 size large;
+  whole = large;
+  layout_is = subst (λ (n : ℕ). IsLayout VERSION_1 n layout) same page.allowed;
+  key_is = page.sound;
+  typed = typed;
 }
 
 pub bad : (s size : ℕ) → s ≡ size → (reads room : List ℕ) → length reads ≡ size → 49152 ≤ size → room ≡ slice_range reads 0 1204 → get_or room 0 0 ≡ 0xA5

@@ -5,7 +5,7 @@ use Rattle.flash_layout.specs.declared.frame.Frame.{Frame}
 use Rattle.flash_layout.specs.declared.frame.TheConstants.{VERSION_1}
 use Rattle.flash_layout.specs.declared.layout.Entry.{Entry}
 use Rattle.flash_layout.specs.declared.key.Key.{Key}
-use Rattle.flash_layout.specs.Frames.{config_page_of, head_of}
+use Rattle.flash_layout.specs.Frames.{config_page_of, head_of, most}
 use Rattle.flash_layout.specs.ConfigPage.{config_page, IsConfigPage}
 use Rattle.flash_layout.specs.Configs.{Blank, Bad, Configured, IsBlank, IsBad, IsConfigured}
 use Rattle.flash_layout.specs.ConfigLaws.{OneConfig, OneAnswer}
@@ -15,7 +15,7 @@ unfolding config_page
 opens frame layout key = refl
 
 pub gate : (frame : Frame) (size : ℕ) (head : List ℕ) (layout : List Entry) (key : Key) → IsConfigPage frame size (config_page_of frame head) layout key → get_or head 0 0 ≡ 0xA5
-gate frame size head layout key page = sym (get_or-between head 0 (68 + 142 * frame.most) 0 0 (omega arith)) ∙ ap (λ (l : List ℕ). get_or l 0 0) page.is ∙ opens frame layout key
+gate frame size head layout key page = sym (get_or-between head 0 (68 + 142 * most frame) 0 0 (omega arith)) ∙ ap (λ (l : List ℕ). get_or l 0 0) page.is ∙ opens frame layout key
 
 -- of a configured image
 module _ (size : ℕ) (image : List ℕ) (layout : List Entry) (key : Key) (frame : Frame) (is : IsConfigured size image layout key frame) where

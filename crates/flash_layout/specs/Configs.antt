@@ -10,7 +10,7 @@ use Rattle.flash_layout.specs.declared.load.Loaded.{Loaded}
 use Rattle.flash_layout.specs.declared.load.Loaded.TheVariants as loaded
 use Rattle.flash_layout.specs.Layouts.{AreTyped, IsLayout, IsKey}
 use Rattle.flash_layout.specs.ConfigPage.{IsConfigPage}
-use Rattle.flash_layout.specs.Frames.{config_page_of, head_of}
+use Rattle.flash_layout.specs.Frames.{IsFrame, config_page_of, head_of, head_size}
 
 pub data Config : Type 0 where
   Blank : Config
@@ -19,18 +19,18 @@ pub data Config : Type 0 where
 
 -- a small flash, or a gate that is not open
 abbrev pub IsBlank : List ℕ → Type 0
-IsBlank image = (length image < VERSION_1.size) ⊎ (IsOpen image CONFIG_GATE → ⊥)
+IsBlank image = (length image < head_size VERSION_1) ⊎ (IsOpen image CONFIG_GATE → ⊥)
 
 pub record IsConfigured (size : ℕ) (image : List ℕ) (layout : List Entry) (key : Key)
     (frame : Frame) : Type 0 where
   pub version : frame ≡ VERSION_1
-  pub whole : frame.base + frame.size ≤ length image
+  pub whole : frame.base + head_size frame ≤ length image
   pub typed : AreTyped layout key
   pub page : IsConfigPage frame size (config_page_of frame (head_of frame image)) layout key
 
 -- an open gate before the page of no layout and key
 pub record IsBad (size : ℕ) (image : List ℕ) : Type 0 where
-  pub whole : VERSION_1.size ≤ length image
+  pub whole : head_size VERSION_1 ≤ length image
   pub gate : IsOpen image CONFIG_GATE
   pub none : (layout : List Entry) (key : Key) (frame : Frame)
       → IsConfigured size image layout key frame → ⊥
@@ -48,10 +48,10 @@ abbrev pub LoadCounts : Loaded → ℕ → ℕ → Type 0
 LoadCounts loaded.FlashFault before now = Faulted before now
 LoadCounts _ before now = now ≡ before
 
--- a layout and a key that the rules allow on a flash of the size, of a version that there is
+-- a layout and a key that the rules allow on a flash of the size, which has that frame
 pub record IsAllowed (frame : Frame) (size : ℕ) (layout : List Entry) (key : Key) : Type 0 where
-  pub version : frame ≡ VERSION_1
-  pub whole : frame.size ≤ size
+  pub frame_is : IsFrame size frame
+  pub whole : head_size frame ≤ size
   pub layout_is : IsLayout frame size layout
   pub key_is : IsKey key
   pub typed : AreTyped layout key

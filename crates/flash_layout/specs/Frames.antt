@@ -1,18 +1,43 @@
 -- Where the parts of a flash stand. The head is so many bytes from the frame's base on; its parts are told by their
 -- places in it.
-use Rattle.std.specs.Prelude.{ℕ, ◌+◌, ◌*◌, List, slice_range}
+use Rattle.std.specs.Prelude.{◌≡◌, ◌≤◌, ◌+◌, ◌*◌, ℕ, List, slice_range}
 use Rattle.suit_edge.specs.Gate.{IsOpen}
 use Rattle.flash_layout.specs.declared.frame.Frame.{Frame}
 use Rattle.flash_layout.specs.declared.frame.TheConstants.{ENTRY_SIZE, FRONT_SIZE}
 
+-- ---- sizes: those of version 1, which is the one version that there is
+
+abbrev pub head_size : Frame → ℕ
+head_size frame = 49152
+
+abbrev pub config_size : Frame → ℕ
+config_size frame = 4096
+
+abbrev pub record_size : Frame → ℕ
+record_size frame = 4096
+
+abbrev pub bank_size : Frame → ℕ
+bank_size frame = 16384
+
+-- how many components a layout has, at most
+abbrev pub most : Frame → ℕ
+most frame = 8
+
+-- ---- the frames of a flash of this size
+
+pub data IsFrame (size : ℕ) (frame : Frame) : Type 0 where
+  First : frame.version ≡ 1 → frame.base ≡ 0 → head_size frame ≤ size → IsFrame size frame
+
+-- ---- the head
+
 abbrev pub head_of : Frame → List ℕ → List ℕ
-head_of frame image = slice_range image frame.base (frame.base + frame.size)
+head_of frame image = slice_range image frame.base (frame.base + head_size frame)
 
 -- ---- the configuration page
 
 -- the bytes of its components
 abbrev pub entries_size : Frame → ℕ
-entries_size frame = ENTRY_SIZE * frame.most
+entries_size frame = ENTRY_SIZE * most frame
 
 -- those of its bytes that are read
 abbrev pub page_bytes : Frame → ℕ
@@ -25,7 +50,7 @@ config_page_of frame head = slice_range head 0 (page_bytes frame)
 
 -- where a record page starts, in the head and in the flash
 abbrev pub record_from : Frame → ℕ → ℕ
-record_from frame which = frame.config_size + which * frame.record_size
+record_from frame which = config_size frame + which * record_size frame
 
 abbrev pub record_place : Frame → ℕ → ℕ
 record_place frame which = frame.base + record_from frame which
@@ -41,7 +66,7 @@ HasNoRecord frame head = (HasOpenRecord frame head 0 → ⊥) × (HasOpenRecord 
 -- ---- the banks
 
 abbrev pub bank_from : Frame → ℕ → ℕ
-bank_from frame which = record_from frame 2 + which * frame.bank_size
+bank_from frame which = record_from frame 2 + which * bank_size frame
 
 abbrev pub bank_place : Frame → ℕ → ℕ
 bank_place frame which = frame.base + bank_from frame which

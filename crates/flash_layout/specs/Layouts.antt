@@ -6,6 +6,7 @@ use Rattle.flash_layout.specs.declared.layout.Entry.{Entry}
 use Rattle.flash_layout.specs.declared.layout.Memory.{Memory}
 use Rattle.flash_layout.specs.declared.layout.Memory.TheVariants as memory
 use Rattle.flash_layout.specs.declared.key.Key.{Key}
+use Rattle.flash_layout.specs.Frames.{most}
 use Rattle.suit_params.specs.Identifiers.{spelled_id}
 
 -- ---- slots
@@ -71,7 +72,7 @@ pub record AreApart (a b : Entry) : Type 0 where
 
 pub record IsLayout (frame : Frame) (size : ℕ) (layout : List Entry) : Type 0 where
   pub some : 1 ≤ length layout
-  pub few : length layout ≤ frame.most
+  pub few : length layout ≤ most frame
   pub each : All (IsEntry size) layout
   pub apart : AllPairs AreApart layout
 

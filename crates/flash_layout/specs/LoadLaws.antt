@@ -1,21 +1,21 @@
 -- Laws of loading a configuration.
 use Rattle.std.specs.Prelude.{◌≡◌, ◌<◌, ◌≤◌, ◌-◌, ◌^◌, ℕ, List, length}
 use Rattle.flash_layout.specs.declared.frame.Frame.{Frame}
-use Rattle.flash_layout.specs.declared.frame.TheConstants.{VERSION_1}
 use Rattle.flash_layout.specs.declared.layout.Entry.{Entry}
 use Rattle.flash_layout.specs.declared.key.Key.{Key}
 use Rattle.flash_layout.specs.declared.load.Loaded.TheVariants as loaded
 use Rattle.flash_layout.specs.Layouts.{AreTyped, IsLayout, IsKey}
 use Rattle.flash_layout.specs.Configs.{ConfigOf, Configured, LoadCounts, LoadsAllowed, LoadsExactly}
+use Rattle.flash_layout.specs.Frames.{IsFrame, head_size}
 
 pub record LoadLaws : Type 0 where
   -- a loaded layout and key are allowed by the rules on a flash of the size, which has room for the head
   pub allowed : (frame : Frame) (size : ℕ) (layout : List Entry) (key : Key)
       → LoadsAllowed size (loaded.Config layout key frame)
-      → IsLayout frame size layout × IsKey key × AreTyped layout key × (frame.size ≤ size)
-  -- by a frame of a version that there is
-  pub version : (frame : Frame) (size : ℕ) (layout : List Entry) (key : Key)
-      → LoadsAllowed size (loaded.Config layout key frame) → frame ≡ VERSION_1
+      → IsLayout frame size layout × IsKey key × AreTyped layout key × (head_size frame ≤ size)
+  -- by a frame of the flash
+  pub frame_is : (frame : Frame) (size : ℕ) (layout : List Entry) (key : Key)
+      → LoadsAllowed size (loaded.Config layout key frame) → IsFrame size frame
   -- and so is what an image says
   pub said : (frame : Frame) (size : ℕ) (image : List ℕ) (layout : List Entry) (key : Key)
       → length image ≤ size → ConfigOf size image (Configured layout key frame)

@@ -14,7 +14,7 @@ use Rattle.flash_layout.specs.declared.layout.Entry.{Entry}
 use Rattle.flash_layout.specs.declared.layout.Memory.{Memory}
 use Rattle.flash_layout.specs.declared.layout.Memory.TheVariants as memory
 use Rattle.flash_layout.specs.declared.key.Key.{Key}
-use Rattle.flash_layout.specs.Frames.{page_bytes}
+use Rattle.flash_layout.specs.Frames.{most, page_bytes}
 
 -- ---- identifiers
 
@@ -69,7 +69,7 @@ key_at page = record { bytes = slice_range page 4 FRONT_SIZE; length = slice_ind
 
 unfoldable pub page_at : Frame → List ℕ → Result (List Entry × Key) Refusal
 page_at frame page =
-    if nat_lt frame.most (slice_index page 3) then Err (refused 3 Shape)
+    if nat_lt (most frame) (slice_index page 3) then Err (refused 3 Shape)
     else
     (entries_at (slice_index page 3) (slice_range page FRONT_SIZE (page_bytes frame))
     >>= λ layout. Ok (layout, key_at page))

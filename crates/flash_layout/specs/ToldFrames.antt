@@ -9,6 +9,7 @@ use Rattle.flash_layout.specs.declared.layout.Entry.{Entry}
 use Rattle.flash_layout.specs.ConfigPage.{IsConfigPage}
 use Rattle.flash_layout.specs.Configs.{Config, ConfigOf, Blank, Bad, Configured, IsAllowed}
 use Rattle.flash_layout.specs.Frames.{config_page_of, head_of}
+use Rattle.flash_layout.specs.FirstFrame.{is_first}
 
 -- no other frame is told
 abbrev pub IsTold : ℕ → List ℕ → Frame → Type 0
@@ -30,7 +31,7 @@ by_version_1 size image = by_told size image VERSION_1 (told_version_1 size imag
 -- and so is what is allowed
 pub allowed_by : (size : ℕ) (layout : List Entry) (key : Key) (frame : Frame) → IsAllowed frame size layout key
     → IsAllowed VERSION_1 size layout key
-allowed_by size layout key frame is = subst (λ (f : Frame). IsAllowed f size layout key) is.version is
+allowed_by size layout key frame is = subst (λ (f : Frame). IsAllowed f size layout key) (is_first size frame is.frame_is) is
 
 -- an image with the same first bytes has the same configuration
 module _ (size : ℕ) (image other : List ℕ) (long : length other ≡ length image)

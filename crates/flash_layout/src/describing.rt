@@ -1,6 +1,6 @@
 //! Values of JSON as layouts.
 
-ghost use Rattle.std.specs.Prelude.{◌≤◌, All, IfOk, IfErr, MatchResult, List};
+ghost use Rattle.std.specs.Prelude.{◌≡◌, ◌≤◌, All, IfOk, IfErr, MatchResult, List};
 ghost use Rattle.serde_json.specs.View.{view};
 ghost use Rattle.flash_layout.specs.declared.layout.Entry.{Entry};
 ghost use Rattle.flash_layout.specs.declared.layout_fault.LayoutFault.{LayoutFault};
@@ -10,7 +10,7 @@ ghost use Rattle.flash_layout.specs.LayoutFaults.{AreHeld, RefusesEntries, IsLay
 use crate::device_fields::device;
 use crate::first_faults::{first_outside, first_overlap};
 use crate::frame::{MAX_ENTRIES, VERSION_1};
-use crate::{Layout, LayoutFault};
+use crate::{Frame, Layout, LayoutFault};
 use serde_json::Value;
 use std::alloc::Global;
 use suit_params::first_alike;
@@ -47,19 +47,23 @@ fn read_layout(alloc: Global, value: &Value, size: u64) -> Result<Layout, Layout
     Ok(layout)
 }
 
-/// A device's description in JSON as the layout of a flash of this size: an object with `components`, an array of
-/// one to eight objects with `id`, `kind`, `capacity`, `slots` (in flash alone) and, where they are wanted,
+/// A device's description in JSON as the layout and the frame of a flash of this size: an object with `components`, an
+/// array of one to eight objects with `id`, `kind`, `capacity`, `slots` (in flash alone) and, where they are wanted,
 /// `vendor`, `class` and `device`. Members are judged in the order of their keys' bytes, arrays by their indices,
 /// each value whole before the next, and then the fields that are missing; after all fields how many components
 /// there are, whether two are alike, whether two share a byte, and whether one lies outside the flash.
-pub fn layout_of(alloc: Global, value: &Value, size: u64) -> Result<Layout, LayoutFault>
-    ensures ok { IfOk result (IsLayoutOf size (view value.now)) }
-    ensures allowed { IfOk result (IsLayout VERSION_1 size) }
+pub fn layout_of(alloc: Global, value: &Value, size: u64) -> Result<(Layout, Frame), LayoutFault>
+    ensures ok { IfOk result (λ r. IsLayoutOf size (view value.now) r.0) }
+    ensures version { IfOk result (λ r. r.1 ≡ VERSION_1) }
+    ensures allowed { IfOk result (λ r. IsLayout r.1 size r.0) }
     ensures refused { IfErr result (IsFaultOf size (view value.now)) }
     ensures every_layout { (layout : List Entry) → IsLayoutOf size (view value.now) layout
         → IsAccepted result }
     ensures every_fault { (fault : LayoutFault) → RefusesLayout size (view value.now) fault
         → IsRefusedFor fault result }
 {
-    read_layout(alloc, value, size)
+    match read_layout(alloc, value, size) {
+        Ok(layout) => Ok((layout, VERSION_1)),
+        Err(fault) => Err(fault),
+    }
 }

@@ -1,18 +1,19 @@
 //! Formatting a flash.
 
-ghost use Rattle.std.specs.Prelude.{◌≡◌, ◌≤◌, All, drop, IsTrue, length};
+ghost use Rattle.std.specs.Prelude.{◌≡◌, All, drop, IsTrue, length};
 ghost use Rattle.suit_edge.specs.Edge.{IfDone};
 ghost use Rattle.suit_edge.specs.Faults.{EdgeCounts};
 ghost use Rattle.suit_edge.specs.Flash.{Grows, IsSame, IsSettled, Keeps, Passes};
 ghost use Rattle.suit_edge.specs.Gate.{IsOpen};
 ghost use Rattle.flash_layout.specs.Layouts.{IsKey, IsLayout, slot_starts};
 ghost use Rattle.flash_layout.specs.Formats.{AreAllClearAt, AreClosed, FormatCounts, HaveLengths, IfFormatted, IfNotBlank, IsBlankOrFormatted, IsClearAt, IsFormatted, IsPrepared, KeepsZeros, OutsideAllLengths, OutsideFormat, OutsideLengths, OutsidePrepared, OutsideRecordGates};
+ghost use Rattle.flash_layout.specs.Frames.{IsFrame};
 
-use crate::frame::{CONFIG_GATE, LENGTH_SIZE, VERSION_1, record_page};
+use crate::frame::{CONFIG_GATE, LENGTH_SIZE, record_page};
 use crate::page_writing::write_page;
 use crate::rules::slots_of;
 use crate::typing::typed;
-use crate::{Entry, Key, Layout};
+use crate::{Entry, Frame, Key, Layout};
 use suit_edge::{CLOSED, Disk, Edge, OPEN, open_written};
 
 /// The outcome of formatting a flash.
@@ -27,20 +28,20 @@ pub enum Formatted {
 }
 
 // Closes the gates of both record pages.
-fn close_records<D: Disk>(disk: &mut D) -> Edge
-    requires { VERSION_1.size ≤ D.extent disk.old }
+fn close_records<D: Disk>(disk: &mut D, frame: Frame) -> Edge
+    requires { IsFrame (D.extent disk.old) frame }
     ensures size { D.extent disk.new ≡ D.extent disk.old }
     ensures counts { EdgeCounts result (D.faults disk.old) (D.faults disk.new) }
-    ensures closed { IsTrue D.told → IfDone result (AreClosed VERSION_1 (D.flash disk.new).reads) }
+    ensures closed { IsTrue D.told → IfDone result (AreClosed frame (D.flash disk.new).reads) }
     ensures keeps { IsTrue D.told
-        → Keeps (OutsideRecordGates VERSION_1) (D.flash disk.old) (D.flash disk.new) }
+        → Keeps (OutsideRecordGates frame) (D.flash disk.old) (D.flash disk.new) }
     ensures grows { IsTrue D.told → Grows (D.flash disk.old) (D.flash disk.new) }
 {
-    match disk.write_at(record_page(0), &[CLOSED]) {
+    match disk.write_at(record_page(frame, 0), &[CLOSED]) {
         Edge::Failed => return Edge::Failed,
         Edge::Done => {}
     }
-    match disk.write_at(record_page(1), &[CLOSED]) {
+    match disk.write_at(record_page(frame, 1), &[CLOSED]) {
         Edge::Failed => Edge::Failed,
         Edge::Done => Edge::Done,
     }
@@ -92,18 +93,18 @@ fn empty_each<D: Disk>(disk: &mut D, entries: &[Entry]) -> Edge
 }
 
 // Writes all but the configuration page, without a sync.
-fn prepare<D: Disk>(disk: &mut D, layout: &Layout) -> Edge
-    requires large { VERSION_1.size ≤ D.extent disk.old }
-    requires layout { IsLayout VERSION_1 (D.extent disk.old) layout.now }
+fn prepare<D: Disk>(disk: &mut D, layout: &Layout, frame: Frame) -> Edge
+    requires frame { IsFrame (D.extent disk.old) frame }
+    requires layout { IsLayout frame (D.extent disk.old) layout.now }
     ensures size { D.extent disk.new ≡ D.extent disk.old }
     ensures counts { EdgeCounts result (D.faults disk.old) (D.faults disk.new) }
     ensures prepared { IsTrue D.told
-        → IfDone result (IsPrepared VERSION_1 layout.now (D.flash disk.new).reads) }
+        → IfDone result (IsPrepared frame layout.now (D.flash disk.new).reads) }
     ensures keeps { IsTrue D.told
-        → Keeps (OutsidePrepared VERSION_1 layout.now) (D.flash disk.old) (D.flash disk.new) }
+        → Keeps (OutsidePrepared frame layout.now) (D.flash disk.old) (D.flash disk.new) }
     ensures grows { IsTrue D.told → Grows (D.flash disk.old) (D.flash disk.new) }
 {
-    match close_records(disk) {
+    match close_records(disk, frame) {
         Edge::Failed => return Edge::Failed,
         Edge::Done => {}
     }
@@ -115,9 +116,9 @@ fn prepare<D: Disk>(disk: &mut D, layout: &Layout) -> Edge
 
 /// Gives a blank flash a layout and a key: no record, and each slot empty. A power loss meanwhile leaves it blank or
 /// formatted. If the gate of the configuration page is open, nothing changes.
-pub fn format<D: Disk>(disk: &mut D, layout: &Layout, key: &Key) -> Formatted
-    requires large { VERSION_1.size ≤ D.extent disk.old }
-    requires layout { IsLayout VERSION_1 (D.extent disk.old) layout.now }
+pub fn format<D: Disk>(disk: &mut D, layout: &Layout, key: &Key, frame: Frame) -> Formatted
+    requires frame { IsFrame (D.extent disk.old) frame }
+    requires layout { IsLayout frame (D.extent disk.old) layout.now }
     requires key { IsKey key.now }
     ensures size { D.extent disk.new ≡ D.extent disk.old }
     ensures counts { FormatCounts result (D.faults disk.old) (D.faults disk.new) }
@@ -126,15 +127,15 @@ pub fn format<D: Disk>(disk: &mut D, layout: &Layout, key: &Key) -> Formatted
         (IsSame (D.flash disk.old) (D.flash disk.new)) }
     ensures formatted { IsTrue D.told
         → IfFormatted result
-        (IsFormatted VERSION_1 (D.extent disk.old) layout.now key.now
+        (IsFormatted frame (D.extent disk.old) layout.now key.now
         (D.flash disk.new).reads) }
     ensures settled { IsTrue D.told → IfFormatted result (IsSettled (D.flash disk.new)) }
     ensures any_moment { IsTrue D.told
         → Passes (D.flash disk.old) (D.flash disk.new)
-        (IsBlankOrFormatted VERSION_1 (D.extent disk.old) layout.now key.now
+        (IsBlankOrFormatted frame (D.extent disk.old) layout.now key.now
         (D.flash disk.old)) }
     ensures keeps { IsTrue D.told
-        → Keeps (OutsideFormat VERSION_1 layout.now) (D.flash disk.old) (D.flash disk.new) }
+        → Keeps (OutsideFormat frame layout.now) (D.flash disk.old) (D.flash disk.new) }
     ensures grows { IsTrue D.told → Grows (D.flash disk.old) (D.flash disk.new) }
 {
     typed(layout, key);
@@ -146,12 +147,12 @@ pub fn format<D: Disk>(disk: &mut D, layout: &Layout, key: &Key) -> Formatted
     if gate[0] == OPEN {
         return Formatted::NotBlank;
     }
-    match prepare(disk, layout) {
+    match prepare(disk, layout, frame) {
         Edge::Failed => return Formatted::FlashFault,
         Edge::Done => {}
     }
-    let page = write_page(layout, key);
-    match open_written(disk, CONFIG_GATE, CONFIG_GATE + 1, page.behind_gate()) {
+    let page = write_page(layout, key, frame);
+    match open_written(disk, frame.base, frame.base + 1, page.behind_gate()) {
         Edge::Failed => Formatted::FlashFault,
         Edge::Done => Formatted::Done,
     }

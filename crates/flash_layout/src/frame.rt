@@ -1,43 +1,38 @@
 //! Where the parts of a flash stand, and how large they are.
 
-ghost use Rattle.std.specs.Prelude.{◌≡◌, ◌<◌};
-ghost use Rattle.flash_layout.specs.Frames.{bank_place, record_place};
+ghost use Rattle.std.specs.Prelude.{◌≡◌, ◌<◌, ◌+◌, ◌^◌};
+ghost use Rattle.flash_layout.specs.Frames.{bank_place, head_size, record_place};
 
-/// The head of a flash: a configuration page, two record pages and two banks, one behind another.
+/// Where the head of a flash is, and which version its layout has. The head is a configuration page, two record pages and
+/// two banks, one behind another.
 #[derive(Clone, Copy, Debug, PartialEq, Eq)]
 pub struct Frame {
     /// The byte of the layout's version.
     pub version: u8,
     /// Where the head starts.
     pub base: u64,
-    /// How many bytes it has.
-    pub size: u64,
-    /// The bytes of the configuration page.
-    pub config_size: u64,
-    /// The bytes of a record page.
-    pub record_size: u64,
-    /// The bytes of a bank.
-    pub bank_size: u64,
-    /// How many components a layout has, at most.
-    pub most: u64,
 }
 
-/// The frame of layout version 1.
+/// The frame of layout version 1, at the start of the flash.
 pub const VERSION_1: Frame = Frame {
     version: 1,
     base: 0,
-    size: 49_152,
-    config_size: 4_096,
-    record_size: 4_096,
-    bank_size: 16_384,
-    most: 8,
 };
+
+/// How many bytes a head has.
+pub const HEAD_SIZE: u64 = 49_152;
+
+/// The bytes of a configuration page, and of a record page.
+pub const PAGE_SIZE: u64 = 4_096;
+
+/// The bytes of a bank.
+pub const BANK_SIZE: u64 = 16_384;
 
 /// Where the slots of a layout begin at the earliest.
 pub const SLOTS_START: u64 = 49_152;
 
 /// How many components a layout may have.
-pub const MAX_ENTRIES: usize = VERSION_1.most as usize;
+pub const MAX_ENTRIES: usize = 8;
 
 /// The bytes of a slot's length.
 pub const LENGTH_SIZE: u64 = 8;
@@ -58,17 +53,19 @@ pub const PAGE_BYTES: usize = FRONT_SIZE + ENTRIES_SIZE;
 pub const CONFIG_GATE: u64 = VERSION_1.base;
 
 /// Where a record page starts, with its gate: the first one for 0, the second for 1.
-pub fn record_page(which: u64) -> u64
-    requires { which < 2 }
-    ensures { result ≡ record_place VERSION_1 which }
+pub fn record_page(frame: Frame, which: u64) -> u64
+    requires room { frame.base + head_size frame < 2 ^ 64 }
+    requires which { which < 2 }
+    ensures { result ≡ record_place frame which }
 {
-    VERSION_1.base + VERSION_1.config_size + which * VERSION_1.record_size
+    frame.base + PAGE_SIZE + which * PAGE_SIZE
 }
 
 /// Where a bank starts: the first one for 0, the second for 1.
-pub fn bank(which: u64) -> u64
-    requires { which < 2 }
-    ensures { result ≡ bank_place VERSION_1 which }
+pub fn bank(frame: Frame, which: u64) -> u64
+    requires room { frame.base + head_size frame < 2 ^ 64 }
+    requires which { which < 2 }
+    ensures { result ≡ bank_place frame which }
 {
-    record_page(0) + 2 * VERSION_1.record_size + which * VERSION_1.bank_size
+    record_page(frame, 0) + 2 * PAGE_SIZE + which * BANK_SIZE
 }

@@ -30,8 +30,8 @@ mod typing;
 pub use describing::layout_of;
 pub use formatting::{Formatted, format};
 pub use frame::{
-    CONFIG_GATE, ENTRY_SIZE, FRONT_SIZE, Frame, LENGTH_SIZE, MAX_ENTRIES, PAGE_BYTES, SLOTS_START,
-    VERSION_1, bank, record_page,
+    BANK_SIZE, CONFIG_GATE, ENTRY_SIZE, FRONT_SIZE, Frame, HEAD_SIZE, LENGTH_SIZE, MAX_ENTRIES,
+    PAGE_BYTES, PAGE_SIZE, SLOTS_START, VERSION_1, bank, record_page,
 };
 pub use key::{Key, is_key};
 pub use law::{config_laws, frame_laws, load_laws, page_laws, slot_laws};

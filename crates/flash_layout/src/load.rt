@@ -4,7 +4,7 @@ ghost use Rattle.std.specs.Prelude.{◌≡◌, IsTrue};
 ghost use Rattle.suit_edge.specs.Flash.{Grows, IsSame};
 ghost use Rattle.flash_layout.specs.Configs.{LoadCounts, LoadsAllowed, LoadsExactly};
 
-use crate::frame::{CONFIG_GATE, PAGE_BYTES, VERSION_1};
+use crate::frame::{CONFIG_GATE, HEAD_SIZE, PAGE_BYTES, VERSION_1};
 use crate::page_reading::decode_page;
 use crate::{Frame, Key, Layout};
 use std::alloc::{AllocError, Global};
@@ -36,7 +36,7 @@ pub fn load_config<D: Disk>(alloc: Global, disk: &mut D) -> Loaded
     ensures grows { IsTrue D.told → Grows (D.flash disk.old) (D.flash disk.new) }
 {
     let size = disk.size();
-    if size < VERSION_1.size {
+    if size < HEAD_SIZE {
         return Loaded::Blank;
     }
     let mut page = [0u8; PAGE_BYTES];

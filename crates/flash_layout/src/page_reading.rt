@@ -113,7 +113,7 @@ fn spells(size: u64, page: &[u8], layout: &Layout, key: &Key) -> bool
     if !is_key(key) || !is_layout(size, layout) {
         return false;
     }
-    write_page(layout, key).as_slice() == page
+    write_page(layout, key, VERSION_1).as_slice() == page
 }
 
 /// The layout and the key of a page, where the rules allow them on a flash of this size, or `None` where it

@@ -4,10 +4,10 @@ ghost use Rattle.std.specs.Prelude.{◌≡◌, ◌≤◌, ◌+◌, ◌*◌, ◌�
 ghost use Rattle.suit_params.specs.Identifiers.{spelled_id};
 ghost use Rattle.flash_layout.specs.ConfigPage.{config_page, entries_bytes, entry_bytes, identifier_field, ids_field, memory_byte, numbers_field, optional_id, padded, page_front};
 
-use crate::frame::{ENTRIES_SIZE, ENTRY_SIZE, FRONT_SIZE, MAX_ENTRIES, PAGE_BYTES, VERSION_1};
+use crate::frame::{ENTRIES_SIZE, ENTRY_SIZE, FRONT_SIZE, MAX_ENTRIES, PAGE_BYTES};
 use crate::page::Page;
 use crate::spelling::spell_id;
-use crate::{Entry, Key, Layout, Memory};
+use crate::{Entry, Frame, Key, Layout, Memory};
 use suit_edge::OPEN;
 use suit_params::Identifier;
 
@@ -117,27 +117,27 @@ fn put_entries(page: &mut Page<PAGE_BYTES>, entries: &[Entry])
 }
 
 // Adds the open gate, the version, the lengths and the key.
-fn put_front(page: &mut Page<PAGE_BYTES>, count: u8, key: &Key)
+fn put_front(page: &mut Page<PAGE_BYTES>, version: u8, count: u8, key: &Key)
     requires { length page.old + FRONT_SIZE ≤ PAGE_BYTES }
     ensures bytes { page.new
-        ≡ page.old ++ OPEN ∷ VERSION_1.version ∷ key.now.length ∷ count ∷ key.now.bytes }
+        ≡ page.old ++ OPEN ∷ version ∷ key.now.length ∷ count ∷ key.now.bytes }
     ensures long { length page.new ≡ length page.old + FRONT_SIZE }
 {
-    page.put(&[OPEN, VERSION_1.version, key.length, count]);
+    page.put(&[OPEN, version, key.length, count]);
     page.put(&key.bytes);
 }
 
-/// The page of a layout and a key, with its gate open. Takes no memory.
+/// The page of a layout and a key on a flash with this frame, with its gate open. Takes no memory.
 #[tactic(auto, unfolding(crate::specs::ConfigPage::config_page))]
-pub(crate) fn write_page(layout: &Layout, key: &Key) -> Page<PAGE_BYTES>
+pub(crate) fn write_page(layout: &Layout, key: &Key, frame: Frame) -> Page<PAGE_BYTES>
     requires few { length layout.now ≤ MAX_ENTRIES }
     requires short { All (λ e. length (spelled_id e.identifier) ≤ 64) layout.now }
-    ensures bytes { result ≡ config_page VERSION_1 layout.now key.now }
+    ensures bytes { result ≡ config_page frame layout.now key.now }
     ensures long { length result ≡ PAGE_BYTES }
 {
     let entries = layout.as_slice();
     let mut page = Page::new();
-    put_front(&mut page, entries.len() as u8, key);
+    put_front(&mut page, frame.version, entries.len() as u8, key);
     put_entries(&mut page, entries);
     page.put_zeros(ENTRIES_SIZE - ENTRY_SIZE * entries.len());
     page

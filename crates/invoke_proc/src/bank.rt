@@ -1,14 +1,15 @@
 //! The installed record, and the envelope in its bank.
 
 ghost use Rattle.flash_layout.specs.declared.key.Key.{Key};
-ghost use Rattle.flash_layout.specs.declared.frame.TheConstants.{VERSION_1};
-ghost use Rattle.invoke_proc.specs.Banks.{BankCounts, IsNoBank, bank_in, config_in, record_in};
+ghost use Rattle.flash_layout.specs.Configs.{ConfigOf, Configured};
+ghost use Rattle.flash_layout.specs.Frames.{IsFrame, bank_size};
+ghost use Rattle.invoke_proc.specs.Banks.{BankCounts, IsNoBank, bank_in, record_in};
 ghost use Rattle.std.specs.Prelude.{◌≡◌, ◌≤◌, ◌<◌, IfErr, IfOk, IsTrue, Some, length, take};
 ghost use Rattle.suit_edge.specs.Edge.{IfDone};
 ghost use Rattle.suit_edge.specs.Faults.{EdgeCounts};
 ghost use Rattle.suit_edge.specs.Flash.{Grows, IsSame};
 
-use flash_layout::{FlashFault, Layout, Record, bank};
+use flash_layout::{FlashFault, Frame, Layout, Record, bank};
 use rollback_record::load_record_by;
 use suit_edge::{Disk, Edge};
 
@@ -20,10 +21,10 @@ pub(crate) enum NoBank {
 }
 
 // Reads as much of a record's bank as the envelope takes.
-fn read_into<D: Disk>(disk: &mut D, installed: &Record, room: &mut [u8]) -> Edge
-    requires large { VERSION_1.size ≤ D.extent disk.old }
+fn read_into<D: Disk>(disk: &mut D, frame: Frame, installed: &Record, room: &mut [u8]) -> Edge
+    requires frame { IsFrame (D.extent disk.old) frame }
     requires bank { installed.now.bank < 2 }
-    requires length { installed.now.length ≤ VERSION_1.bank_size }
+    requires length { installed.now.length ≤ bank_size frame }
     requires room { length room.old ≡ installed.now.length }
     ensures size { D.extent disk.new ≡ D.extent disk.old }
     ensures counts { EdgeCounts result (D.faults disk.old) (D.faults disk.new) }
@@ -32,15 +33,15 @@ fn read_into<D: Disk>(disk: &mut D, installed: &Record, room: &mut [u8]) -> Edge
     ensures same { IsTrue D.told → IsSame (D.flash disk.old) (D.flash disk.new) }
     ensures grows { IsTrue D.told → Grows (D.flash disk.old) (D.flash disk.new) }
 {
-    disk.read_at(bank(u64::from(installed.bank)), room)
+    disk.read_at(bank(frame, u64::from(installed.bank)), room)
 }
 
 // Reads the envelope in the bank of a record, to the front of a room for a whole bank.
-fn read_bank<D: Disk>(disk: &mut D, installed: &Record, room: &mut [u8]) -> Edge
-    requires large { VERSION_1.size ≤ D.extent disk.old }
+fn read_bank<D: Disk>(disk: &mut D, frame: Frame, installed: &Record, room: &mut [u8]) -> Edge
+    requires frame { IsFrame (D.extent disk.old) frame }
     requires bank { installed.now.bank < 2 }
-    requires length { installed.now.length ≤ VERSION_1.bank_size }
-    requires room { length room.old ≡ VERSION_1.bank_size }
+    requires length { installed.now.length ≤ bank_size frame }
+    requires room { length room.old ≡ bank_size frame }
     ensures size { D.extent disk.new ≡ D.extent disk.old }
     ensures counts { EdgeCounts result (D.faults disk.old) (D.faults disk.new) }
     ensures room { length room.new ≡ length room.old }
@@ -49,20 +50,27 @@ fn read_bank<D: Disk>(disk: &mut D, installed: &Record, room: &mut [u8]) -> Edge
     ensures same { IsTrue D.told → IsSame (D.flash disk.old) (D.flash disk.new) }
     ensures grows { IsTrue D.told → Grows (D.flash disk.old) (D.flash disk.new) }
 {
-    read_into(disk, installed, &mut room[..installed.length as usize])
+    read_into(
+        disk,
+        frame,
+        installed,
+        &mut room[..installed.length as usize],
+    )
 }
 
-/// Reads the record of a flash with this layout, and its bank's envelope to the front of a room. Changes nothing on the
-/// flash, whatever it answers.
+/// Reads the record of a flash with this frame and layout, and its bank's envelope to the front of a room. Changes
+/// nothing on the flash, whatever it answers.
 pub(crate) fn find_bank<D: Disk>(
     disk: &mut D,
+    frame: Frame,
     layout: &Layout,
     room: &mut [u8],
 ) -> Result<Record, NoBank>
-    requires size { VERSION_1.size ≤ D.extent disk.old }
+    requires frame { IsFrame (D.extent disk.old) frame }
     requires config { IsTrue D.told
-        → (key : Key) × config_in (D.extent disk.old) (D.flash disk.old).reads layout.now key }
-    requires room { length room.old ≡ VERSION_1.bank_size }
+        → (key : Key) × ConfigOf (D.extent disk.old) (D.flash disk.old).reads
+        (Configured layout.now key frame) }
+    requires room { length room.old ≡ bank_size frame }
     ensures size { D.extent disk.new ≡ D.extent disk.old }
     ensures counts { BankCounts result (D.faults disk.old) (D.faults disk.new) }
     ensures recorded { IsTrue D.told
@@ -74,12 +82,12 @@ pub(crate) fn find_bank<D: Disk>(
     ensures same { IsTrue D.told → IsSame (D.flash disk.old) (D.flash disk.new) }
     ensures grows { IsTrue D.told → Grows (D.flash disk.old) (D.flash disk.new) }
 {
-    let installed = match load_record_by(disk, layout) {
+    let installed = match load_record_by(disk, frame, layout) {
         Ok(Some(installed)) => installed,
         Ok(None) => return Err(NoBank::NothingInstalled),
         Err(FlashFault) => return Err(NoBank::FlashFault),
     };
-    match read_bank(disk, &installed, room) {
+    match read_bank(disk, frame, &installed, room) {
         Edge::Done => Ok(installed),
         Edge::Failed => Err(NoBank::FlashFault),
     }

@@ -1,9 +1,8 @@
 //! Booting.
 
-ghost use Rattle.flash_layout.specs.declared.frame.TheConstants.{VERSION_1};
-ghost use Rattle.flash_layout.specs.Configs.{IsAllowed};
+ghost use Rattle.flash_layout.specs.Configs.{ConfigOf, Configured, IsAllowed};
 ghost use Rattle.flash_slots.specs.RamContents.{empty_ram};
-ghost use Rattle.invoke_proc.specs.Banks.{config_in, without_bank};
+ghost use Rattle.invoke_proc.specs.Banks.{without_bank};
 ghost use Rattle.invoke_proc.specs.Booting.{Answers, GainsSafe, IfUnfaulted, KeepsBoot, KeptSo, NeverHost, PlayedSo, PlaysBoot};
 ghost use Rattle.invoke_proc.specs.Counting.{BootCounts};
 ghost use Rattle.invoke_proc.specs.Sound.{IsUnrefused};
@@ -17,7 +16,7 @@ use crate::law::boot_laws;
 use crate::running::start;
 use crate::{BootBuffer, BootEnd, key_bytes};
 use admission::startable;
-use flash_layout::{Key, Layout, config_laws};
+use flash_layout::{Frame, Key, Layout, config_laws};
 use path_model::play_laws;
 use rollback_record::{record_laws, sound_laws};
 use step_machine::has_identifiers;
@@ -41,12 +40,14 @@ fn start_installed<H: Host, D: Disk, L: Launcher>(
     disk: &mut D,
     launcher: &mut L,
     layout: &Layout,
+    frame: Frame,
     key: &Key,
 ) -> BootEnd
     requires room { buffer ≡ empty_ram layout.now }
-    requires allowed { IsAllowed VERSION_1 (D.extent disk.old) layout.now key.now }
+    requires allowed { IsAllowed frame (D.extent disk.old) layout.now key.now }
     requires held { IsTrue D.told
-        → config_in (D.extent disk.old) (D.flash disk.old).reads layout.now key.now }
+        → ConfigOf (D.extent disk.old) (D.flash disk.old).reads
+        (Configured layout.now key.now frame) }
     ensures answers { IsTrue D.told → Answers layout.now key.now (D.flash disk.old).reads result }
     ensures size { D.extent disk.new ≡ D.extent disk.old }
     ensures settled { IsTrue D.told → IfUnfaulted result
@@ -70,7 +71,7 @@ fn start_installed<H: Host, D: Disk, L: Launcher>(
     manifest_laws();
     procedure_laws();
     let BootBuffer { mut bank, working } = buffer;
-    let installed = match find_bank(disk, layout, &mut bank) {
+    let installed = match find_bank(disk, frame, layout, &mut bank) {
         Ok(installed) => installed,
         Err(fault) => return without_bank(fault),
     };
@@ -87,20 +88,22 @@ fn start_installed<H: Host, D: Disk, L: Launcher>(
 ///
 /// The bank is judged first: the envelope and its manifest, whether the envelope is authentic under the key, and whether
 /// the layout has the manifest's components. The buffer is one that was made for the layout; no other memory is taken, so
-/// that it cannot run out. The layout and the key are those of the flash. Names of files are answered by none, so the host
-/// is not called.
+/// that it cannot run out. The layout, the frame and the key are those of the flash. Names of files are answered by none,
+/// so the host is not called.
 pub fn boot<H: Host, D: Disk, L: Launcher>(
     buffer: BootBuffer,
     host: &mut H,
     disk: &mut D,
     launcher: &mut L,
     layout: &Layout,
+    frame: Frame,
     key: &Key,
 ) -> BootEnd
     requires room { buffer ≡ empty_ram layout.now }
-    requires allowed { IsAllowed VERSION_1 (D.extent disk.old) layout.now key.now }
+    requires allowed { IsAllowed frame (D.extent disk.old) layout.now key.now }
     requires held { IsTrue D.told
-        → config_in (D.extent disk.old) (D.flash disk.old).reads layout.now key.now }
+        → ConfigOf (D.extent disk.old) (D.flash disk.old).reads
+        (Configured layout.now key.now frame) }
     ensures size { D.extent disk.new ≡ D.extent disk.old }
     ensures counts { BootCounts result
         (counts_of (H.faults host.old) (D.faults disk.old) (L.faults launcher.old))
@@ -139,5 +142,5 @@ pub fn boot<H: Host, D: Disk, L: Launcher>(
     manifest_laws();
     play_laws();
     boot_laws();
-    start_installed(buffer, host, disk, launcher, layout, key)
+    start_installed(buffer, host, disk, launcher, layout, frame, key)
 }

@@ -3,7 +3,7 @@
 ghost use Rattle.flash_slots.specs.RamContents.{empty_ram};
 ghost use Rattle.std.specs.Prelude.{◌≡◌, IfOk};
 
-use flash_layout::Layout;
+use flash_layout::{Frame, Layout};
 use flash_slots::Ram;
 use std::alloc::{AllocError, Global};
 use std::marker::Model;
@@ -12,9 +12,10 @@ use step_machine::Uris;
 /// The longest envelope in a bank, in bytes.
 pub(crate) const BANK_ROOM: usize = 16_384;
 
-/// Contents in working memory, and the files that answer URIs, of which there are none.
+/// The frame of the flash, contents in working memory, and the files that answer URIs, of which there are none.
 #[derive(Drop)]
 pub(crate) struct Working {
+    pub(crate) frame: Frame,
     pub(crate) ram: Ram,
     pub(crate) uris: Uris,
 }
@@ -39,15 +40,15 @@ impl Model for BootBuffer {
 }
 
 impl BootBuffer {
-    /// Takes the memory of a boot of a flash with this layout.
-    pub fn new(alloc: Global, layout: &Layout) -> Result<BootBuffer, AllocError>
+    /// Takes the memory of a boot of a flash with this layout and frame.
+    pub fn new(alloc: Global, layout: &Layout, frame: Frame) -> Result<BootBuffer, AllocError>
         ensures { IfOk result (λ buffer. buffer ≡ empty_ram layout.now) }
     {
         let ram = Ram::new(alloc, layout)?;
         let uris = Uris::new(alloc);
         Ok(BootBuffer {
             bank: [0; BANK_ROOM],
-            working: Working { ram, uris },
+            working: Working { frame, ram, uris },
         })
     }
 }

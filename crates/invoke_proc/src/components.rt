@@ -9,13 +9,14 @@ ghost use Rattle.std.specs.Prelude.{◌≡◌, ℕ, None, length};
 ghost use Rattle.step_machine.specs.Worlds.{AreDistinct, AreStandings};
 
 use admission::Start;
-use flash_layout::{Layout, Record};
+use flash_layout::{Frame, Layout, Record};
 use flash_slots::Ram;
 use step_machine::{SlotChoice, Uris, World, slots_in_use};
 
 /// The invocation procedure's world: each component of the manifest in its active slot, working memory empty, and no payloads.
 pub(crate) fn world_in<'a>(
     layout: &Layout,
+    frame: Frame,
     installed: &Record,
     ram: Ram,
     uris: &'a Uris,
@@ -38,5 +39,13 @@ pub(crate) fn world_in<'a>(
         number: slots_in_use(layout, &installed.active),
     };
     let payloads = None;
-    World::with_ram(ram, layout, &startable.places, &slots, uris, payloads)
+    World::with_ram(
+        ram,
+        layout,
+        frame,
+        &startable.places,
+        &slots,
+        uris,
+        payloads,
+    )
 }

@@ -98,8 +98,8 @@ pub(crate) fn start<H: Host, D: Disk, L: Launcher>(
         (IsSame (D.flash disk.old) (D.flash disk.new) ⊎ IsSettled (D.flash disk.new)) }
     ensures grows { IsTrue D.told → Grows (D.flash disk.old) (D.flash disk.new) }
 {
-    let Working { ram, uris } = working;
-    let mut world = world_in(layout, installed, ram, &uris, &startable);
+    let Working { frame, ram, uris } = working;
+    let mut world = world_in(layout, frame, installed, ram, &uris, &startable);
     let mut program = invocation_program(startable.manifest);
     let writes = may_write(program.copy());
     let end = run_plan(host, disk, launcher, &mut world, program, &mut NoTrail);

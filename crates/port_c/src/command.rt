@@ -1,12 +1,13 @@
 //! A command over a port.
 
 ghost use Rattle.flash_layout.specs.declared.frame.TheConstants.{VERSION_1};
+ghost use Rattle.flash_layout.specs.Frames.{head_size};
 ghost use Rattle.port_c.specs.Commands.{HasRun, HasRunThere};
 ghost use Rattle.std.specs.Prelude.{◌≡◌, ◌<◌, ◌≤◌, ◌⊎◌, ℤ, IfOk, OnErr, pos};
 ghost use Rattle.suit_cli.specs.Program.{IsStatus, world};
 
 use crate::words::words_of;
-use flash_layout::VERSION_1;
+use flash_layout::HEAD_SIZE;
 use std::alloc::{AllocError, Global};
 use suit_cli::{SeenDisk, SeenHost, SeenLauncher, SeenSink, Status, run};
 use suit_edge::{Disk, Host, Launcher, Sink};
@@ -21,7 +22,7 @@ fn command<H: Host, D: Disk, L: Launcher, K: Sink>(
     launcher: &mut L,
     out: &mut K,
 ) -> Result<Status, AllocError>
-    requires { VERSION_1.size ≤ D.extent flash.old }
+    requires { head_size VERSION_1 ≤ D.extent flash.old }
     ensures ran { IfOk result (λ status. HasRun bytes.now
         (world (⟦<H as SeenHost>⟧.seen host.old (⟦<D as SeenDisk>⟧.seen flash.old))
         (⟦<L as SeenLauncher>⟧.seen launcher.old) (⟦<K as SeenSink>⟧.seen out.old)
@@ -41,11 +42,11 @@ fn command<H: Host, D: Disk, L: Launcher, K: Sink>(
 /// fewer than 49,152 bytes, and 11 where memory runs out for the words; then no message is sent.
 #[unsafe(no_mangle)]
 pub extern "C" fn suit_command(alloc: Global, words: &[u8], port: i32, flash_size: u64) -> i32
-    ensures small { flash_size < VERSION_1.size → result ≡ pos 8 }
-    ensures runs { VERSION_1.size ≤ flash_size
+    ensures small { flash_size < head_size VERSION_1 → result ≡ pos 8 }
+    ensures runs { head_size VERSION_1 ≤ flash_size
         → HasRunThere words.now result ⊎ (result ≡ pos 11) }
 {
-    if flash_size < u64::from(VERSION_1.size) {
+    if flash_size < u64::from(HEAD_SIZE) {
         return 8;
     }
     let mut host = PortHost::new(port);

@@ -5,6 +5,7 @@ pub mod SlotCounts
 mod FieldPlaces
 pub mod Pages
 pub mod Loads
+pub mod FrameLoads
 pub mod Commits
 pub mod OneAnswers
 mod SomeAnswers

@@ -12,7 +12,7 @@ use Rattle.flash_layout.specs.Frames.{head_of, config_page_of, record_from}
 use Rattle.rollback_record.specs.RecordPage.{IsPageBeside, IsRecordPage}
 use Rattle.rollback_record.specs.Committing.{HasPages, IsSpare}
 use Rattle.rollback_record.specs.HeadRecord.{Counts, HaveRead, IsLoadable, RecordOf, beside_higher, higher}
-use Rattle.rollback_record.proofs.Pages.{bytes_in, config_in, head_short}
+use Rattle.rollback_record.proofs.Pages.{bytes_in, config_in}
 
 -- the configuration page
 pub config_read : (a config : List ℕ) (k : ℕ) → k ≡ 1204 → config ≡ slice_range a 0 (0 + k) → config ≡ config_page_of VERSION_1 (head_of VERSION_1 a)
@@ -25,10 +25,6 @@ have_read a b first second p q m n p_is q_is m_is n_is same first_is second_is =
   first_is = first_is ∙ ap (λ (i : ℕ). slice_range a p (p + i)) m_is ∙ ap (λ (i : ℕ). slice_range a i (i + 99)) p_is ∙ sym (bytes_in a 0 (omega arith));
   second_is = second_is ∙ ap (λ (i : ℕ). slice_range b q (q + i)) n_is ∙ ap (λ (i : ℕ). slice_range b i (i + 99)) q_is ∙ ap (λ (l : List ℕ). slice_range l 8192 8291) same ∙ sym (bytes_in a 1 (omega arith));
 }
-
--- a small flash has no record
-pub small_none : (reads : List ℕ) → length reads < 49152 → RecordOf VERSION_1 (head_of VERSION_1 reads) None
-small_none reads small which r few is = absurd (omega (arith, is.whole, head_short reads small))
 
 loadable : (slots page : List ℕ) (r : Record) → IsPageBeside VERSION_1 slots page r → IsLoadable VERSION_1 r
 loadable slots page r is = record { typed = is.typed; bank = is.fields.bank; size = is.fields.size }

@@ -26,9 +26,6 @@ page w = 4096 + w * 4096
 pub head_long : (image : List ℕ) → 49152 ≤ length image → 49152 ≤ length (head_of VERSION_1 image)
 head_long image long = omega (arith, long, length-take 49152 image)
 
-pub head_short : (image : List ℕ) → length image < 49152 → length (head_of VERSION_1 image) < 49152
-head_short image short = omega (arith, short, length-take 49152 image)
-
 pub inner_range : (image : List ℕ) (n from to : ℕ) → from ≤ to → to ≤ n → slice_range (take n image) from to ≡ slice_range image from to
 inner_range image n from to low high =
     let e : n ≡ from + (n - from) = omega arith in

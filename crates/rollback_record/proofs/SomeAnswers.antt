@@ -7,7 +7,7 @@ use Rattle.suit_params.specs.DigestBytes.{digest_bytes, digest_kind}
 use Rattle.suit_params.specs.DigestKinds.{size_of}
 use Rattle.flash_layout.specs.declared.frame.Frame.{Frame}
 use Rattle.flash_layout.specs.declared.slot.Record.{Record}
-use Rattle.flash_layout.specs.Frames.{config_page_of}
+use Rattle.flash_layout.specs.Frames.{bank_size, config_page_of, head_size}
 use Rattle.rollback_record.specs.HeadRecord.{record_bytes, Counts, IsBelow, RecordOf}
 use Rattle.rollback_record.specs.RecordLaws.{SomeAnswer}
 use Rattle.rollback_record.specs.RecordPage.{IsActiveSlot, IsInRange, IsRecordPage, IsTypedRecord, fields_at, record_body}
@@ -68,7 +68,7 @@ in_range frame config r =
     like _ _
     (λ t. record { bank = t.0; size = t.1.0; active = t.1.1 })
     (λ t. (t.bank, (t.size, t.active)))
-    (both _ _ (less r.bank 2) (both _ _ (at_most r.length frame.bank_size) (below (λ i. IsActiveSlot config i (get_or r.active i 0)) (λ i. active config i (get_or r.active i 0)) 8)))
+    (both _ _ (less r.bank 2) (both _ _ (at_most r.length (bank_size frame)) (below (λ i. IsActiveSlot config i (get_or r.active i 0)) (λ i. active config i (get_or r.active i 0)) 8)))
 
 module _ (frame : Frame) (config page : List ℕ) where
   page_of : (r : Record) → Decided (IsRecordPage frame config page r)
@@ -97,10 +97,10 @@ module _ (frame : Frame) (head : List ℕ) where
 
   has_page : (which : ℕ) → Decided (HasPage which)
   has_page which =
-      like (frame.size ≤ length head × ((r : Record) × IsRecordPage frame (config_page_of frame head) (record_bytes frame head which) r)) _
+      like (head_size frame ≤ length head × ((r : Record) × IsRecordPage frame (config_page_of frame head) (record_bytes frame head which) r)) _
       (λ t. (t.1.0, record { whole = t.0; page = t.1.1 }))
       (λ t. (t.1.whole, (t.0, t.1.page)))
-      (both _ _ (at_most frame.size (length head)) (counted frame (config_page_of frame head) (record_bytes frame head which)))
+      (both _ _ (at_most (head_size frame) (length head)) (counted frame (config_page_of frame head) (record_bytes frame head which)))
 
   one : (which : ℕ) (r s : Record) → Counts frame head which r → Counts frame head which s → r ≡ s
   one which r s p q = one_record frame (config_page_of frame head) (record_bytes frame head which) r s p.page q.page

@@ -5,7 +5,7 @@ use Rattle.suit_edge.specs.Gate.{IsGate}
 use Rattle.suit_edge.specs.Ranges.{Within, Outside}
 use Rattle.flash_layout.specs.declared.frame.Frame.{Frame}
 use Rattle.flash_layout.specs.declared.slot.Record.{Record}
-use Rattle.flash_layout.specs.Frames.{head_of, record_from, record_place}
+use Rattle.flash_layout.specs.Frames.{head_of, head_size, record_from, record_place}
 use Rattle.rollback_record.specs.declared.page.TheConstants.{RECORD_BYTES}
 use Rattle.rollback_record.specs.declared.spare.RecordPages.{RecordPages}
 use Rattle.rollback_record.specs.declared.spare.Spare.{Spare}
@@ -13,7 +13,7 @@ use Rattle.rollback_record.specs.HeadRecord.{Counts, RecordOf}
 
 -- the places of the head
 abbrev pub InHead : Frame → ℕ → Type 0
-InHead frame = Within frame.base frame.size
+InHead frame = Within frame.base (head_size frame)
 
 -- a record's generation is one above the one before it, and the first one's is 1
 abbrev pub IsNext : Option Record → Record → Type 0

@@ -3,7 +3,7 @@ use Rattle.std.specs.Prelude.{◌≡◌, ◌⊎◌, ◌<◌, ◌≤◌, ◌+◌,
 use Rattle.flash_layout.specs.declared.frame.Frame.{Frame}
 use Rattle.flash_layout.specs.declared.slot.Record.{Record}
 pub use Rattle.flash_layout.specs.FaultCounts.{ResultCounts}
-use Rattle.flash_layout.specs.Frames.{config_page_of, record_from}
+use Rattle.flash_layout.specs.Frames.{bank_size, config_page_of, head_size, record_from}
 use Rattle.rollback_record.specs.declared.page.TheConstants.{RECORD_BYTES}
 use Rattle.rollback_record.specs.RecordPage.{IsTypedRecord, IsRecordPage}
 
@@ -14,7 +14,7 @@ record_bytes frame head which =
 
 -- that page of the head counts, and holds the record
 pub record Counts (frame : Frame) (head : List ℕ) (which : ℕ) (r : Record) : Type 0 where
-  pub whole : frame.size ≤ length head
+  pub whole : head_size frame ≤ length head
   pub page : IsRecordPage frame (config_page_of frame head) (record_bytes frame head which) r
 
 -- Of two pages that count, the one of the higher generation is the record; of equal ones page 0.
@@ -47,7 +47,7 @@ pub record HaveRead (frame : Frame) (head first second : List ℕ) : Type 0 wher
 pub record IsLoadable (frame : Frame) (r : Record) : Type 0 where
   pub typed : IsTypedRecord r
   pub bank : r.bank < 2
-  pub size : r.length ≤ frame.bank_size
+  pub size : r.length ≤ bank_size frame
 
 -- ---- inside
 

@@ -9,6 +9,7 @@ use Rattle.flash_layout.specs.declared.frame.TheConstants.{ENTRY_SIZE, FRONT_SIZ
 use Rattle.flash_layout.specs.declared.slot.Record.{Record}
 use Rattle.flash_layout.specs.ConfigPage.{number_bytes, padded}
 use Rattle.flash_layout.specs.PageReading.{number_at}
+use Rattle.flash_layout.specs.Frames.{bank_size}
 
 -- ---- fields
 
@@ -33,7 +34,7 @@ pub record IsTypedRecord (r : Record) : Type 0 where
 -- fields in range, on a flash with that configuration page
 pub record IsInRange (frame : Frame) (config : List ℕ) (r : Record) : Type 0 where
   pub bank : r.bank < 2
-  pub size : r.length ≤ frame.bank_size
+  pub size : r.length ≤ bank_size frame
   pub active : (i : ℕ) → i < 8 → IsActiveSlot config i (slice_index r.active i)
 
 -- ---- bytes
@@ -72,7 +73,7 @@ CountSlots config slots =
 -- fields in range, where components have so many slots
 pub record FitsSlots (frame : Frame) (slots : List ℕ) (r : Record) : Type 0 where
   pub bank : r.bank < 2
-  pub size : r.length ≤ frame.bank_size
+  pub size : r.length ≤ bank_size frame
   pub active : (i : ℕ) → i < 8 → HasSlot (slice_index slots i) (slice_index r.active i)
 
 -- and the page counts

@@ -8,7 +8,7 @@ use Rattle.flash_layout.specs.declared.layout.Entry.{Entry}
 use Rattle.flash_layout.specs.declared.slot.Record.{Record}
 use Rattle.flash_layout.specs.Configs.{ConfigOf, Configured}
 use Rattle.flash_layout.specs.Formats.{IsFormatted}
-use Rattle.flash_layout.specs.Frames.{HasNoRecord, bank_place, config_page_of, head_of, record_place}
+use Rattle.flash_layout.specs.Frames.{HasNoRecord, bank_place, config_page_of, head_of, head_size, record_place}
 use Rattle.rollback_record.specs.declared.page.TheConstants.{RECORD_BYTES}
 use Rattle.rollback_record.specs.HeadRecord.{RecordOf}
 use Rattle.rollback_record.specs.Committing.{HasHeldOrNew, InHead}
@@ -27,7 +27,7 @@ IsInstalledFor image new = (layout : List Entry) (key : Key) (frame : Frame) →
 -- Of a flash before a commit, and an image since: in the head all but one record page is the same, and it holds the record
 -- that it held, or the new one.
 pub record IsCommitted (held : Option Record) (new : Record) (before image : List ℕ) : Type 0 where
-  pub large : VERSION_1.size ≤ length before
+  pub large : head_size VERSION_1 ≤ length before
   pub was : RecordOf VERSION_1 (head_of VERSION_1 before) held
   pub which : ℕ
   pub two : which < 2
@@ -62,7 +62,7 @@ pub record SoundLaws : Type 0 where
       → IsCommitted held new before image → IfSome held (λ r. IsNoEarlier r new)
       → Sound before → Follows before image
   -- while nothing changes that says what is recorded, so does what is written in the other bank and in slots
-  pub kept : (held : Option Record) (before image : List ℕ) → VERSION_1.size ≤ length before
+  pub kept : (held : Option Record) (before image : List ℕ) → head_size VERSION_1 ≤ length before
       → RecordOf VERSION_1 (head_of VERSION_1 before) held
       → SameOn (SaysRecorded held) before image → Sound before → IsStillSound held before image
   -- nothing but the head decides

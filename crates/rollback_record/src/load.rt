@@ -1,8 +1,9 @@
 //! Reading the record.
 
+ghost use Rattle.flash_layout.specs.declared.frame.TheConstants.{VERSION_1};
 ghost use Rattle.flash_layout.specs.declared.key.Key.{Key};
 ghost use Rattle.flash_layout.specs.Configs.{ConfigOf, Configured};
-ghost use Rattle.flash_layout.specs.Frames.{config_page_of, head_of};
+ghost use Rattle.flash_layout.specs.Frames.{IsFrame, config_page_of, head_of, head_size};
 ghost use Rattle.rollback_record.specs.Committing.{HasPages};
 ghost use Rattle.rollback_record.specs.HeadRecord.{HaveRead, IsLoadable, RecordOf, ResultCounts, beside_higher, higher};
 ghost use Rattle.rollback_record.specs.RecordPage.{CountSlots};
@@ -15,22 +16,22 @@ use crate::page::{RECORD_BYTES, decode};
 use crate::slot_counts::{counts_in, counts_on};
 use crate::{RecordPages, Spare};
 use flash_layout::{
-    CONFIG_GATE, FlashFault, Layout, MAX_ENTRIES, PAGE_BYTES, Record, VERSION_1, record_page,
+    FlashFault, Frame, HEAD_SIZE, Layout, MAX_ENTRIES, PAGE_BYTES, Record, record_page,
 };
 use suit_edge::{Disk, Edge, gate_of};
 
 // Reads the configuration page.
-fn read_config<D: Disk>(disk: &mut D, config: &mut [u8; PAGE_BYTES]) -> Edge
-    requires { VERSION_1.size ≤ D.extent disk.old }
+fn read_config<D: Disk>(disk: &mut D, frame: Frame, config: &mut [u8; PAGE_BYTES]) -> Edge
+    requires { IsFrame (D.extent disk.old) frame }
     ensures size { D.extent disk.new ≡ D.extent disk.old }
     ensures counts { EdgeCounts result (D.faults disk.old) (D.faults disk.new) }
     ensures bytes { IsTrue D.told
         → IfDone result
-        (config.new ≡ config_page_of VERSION_1 (head_of VERSION_1 (D.flash disk.old).reads)) }
+        (config.new ≡ config_page_of frame (head_of frame (D.flash disk.old).reads)) }
     ensures same { IsTrue D.told → IsSame (D.flash disk.old) (D.flash disk.new) }
     ensures grows { IsTrue D.told → Grows (D.flash disk.old) (D.flash disk.new) }
 {
-    match disk.read_at(CONFIG_GATE, config) {
+    match disk.read_at(frame.base, config) {
         Edge::Failed => Edge::Failed,
         Edge::Done => Edge::Done,
     }
@@ -39,23 +40,24 @@ fn read_config<D: Disk>(disk: &mut D, config: &mut [u8; PAGE_BYTES]) -> Edge
 // Reads both record pages.
 fn read_pages<D: Disk>(
     disk: &mut D,
+    frame: Frame,
     first: &mut [u8; RECORD_BYTES],
     second: &mut [u8; RECORD_BYTES],
 ) -> Edge
-    requires { VERSION_1.size ≤ D.extent disk.old }
+    requires { IsFrame (D.extent disk.old) frame }
     ensures size { D.extent disk.new ≡ D.extent disk.old }
     ensures counts { EdgeCounts result (D.faults disk.old) (D.faults disk.new) }
     ensures bytes { IsTrue D.told
         → IfDone result
-        (HaveRead VERSION_1 (head_of VERSION_1 (D.flash disk.old).reads) first.new second.new) }
+        (HaveRead frame (head_of frame (D.flash disk.old).reads) first.new second.new) }
     ensures same { IsTrue D.told → IsSame (D.flash disk.old) (D.flash disk.new) }
     ensures grows { IsTrue D.told → Grows (D.flash disk.old) (D.flash disk.new) }
 {
-    match disk.read_at(record_page(0), first) {
+    match disk.read_at(record_page(frame, 0), first) {
         Edge::Failed => return Edge::Failed,
         Edge::Done => {}
     }
-    match disk.read_at(record_page(1), second) {
+    match disk.read_at(record_page(frame, 1), second) {
         Edge::Failed => Edge::Failed,
         Edge::Done => Edge::Done,
     }
@@ -88,7 +90,7 @@ fn judge_pages(
 ) -> RecordPages
     ensures loadable { IfSome result.held (IsLoadable VERSION_1) }
     ensures two { result.spare.which < 2 }
-    ensures exact { (head : List ℕ) → VERSION_1.size ≤ length head
+    ensures exact { (head : List ℕ) → head_size VERSION_1 ≤ length head
         → HaveRead VERSION_1 head first.now second.now
         → CountSlots (config_page_of VERSION_1 head) slots.now
         → HasPages VERSION_1 head result }
@@ -103,88 +105,101 @@ fn judge_pages(
 }
 
 // Both record pages, where each component has so many slots.
-fn load_beside<D: Disk>(disk: &mut D, slots: &[u8; MAX_ENTRIES]) -> Result<RecordPages, FlashFault>
-    requires { VERSION_1.size ≤ D.extent disk.old }
+fn load_beside<D: Disk>(
+    disk: &mut D,
+    frame: Frame,
+    slots: &[u8; MAX_ENTRIES],
+) -> Result<RecordPages, FlashFault>
+    requires { IsFrame (D.extent disk.old) frame }
     ensures size { D.extent disk.new ≡ D.extent disk.old }
     ensures counts { ResultCounts result (D.faults disk.old) (D.faults disk.new) }
-    ensures loadable { IfOk result (λ pages. IfSome pages.held (IsLoadable VERSION_1)) }
+    ensures loadable { IfOk result (λ pages. IfSome pages.held (IsLoadable frame)) }
     ensures two { IfOk result (λ pages. pages.spare.which < 2) }
     ensures exact { IsTrue D.told
-        → CountSlots (config_page_of VERSION_1 (head_of VERSION_1 (D.flash disk.old).reads))
+        → CountSlots (config_page_of frame (head_of frame (D.flash disk.old).reads))
         slots.now
-        → IfOk result (HasPages VERSION_1 (head_of VERSION_1 (D.flash disk.old).reads)) }
+        → IfOk result (HasPages frame (head_of frame (D.flash disk.old).reads)) }
     ensures same { IsTrue D.told → IsSame (D.flash disk.old) (D.flash disk.new) }
     ensures grows { IsTrue D.told → Grows (D.flash disk.old) (D.flash disk.new) }
 {
     let mut first = [0u8; RECORD_BYTES];
     let mut second = [0u8; RECORD_BYTES];
-    match read_pages(disk, &mut first, &mut second) {
+    match read_pages(disk, frame, &mut first, &mut second) {
         Edge::Failed => return Err(FlashFault),
         Edge::Done => {}
     }
     Ok(judge_pages(slots, &first, &second))
 }
 
-/// The record that the flash holds, or `None` where no page counts, as on a flash of fewer than 49,152 bytes. Changes
-/// nothing, whatever it answers.
-pub fn load_record<D: Disk>(disk: &mut D) -> Result<Option<Record>, FlashFault>
+/// The record that the flash with this frame holds, or `None` where no page counts, as on a flash of fewer than 49,152
+/// bytes. Changes nothing, whatever it answers.
+pub fn load_record<D: Disk>(disk: &mut D, frame: Frame) -> Result<Option<Record>, FlashFault>
+    requires { head_size frame ≤ D.extent disk.old → IsFrame (D.extent disk.old) frame }
     ensures size { D.extent disk.new ≡ D.extent disk.old }
     ensures counts { ResultCounts result (D.faults disk.old) (D.faults disk.new) }
-    ensures loadable { IfOk result (λ o. IfSome o (IsLoadable VERSION_1)) }
+    ensures loadable { IfOk result (λ o. IfSome o (IsLoadable frame)) }
     ensures exact { IsTrue D.told
-        → IfOk result (RecordOf VERSION_1 (head_of VERSION_1 (D.flash disk.old).reads)) }
+        → IfOk result (RecordOf frame (head_of frame (D.flash disk.old).reads)) }
     ensures same { IsTrue D.told → IsSame (D.flash disk.old) (D.flash disk.new) }
     ensures grows { IsTrue D.told → Grows (D.flash disk.old) (D.flash disk.new) }
 {
     let size = disk.size();
-    if size < VERSION_1.size {
+    if size < HEAD_SIZE {
         return Ok(None);
     }
     let mut config = [0u8; PAGE_BYTES];
-    match read_config(disk, &mut config) {
+    match read_config(disk, frame, &mut config) {
         Edge::Failed => return Err(FlashFault),
         Edge::Done => {}
     }
     let slots = counts_on(&config);
-    let pages = load_beside(disk, &slots)?;
+    let pages = load_beside(disk, frame, &slots)?;
     Ok(pages.held)
 }
 
-/// The record that a flash with this layout holds, or `None` where no page counts, and the page that the next one is to be
-/// written to. Its configuration page, which gave the layout, is not read again. Changes nothing, whatever it answers.
-pub fn load_pages_by<D: Disk>(disk: &mut D, layout: &Layout) -> Result<RecordPages, FlashFault>
-    requires size { VERSION_1.size ≤ D.extent disk.old }
+/// The record that a flash with this frame and layout holds, or `None` where no page counts, and the page that the next one
+/// is to be written to. Its configuration page, which gave both, is not read again. Changes nothing, whatever it answers.
+pub fn load_pages_by<D: Disk>(
+    disk: &mut D,
+    frame: Frame,
+    layout: &Layout,
+) -> Result<RecordPages, FlashFault>
+    requires frame { IsFrame (D.extent disk.old) frame }
     requires config { IsTrue D.told → (key : Key)
         × ConfigOf (D.extent disk.old) (D.flash disk.old).reads
-        (Configured layout.now key VERSION_1) }
+        (Configured layout.now key frame) }
     ensures size { D.extent disk.new ≡ D.extent disk.old }
     ensures counts { ResultCounts result (D.faults disk.old) (D.faults disk.new) }
-    ensures loadable { IfOk result (λ pages. IfSome pages.held (IsLoadable VERSION_1)) }
+    ensures loadable { IfOk result (λ pages. IfSome pages.held (IsLoadable frame)) }
     ensures two { IfOk result (λ pages. pages.spare.which < 2) }
     ensures exact { IsTrue D.told
-        → IfOk result (HasPages VERSION_1 (head_of VERSION_1 (D.flash disk.old).reads)) }
+        → IfOk result (HasPages frame (head_of frame (D.flash disk.old).reads)) }
     ensures same { IsTrue D.told → IsSame (D.flash disk.old) (D.flash disk.new) }
     ensures grows { IsTrue D.told → Grows (D.flash disk.old) (D.flash disk.new) }
 {
     let slots = counts_in(layout);
-    load_beside(disk, &slots)
+    load_beside(disk, frame, &slots)
 }
 
-/// The record that a flash with this layout holds, or `None` where no page counts. Its configuration page, which gave the
-/// layout, is not read again. Changes nothing, whatever it answers.
-pub fn load_record_by<D: Disk>(disk: &mut D, layout: &Layout) -> Result<Option<Record>, FlashFault>
-    requires size { VERSION_1.size ≤ D.extent disk.old }
+/// The record that a flash with this frame and layout holds, or `None` where no page counts. Its configuration page, which
+/// gave both, is not read again. Changes nothing, whatever it answers.
+pub fn load_record_by<D: Disk>(
+    disk: &mut D,
+    frame: Frame,
+    layout: &Layout,
+) -> Result<Option<Record>, FlashFault>
+    requires frame { IsFrame (D.extent disk.old) frame }
     requires config { IsTrue D.told → (key : Key)
         × ConfigOf (D.extent disk.old) (D.flash disk.old).reads
-        (Configured layout.now key VERSION_1) }
+        (Configured layout.now key frame) }
     ensures size { D.extent disk.new ≡ D.extent disk.old }
     ensures counts { ResultCounts result (D.faults disk.old) (D.faults disk.new) }
-    ensures loadable { IfOk result (λ o. IfSome o (IsLoadable VERSION_1)) }
+    ensures loadable { IfOk result (λ o. IfSome o (IsLoadable frame)) }
     ensures exact { IsTrue D.told
-        → IfOk result (RecordOf VERSION_1 (head_of VERSION_1 (D.flash disk.old).reads)) }
+        → IfOk result (RecordOf frame (head_of frame (D.flash disk.old).reads)) }
     ensures same { IsTrue D.told → IsSame (D.flash disk.old) (D.flash disk.new) }
     ensures grows { IsTrue D.told → Grows (D.flash disk.old) (D.flash disk.new) }
 {
-    let pages = load_pages_by(disk, layout)?;
+    let pages = load_pages_by(disk, frame, layout)?;
     Ok(pages.held)
 }

@@ -1,10 +1,11 @@
 //! The bytes of a record page, and how they are read and put together without memory.
 
+ghost use Rattle.flash_layout.specs.declared.frame.TheConstants.{VERSION_1};
 ghost use Rattle.rollback_record.specs.RecordPage.{FitsSlots, HasSlot, IsPageBeside, bank_field, digest_at, digest_field, fields_at, fields_with, numbers_field, record_body};
 ghost use Rattle.std.specs.Prelude.{◌≡◌, ◌↔◌, ◌≤◌, ◌<◌, ◌+◌, ℕ, ◌∷◌, ◌++◌, Some, IfSome, IsTrue, length, slice_index};
 
 use crate::typing::typed;
-use flash_layout::{Page, Record, VERSION_1, read_number};
+use flash_layout::{BANK_SIZE, Page, Record, read_number};
 use suit_edge::OPEN;
 use suit_params::{Digest, kind_of_length};
 
@@ -119,9 +120,7 @@ fn are_active(slots: &[u8; 8], active: &[u8; 8]) -> bool
 pub(crate) fn is_in_range(slots: &[u8; 8], installed: &Record) -> bool
     ensures { IsTrue result ↔ FitsSlots VERSION_1 slots.now installed.now }
 {
-    installed.bank < 2
-        && installed.length <= VERSION_1.bank_size
-        && are_active(slots, &installed.active)
+    installed.bank < 2 && installed.length <= BANK_SIZE && are_active(slots, &installed.active)
 }
 
 /// Whether the bytes are the page of the record.

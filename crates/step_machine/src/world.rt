@@ -8,7 +8,7 @@ ghost use Rattle.step_machine.specs.Worlds.{AreDistinct, AreStandings, HaveAtMos
 
 use crate::{Spot, Standing, Uris};
 use arrayvec::ArrayVec;
-use flash_layout::{Entry, Layout, MAX_COMPONENTS, Memory, Places, Slot};
+use flash_layout::{Entry, Frame, Layout, MAX_COMPONENTS, Memory, Places, Slot};
 use flash_slots::Ram;
 use path_model::Identity;
 use std::alloc::{AllocError, Global};
@@ -20,10 +20,11 @@ pub struct SlotChoice {
     pub number: [u8; 8],
 }
 
-/// The components of a procedure and where their contents stand, the contents in working memory, and where payloads come
-/// from: those of an envelope, if there is one, and files by their URIs.
+/// The frame of the flash, the components of a procedure and where their contents stand, the contents in working memory,
+/// and where payloads come from: those of an envelope, if there is one, and files by their URIs.
 #[derive(Drop)]
 pub struct World<'a> {
+    pub(crate) frame: Frame,
     pub(crate) standings: ArrayVec<Standing, MAX_COMPONENTS>,
     pub(crate) ram: Ram,
     pub(crate) uris: &'a Uris,
@@ -94,6 +95,7 @@ impl<'a> World<'a> {
     pub fn new(
         alloc: Global,
         layout: &Layout,
+        frame: Frame,
         places: &Places,
         slots: &SlotChoice,
         uris: &'a Uris,
@@ -106,15 +108,16 @@ impl<'a> World<'a> {
         ensures ram { IfOk result (λ world. world.ram ≡ empty_ram layout.now) }
         ensures uris { IfOk result (λ world. world.uris.now ≡ uris.now) }
         ensures envelope { IfOk result (λ world. world.envelope ≡ envelope.entry) }
+        ensures frame { IfOk result (λ world. world.frame ≡ frame) }
         ensures fit { IfOk result
-            (λ world. (frame : Frame) (size : ℕ) → IsLayout frame size layout.now
+            (λ world. (other : Frame) (size : ℕ) → IsLayout other size layout.now
             → AreStandings size world.ram world.standings.items) }
         ensures rooms { IfOk result
             (λ world. (room : ℕ) → HaveAtMost layout.now room
             → StandAtMost world.standings.items room) }
     {
         let ram = Ram::new(alloc, layout)?;
-        Ok(World::with_ram(ram, layout, places, slots, uris, envelope))
+        Ok(World::with_ram(ram, layout, frame, places, slots, uris, envelope))
     }
 
     /// The same, where the contents in working memory stand in memory that was made for the layout before (`Ram::new`). They
@@ -122,6 +125,7 @@ impl<'a> World<'a> {
     pub fn with_ram(
         ram: Ram,
         layout: &Layout,
+        frame: Frame,
         places: &Places,
         slots: &SlotChoice,
         uris: &'a Uris,
@@ -133,13 +137,15 @@ impl<'a> World<'a> {
         ensures ram { result.ram ≡ ram }
         ensures uris { result.uris.now ≡ uris.now }
         ensures envelope { result.envelope ≡ envelope.entry }
-        ensures fit { IsRamOf layout.now ram → (frame : Frame) (size : ℕ)
-            → IsLayout frame size layout.now
+        ensures frame { result.frame ≡ frame }
+        ensures fit { IsRamOf layout.now ram → (other : Frame) (size : ℕ)
+            → IsLayout other size layout.now
             → AreStandings size result.ram result.standings.items }
         ensures rooms { (room : ℕ) → HaveAtMost layout.now room
             → StandAtMost result.standings.items room }
     {
         World {
+            frame,
             standings: stand(layout, places, slots),
             ram,
             uris,

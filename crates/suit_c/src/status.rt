@@ -1,14 +1,13 @@
 //! The record of a flash.
 
 ghost use Rattle.flash_layout.specs.Frames.{head_of};
-ghost use Rattle.flash_layout.specs.declared.frame.TheConstants.{VERSION_1};
 ghost use Rattle.rollback_record.specs.HeadRecord.{HoldsNone};
 ghost use Rattle.std.specs.Prelude.{◌≡◌, ◌≢◌, ◌⊎◌};
 ghost use Rattle.suit_answers.specs.Answers.{code_of};
 ghost use Rattle.suit_c.specs.Recorded.{IsRecordAs, IsRecordedAs};
 ghost use Rattle.suit_answers.specs.declared.answer.Answer.TheVariants as answers;
 
-use flash_layout::{FlashFault, Record};
+use flash_layout::{FlashFault, Record, VERSION_1};
 use flash_view::ViewDisk;
 use rollback_record::load_record;
 use suit_answers::Answer;
@@ -62,7 +61,7 @@ pub extern "C" fn suit_status(flash: &[u8], out: &mut SuitRecord) -> i32
     ensures stays { result ≢ code_of answers.Done → out.new ≡ out.old }
 {
     let mut disk = ViewDisk::new(flash);
-    match load_record(&mut disk) {
+    match load_record(&mut disk, VERSION_1) {
         Ok(Some(record)) => {
             *out = record_of(record);
             Answer::Done.code()

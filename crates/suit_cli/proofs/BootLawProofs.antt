@@ -2,6 +2,7 @@
 use Rattle.std.proofs.Common.{◌≡◌, ◌⊎◌, inl, inr, ℕ, List, Option, Some, None, refl, sym, ap, subst, ◌∙◌, arith}
 use Rattle.std.specs.Prelude.{IsTrue, codes}
 use Rattle.std.proofs.lemmas.Option.{same_Some}
+use Rattle.flash_layout.specs.declared.frame.Frame.{Frame}
 use Rattle.flash_layout.specs.declared.frame.TheConstants.{VERSION_1}
 use Rattle.flash_layout.specs.declared.key.Key.{Key}
 use Rattle.flash_layout.specs.declared.layout.Entry.{Entry}
@@ -101,7 +102,7 @@ module _ (launched now : Launching) (before after : Outside) where
 -- ---- one cause
 
 -- nothing is started because of its bank, and so it ended
-abbrev BankStops : Outside → List Entry × Key → Record → Ended → Type 0
+abbrev BankStops : Outside → List Entry × Key × Frame → Record → Ended → Type 0
 BankStops before config installed ended =
     (end : BootEnd) × IsDeclined config.0 (key_bytes config.1) (bank_in before.flash.reads installed) end × (ended ≡ Booted end (boot_line end))
 
@@ -114,12 +115,12 @@ NothingStarts before =
 
 nothing_stages : (before : Outside) (ended : Ended) → StartsNothing before ended → NothingStarts before ended
 nothing_stages before _ (AtConfig reply none) = Stops (reply, none, refl)
-nothing_stages before _ (AtRecord layout key holds none) = Passes (layout, key) holds (Stops (none, refl))
-nothing_stages before _ (AtBank layout key installed refusal bank bad) = Passes (layout, key) bank.config (Passes installed bank.recorded (ends.BadBank refusal, bad, refl))
+nothing_stages before _ (AtRecord layout key holds none) = Passes (layout, key, VERSION_1) holds (Stops (none, refl))
+nothing_stages before _ (AtBank layout key installed refusal bank bad) = Passes (layout, key, VERSION_1) bank.config (Passes installed bank.recorded (ends.BadBank refusal, bad, refl))
 nothing_stages before _ (AtAuthenticity layout key installed lacking bank lacks) =
-    Passes (layout, key) bank.config (Passes installed bank.recorded (ends.NotAuthentic lacking, lacks, refl))
+    Passes (layout, key, VERSION_1) bank.config (Passes installed bank.recorded (ends.NotAuthentic lacking, lacks, refl))
 nothing_stages before _ (AtComponents layout key installed component bank unknown) =
-    Passes (layout, key) bank.config (Passes installed bank.recorded (ends.UnknownComponent component, unknown, refl))
+    Passes (layout, key, VERSION_1) bank.config (Passes installed bank.recorded (ends.UnknownComponent component, unknown, refl))
 
 module _ (configs : OneConfigAnswer) (records : OneAnswer) (laws : BankLaws) (before : Outside) (told : IsTrue before.flash.told) (bytes : HasBytes before) where
   one_held : HasOne (Holds before.flash) (λ (ended : Ended). (reply : Reply) × HoldsNone before.flash reply × (ended ≡ Answered (Says reply)))
@@ -139,7 +140,7 @@ module _ (configs : OneConfigAnswer) (records : OneAnswer) (laws : BankLaws) (be
       (λ (ended : Ended). record_in before.flash.reads None × (ended ≡ Booted ends.NothingInstalled (codes "nothing installed\n")))
   one_recorded = record { value = same_record; refusal = λ a b g h. h.1 ∙ sym g.1; never = λ x a g h. record_or_none x g h.0 }
 
-  one_stop : (config : List Entry × Key) (installed : Record) → record_in before.flash.reads (Some installed) → (a b : Ended) → BankStops before config installed a → BankStops before config installed b
+  one_stop : (config : List Entry × Key × Frame) (installed : Record) → record_in before.flash.reads (Some installed) → (a b : Ended) → BankStops before config installed a → BankStops before config installed b
       → b ≡ a
   one_stop config installed recorded a b x y =
       let same = laws.one config.0 (key_bytes config.1) (bank_in before.flash.reads installed) x.0 y.0 (bytes installed recorded) x.1 y.1 in
@@ -151,7 +152,7 @@ module _ (configs : OneConfigAnswer) (records : OneAnswer) (laws : BankLaws) (be
 
   not_started : (a : Ended) → HasStart before → StartsNothing before a → ⊥
   not_started a s nothing =
-      let behind = passes _ _ _ one_held (s.layout, s.key) a s.config (nothing_stages before a nothing) in
+      let behind = passes _ _ _ one_held (s.layout, s.key, VERSION_1) a s.config (nothing_stages before a nothing) in
       let stops = passes _ _ _ one_recorded s.installed a s.starts.recorded behind in
       laws.none s.layout (key_bytes s.key) (bank_in before.flash.reads s.installed) s.starts.said s.manifest stops.0 (bytes s.installed s.starts.recorded) s.starts.started stops.1
 

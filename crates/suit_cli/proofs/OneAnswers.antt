@@ -2,6 +2,7 @@
 use Rattle.std.proofs.Common.{◌≡◌, ◌++◌, ◌∙◌, ℕ, List, Some, None, refl, sym, ap, arith}
 use Rattle.std.specs.Prelude.{IsTrue, codes}
 use Rattle.std.proofs.lemmas.Option.{same_Some}
+use Rattle.flash_layout.specs.declared.frame.Frame.{Frame}
 use Rattle.flash_layout.specs.declared.frame.TheConstants.{VERSION_1}
 use Rattle.flash_layout.specs.declared.key.Key.{Key}
 use Rattle.flash_layout.specs.declared.layout.Entry.{Entry}
@@ -53,18 +54,18 @@ one_init device key_name b told t r q first second =
 
 -- ---- the configuration
 
-same_config : (l m : List Entry) (k n : Key) → Configured l k VERSION_1 ≡ Configured m n VERSION_1 → (l ≡ m) × (k ≡ n)
-same_config l m k n same = grind (arith, same)
+same_config : (l m : List Entry) (k n : Key) (f g : Frame) → Configured l k f ≡ Configured m n g → (l ≡ m) × (k ≡ n) × (f ≡ g)
+same_config l m k n f g same = grind (arith, same)
 
 module _ (configs : Rattle.flash_layout.specs.ConfigLaws.OneAnswer) (flash : Flashed) (t : IsTrue flash.told) where
   once : (x y : Config) → (IsTrue flash.told → ConfigOf flash.size flash.reads x) → (IsTrue flash.told → ConfigOf flash.size flash.reads y)
       → y ≡ x
   once x y first second = configs flash.size flash.reads y x (second t) (first t)
 
-  one_holds : (c d : List Entry × Key) → Holds flash c → Holds flash d → d ≡ c
+  one_holds : (c d : List Entry × Key × Frame) → Holds flash c → Holds flash d → d ≡ c
   one_holds c d first second =
-      let same = same_config d.0 c.0 d.1 c.1 (once (Configured c.0 c.1 VERSION_1) (Configured d.0 d.1 VERSION_1) first second) in
-      ap (λ (l : List Entry). (l, d.1)) same.0 ∙ ap (λ (k : Key). (c.0, k)) same.1
+      let same = same_config d.0 c.0 d.1 c.1 d.2 c.2 (once (Configured c.0 c.1 c.2) (Configured d.0 d.1 d.2) first second) in
+      ap (λ (l : List Entry). (l, d.1, d.2)) same.0 ∙ ap (λ (k : Key). (c.0, k, d.2)) same.1 ∙ ap (λ (f : Frame). (c.0, c.1, f)) same.2
 
   one_none : (r q : Reply) → HoldsNone flash r → HoldsNone flash q → q ≡ r
   one_none r q (IsBlank x says) (IsBlank y says') = one_reply r q _ _ says says'
@@ -72,9 +73,9 @@ module _ (configs : Rattle.flash_layout.specs.ConfigLaws.OneAnswer) (flash : Fla
   one_none r q (IsBlank x says) (IsBad y says') = let never : Bad ≡ Blank = once Blank Bad x y in absurd cc
   one_none r q (IsBad x says) (IsBlank y says') = let never : Blank ≡ Bad = once Bad Blank x y in absurd cc
 
-  holds_not_none : (config : List Entry × Key) (r : Reply) → Holds flash config → HoldsNone flash r → ⊥
-  holds_not_none config r holds (IsBlank x says) = let never : Blank ≡ Configured config.0 config.1 VERSION_1 = once (Configured config.0 config.1 VERSION_1) Blank holds x in absurd cc
-  holds_not_none config r holds (IsBad x says) = let never : Bad ≡ Configured config.0 config.1 VERSION_1 = once (Configured config.0 config.1 VERSION_1) Bad holds x in absurd cc
+  holds_not_none : (config : List Entry × Key × Frame) (r : Reply) → Holds flash config → HoldsNone flash r → ⊥
+  holds_not_none config r holds (IsBlank x says) = let never : Blank ≡ Configured config.0 config.1 config.2 = once (Configured config.0 config.1 config.2) Blank holds x in absurd cc
+  holds_not_none config r holds (IsBad x says) = let never : Bad ≡ Configured config.0 config.1 config.2 = once (Configured config.0 config.1 config.2) Bad holds x in absurd cc
 
   pub one_config : HasOne (Holds flash) (HoldsNone flash)
   one_config = record { value = one_holds; refusal = one_none; never = holds_not_none }
@@ -93,10 +94,10 @@ module _ (configs : Rattle.flash_layout.specs.ConfigLaws.OneAnswer) (records : R
     never = nothing_not_installed;
   }
 
-  abbrev AreLines : List Entry × Key → Record → List ℕ → Type 0
+  abbrev AreLines : List Entry × Key × Frame → Record → List ℕ → Type 0
   AreLines config installed lines = IsTrue b.flash.told → lines ≡ component_lines 0 config.0 installed.active b.flash.reads
 
-  one_lines : (config : List Entry × Key) (installed : Record) → HasOne (AreLines config installed) (λ (r : Reply). ⊥)
+  one_lines : (config : List Entry × Key × Frame) (installed : Record) → HasOne (AreLines config installed) (λ (r : Reply). ⊥)
   one_lines config installed = record { value = λ x y g h. h t ∙ sym (g t); refusal = λ r q g h. absurd g; never = λ x q g h. h }
 
   abbrev TellsStatus : Reply → Type 0

@@ -4,6 +4,7 @@ use Rattle.std.specs.Prelude.{IsTrue}
 use Rattle.suit_edge.specs.Gate.{IsOpen}
 use Rattle.suit_edge.specs.Flash.{Flash, Now, Passes, IsFlash, IsSame}
 use Rattle.suit_edge.specs.FlashLaws.{same_flash, starts, weakens, joined}
+use Rattle.flash_layout.specs.declared.frame.Frame.{Frame}
 use Rattle.flash_layout.specs.declared.frame.TheConstants.{VERSION_1}
 use Rattle.flash_layout.specs.declared.key.Key.{Key}
 use Rattle.flash_layout.specs.declared.layout.Entry.{Entry}
@@ -29,15 +30,15 @@ use Rattle.suit_cli.specs.Program.{FlashPasses, IfBoots, IfLaunches, KeepsFor, M
 use Rattle.suit_cli.proofs.Leaving.{start_left}
 
 -- the configuration is allowed after a read
-pub allowed_after : (layout : List Entry) (key : Key) (size later_size : ℕ) → later_size ≡ size → IsAllowed VERSION_1 size layout key → IsAllowed VERSION_1 later_size layout key
-allowed_after layout key size later_size extent allowed = subst (λ (n : ℕ). IsAllowed VERSION_1 n layout key) (sym extent) allowed
+pub allowed_after : (layout : List Entry) (key : Key) (frame : Frame) (size later_size : ℕ) → later_size ≡ size → IsAllowed frame size layout key → IsAllowed frame later_size layout key
+allowed_after layout key frame size later_size extent allowed = subst (λ (n : ℕ). IsAllowed frame n layout key) (sym extent) allowed
 
 -- and is there
-pub held_after : (layout : List Entry) (key : Key) (size later_size : ℕ) (reads later : List ℕ) → later_size ≡ size → later ≡ reads
-    → ConfigOf size reads (Configured layout key VERSION_1) → ConfigOf later_size later (Configured layout key VERSION_1)
-held_after layout key size later_size reads later extent same held =
-    subst (λ (n : ℕ). ConfigOf n later (Configured layout key VERSION_1)) (sym extent)
-    (subst (λ (l : List ℕ). ConfigOf size l (Configured layout key VERSION_1)) (sym same) held)
+pub held_after : (layout : List Entry) (key : Key) (frame : Frame) (size later_size : ℕ) (reads later : List ℕ) → later_size ≡ size → later ≡ reads
+    → ConfigOf size reads (Configured layout key frame) → ConfigOf later_size later (Configured layout key frame)
+held_after layout key frame size later_size reads later extent same held =
+    subst (λ (n : ℕ). ConfigOf n later (Configured layout key frame)) (sym extent)
+    (subst (λ (l : List ℕ). ConfigOf size l (Configured layout key frame)) (sym same) held)
 
 module _ (laws : SoundLaws) (a : Flash) (settled : Settled a) where
   -- each image of the start

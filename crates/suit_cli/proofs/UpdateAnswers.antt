@@ -49,23 +49,23 @@ module _ (name : List ℕ) (uris : List (List ℕ × List ℕ)) (l : Launching) 
   pub unconfigured_update : (a : Outside) (stop : Stop) → Does config_in b a (Err stop) → Comes_to l a (Answered (ending_of (Err stop)))
   unconfigured_update a stop found = ByStages _ (stopped config_in (λ config. OfFile config.0 config.1 name) b a stop found) refl
 
-  module _ (layout : List Entry) (key : Key) (c : Outside) (held : config_in.gives b c (layout, key)) where
+  module _ (layout : List Entry) (key : Key) (c : Outside) (held : config_in.gives b c (layout, key, VERSION_1)) where
     -- where the file is not read
     pub unread_update : (a : Outside) (stop : Stop) → Does (file longest_file name) c a (Err stop) → Comes_to l a (Answered (ending_of (Err stop)))
     unread_update a stop found =
-        ByStages _ (Goes (layout, key) c _ held (stopped (file longest_file name) (λ bytes. accepts layout key bytes >>= λ accepted. Nothing) c a stop found)) refl
+        ByStages _ (Goes (layout, key, VERSION_1) c _ held (stopped (file longest_file name) (λ bytes. accepts layout key bytes >>= λ accepted. Nothing) c a stop found)) refl
 
     module _ (bytes : List ℕ) (d : Outside) (read : (file longest_file name).gives c d bytes) where
       -- where it is not accepted
       pub unaccepted_update : (stop : Stop) → Does (accepts layout key bytes) d d (Err stop) → Comes_to l d (Answered (ending_of (Err stop)))
       unaccepted_update stop found =
-          ByStages _ (Goes (layout, key) c _ held (Goes bytes d _ read (stopped (accepts layout key bytes) (λ accepted. Nothing) d d stop found))) refl
+          ByStages _ (Goes (layout, key, VERSION_1) c _ held (Goes bytes d _ read (stopped (accepts layout key bytes) (λ accepted. Nothing) d d stop found))) refl
 
       -- and behind that
       pub comes_updated : (m : Launching) (a : Outside) (accepted : Accepted) → IsAccepted layout key bytes accepted → (ended : Ended)
           → UpdatesBy (offer layout bytes accepted uris) l m d a ended → Comes_to m a ended
       comes_updated m a accepted is (Answered ending) by =
-          ByStages ending (Goes (layout, key) c ending held (Goes bytes d ending read (Goes accepted d ending (refl, is)
+          ByStages ending (Goes (layout, key, VERSION_1) c ending held (Goes bytes d ending read (Goes accepted d ending (refl, is)
           (subst (λ (e : Ending). Last (λ (reply : Reply). ⊥) d a e) (sym by.0) (EndsWithout by.1))))) by.2
       comes_updated m a accepted is (Booted end lines) by = absurd by
       comes_updated m a accepted is (Updated end lines) by = ByUpdate name uris end lines refl (record {

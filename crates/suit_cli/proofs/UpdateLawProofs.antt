@@ -4,6 +4,7 @@ use Rattle.std.specs.Prelude.{IsTrue}
 use Rattle.suit_envelope.specs.Authentic.{TellSame}
 use Rattle.suit_envelope.specs.declared.authenticity.Authenticity.{Authenticity}
 use Rattle.suit_envelope.specs.declared.authenticity.Authenticity.TheVariants as authenticities
+use Rattle.flash_layout.specs.declared.frame.Frame.{Frame}
 use Rattle.flash_layout.specs.declared.key.Key.{Key}
 use Rattle.flash_layout.specs.declared.layout.Entry.{Entry}
 use Rattle.flash_layout.specs.ConfigLaws.{OneAnswer}
@@ -103,7 +104,7 @@ module _ (configs : OneAnswer) (laws : AdmittingLaws) (name : List ℕ) (b : Out
       one_way _ _ _ _ one_held SameButPath (λ x y same. inl same) (λ config held. one_way _ _ _ _ one_bytes SameButPath (λ x y same. inl same) (λ bytes read. same_cause laws config.0 config.1 bytes))
       r q (stages_of r first) (stages_of q second)
 
-  accepted_no_reply : (config : List Entry × Key) (bytes : List ℕ) (y : Accepted) (q : Reply) → Holds b.flash config → IsRead longest_file name b bytes → IsAccepted config.0 config.1 bytes y
+  accepted_no_reply : (config : List Entry × Key × Frame) (bytes : List ℕ) (y : Accepted) (q : Reply) → Holds b.flash config → IsRead longest_file name b bytes → IsAccepted config.0 config.1 bytes y
       → UpdateSays name b q → ⊥
   accepted_no_reply config bytes y q held read accepted says =
       accepted_not laws config.0 config.1 bytes y q accepted (passes _ _ _ one_bytes bytes q read (passes _ _ _ one_held config q held (stages_of q says)))

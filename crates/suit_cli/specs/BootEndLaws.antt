@@ -2,6 +2,7 @@
 use Rattle.std.specs.Prelude.{◌≡◌, ◌⊎◌, ℕ, IsTrue, List, Some, None, codes}
 use Rattle.suit_params.specs.declared.refusal.Refusal.{Refusal}
 use Rattle.suit_manifest.specs.declared.manifest.Manifest.{Manifest}
+use Rattle.flash_layout.specs.declared.frame.TheConstants.{VERSION_1}
 use Rattle.flash_layout.specs.declared.key.Key.{Key}
 use Rattle.flash_layout.specs.declared.layout.Entry.{Entry}
 use Rattle.flash_layout.specs.declared.slot.Record.{Record}
@@ -29,7 +30,7 @@ use Rattle.suit_cli.specs.Words.{RunBoot}
 -- the flash holds a layout and a key, and a record
 pub record HasBank (before : Outside) (layout : List Entry) (key : Key) (installed : Record)
     : Type 0 where
-  pub config : Holds before.flash (layout, key)
+  pub config : Holds before.flash (layout, key, VERSION_1)
   pub recorded : record_in before.flash.reads (Some installed)
 
 -- the bank of its record, if it has one, has bytes
@@ -42,7 +43,7 @@ HasBytes before =
 pub record HasStart (before : Outside) : Type 0 where
   pub layout : List Entry
   pub key : Key
-  pub config : Holds before.flash (layout, key)
+  pub config : Holds before.flash (layout, key, VERSION_1)
   pub installed : Record
   pub manifest : Manifest
   pub starts : Starts layout key before.flash.reads installed manifest
@@ -53,7 +54,7 @@ pub data StartsNothing (before : Outside) : Ended → Type 0 where
   AtConfig : (reply : Reply) → HoldsNone before.flash reply
       → StartsNothing before (Answered (Says reply))
   -- status 15, `nothing installed`
-  AtRecord : (layout : List Entry) (key : Key) → Holds before.flash (layout, key)
+  AtRecord : (layout : List Entry) (key : Key) → Holds before.flash (layout, key, VERSION_1)
       → record_in before.flash.reads None
       → StartsNothing before (Booted ends.NothingInstalled (codes "nothing installed\n"))
   -- status 3, `refused at P: WHY`
@@ -79,7 +80,7 @@ pub record Played (launched now : Launching) (before after : Outside) (ended : E
     : Type 0 where
   pub layout : List Entry
   pub key : Key
-  pub config : Holds before.flash (layout, key)
+  pub config : Holds before.flash (layout, key, VERSION_1)
   pub end : PlanEnd
   pub plays :
       PlaysBoot layout key before.files before.flash.reads after.flash.reads launched.launches

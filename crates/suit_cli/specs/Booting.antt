@@ -81,7 +81,7 @@ pub record Boots (launched now : Launching) (before after : Outside) (end : Boot
   pub layout : List Entry
   pub key : Key
   pub middle : Outside
-  pub held : config_in.gives before middle (layout, key)
+  pub held : config_in.gives before middle (layout, key, VERSION_1)
   pub boot : IsBoot layout key launched now middle after end
   pub lines_are : lines ≡ boot_line end
 

@@ -1,5 +1,6 @@
 -- Where `run init` and `run status` stop, and with which reply: what follows from their stages.
 use Rattle.std.specs.Prelude.{◌≡◌, ℕ, IsTrue, List, ◌++◌, codes}
+use Rattle.flash_layout.specs.declared.frame.Frame.{Frame}
 use Rattle.flash_layout.specs.declared.frame.TheConstants.{VERSION_1}
 use Rattle.flash_layout.specs.declared.key.Key.{Key}
 use Rattle.flash_layout.specs.declared.layout.Entry.{Entry}
@@ -73,10 +74,10 @@ pub data StatusSays (before : Outside) (reply : Reply) : Type 0 where
   -- status 13, `blank` or `bad config`
   AtConfig : HoldsNone before.flash reply → StatusSays before reply
   -- status 15, `nothing installed`
-  AtRecord : (config : List Entry × Key) → Holds before.flash config → IsNothing before.flash reply
-      → StatusSays before reply
+  AtRecord : (config : List Entry × Key × Frame) → Holds before.flash config
+      → IsNothing before.flash reply → StatusSays before reply
   -- status 0, and the lines
-  AtLines : (config : List Entry × Key) (installed : Record) (lines : List ℕ)
+  AtLines : (config : List Entry × Key × Frame) (installed : Record) (lines : List ℕ)
       → Holds before.flash config → IsInstalled before.flash installed
       → (IsTrue before.flash.told → lines ≡ component_lines 0 config.0 installed.active before.flash.reads)
       → IsReply reply outcomes.Done (record_lines installed ++ lines) → StatusSays before reply

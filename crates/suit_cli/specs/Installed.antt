@@ -4,6 +4,7 @@ use Rattle.std.specs.Fmt.{decimal}
 use Rattle.hex.specs.Hex.{encode_lower}
 use Rattle.suit_params.specs.DigestBytes.{digest_bytes}
 use Rattle.suit_edge.specs.Faults.{Faulted}
+use Rattle.flash_layout.specs.declared.frame.Frame.{Frame}
 use Rattle.flash_layout.specs.declared.frame.TheConstants.{VERSION_1}
 use Rattle.flash_layout.specs.declared.key.Key.{Key}
 use Rattle.flash_layout.specs.declared.layout.Entry.{Entry}
@@ -27,11 +28,11 @@ use Rattle.suit_cli.specs.Stages.{Stage, looking}
 
 -- ---- the configuration
 
-abbrev pub Holds : Flashed → List Entry × Key → Type 0
+abbrev pub Holds : Flashed → List Entry × Key × Frame → Type 0
 Holds flash config =
     IsTrue flash.told
     → ConfigOf flash.size flash.reads
-    (Configured config.0 config.1 VERSION_1)
+    (Configured config.0 config.1 config.2)
 
 pub data HoldsNone (flash : Flashed) (reply : Reply) : Type 0 where
   IsBlank :
@@ -40,7 +41,7 @@ pub data HoldsNone (flash : Flashed) (reply : Reply) : Type 0 where
   IsBad : (IsTrue flash.told → ConfigOf flash.size flash.reads Bad)
       → IsReply reply outcomes.Unconfigured (codes "bad config\n") → HoldsNone flash reply
 
-abbrev pub config_in : Stage (List Entry × Key)
+abbrev pub config_in : Stage (List Entry × Key × Frame)
 config_in = looking Holds HoldsNone
 
 -- ---- the record

@@ -79,7 +79,7 @@ pub record UpdateIsCaused (name : List ℕ) (uris : List (List ℕ × List ℕ))
     (before after : Outside) (end : UpdateEnd) (lines : List ℕ) : Type 0 where
   pub layout : List Entry
   pub key : Key
-  pub config : Holds before.flash (layout, key)
+  pub config : Holds before.flash (layout, key, VERSION_1)
   pub bytes : List ℕ
   pub read : IsRead longest_file name before bytes
   pub accepted : Accepted
@@ -93,7 +93,7 @@ pub record UpdateIsCaused (name : List ℕ) (uris : List (List ℕ × List ℕ))
 pub record IsOffered (name : List ℕ) (before : Outside) (verdict : Judged) : Type 0 where
   pub layout : List Entry
   pub key : Key
-  pub config : Holds before.flash (layout, key)
+  pub config : Holds before.flash (layout, key, VERSION_1)
   pub bytes : List ℕ
   pub read : IsRead longest_file name before bytes
   pub accepted : Accepted

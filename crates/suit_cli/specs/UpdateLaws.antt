@@ -1,5 +1,6 @@
 -- Laws of `run update` before it begins: what follows from its stages over a host and a flash that tell.
 use Rattle.std.specs.Prelude.{ℕ, IsTrue, List}
+use Rattle.flash_layout.specs.declared.frame.Frame.{Frame}
 use Rattle.flash_layout.specs.declared.key.Key.{Key}
 use Rattle.flash_layout.specs.declared.layout.Entry.{Entry}
 use Rattle.suit_cli.specs.declared.reply.Reply.{Reply}
@@ -21,7 +22,7 @@ pub record UpdateLaws : Type 0 where
       → IsTrue before.flash.told → UpdateSays name before reply
       → begins_update name before after (Says other) → SameButPath reply other
   -- and none is a reply where the bytes of the file are accepted
-  pub accepted : (name : List ℕ) (before after : Outside) (config : List Entry × Key)
+  pub accepted : (name : List ℕ) (before after : Outside) (config : List Entry × Key × Frame)
       (bytes : List ℕ) (a : Accepted) (reply : Reply)
       → IsTrue before.told
       → IsTrue before.flash.told → Holds before.flash config → IsRead longest_file name before bytes → IsAccepted config.0 config.1 bytes a

@@ -144,7 +144,7 @@ pub record Updates (name : List ℕ) (uris : List (List ℕ × List ℕ)) (launc
   pub layout : List Entry
   pub key : Key
   pub configured : Outside
-  pub held : config_in.gives before configured (layout, key)
+  pub held : config_in.gives before configured (layout, key, VERSION_1)
   pub bytes : List ℕ
   pub middle : Outside
   pub read : (file longest_file name).gives configured middle bytes

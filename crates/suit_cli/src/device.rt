@@ -45,7 +45,7 @@ pub(crate) fn device_in(alloc: Global, size: u64, bytes: &[u8]) -> Result<Layout
 {
     let value = json_in(alloc, bytes)?;
     match layout_of(alloc, &value, size) {
-        Ok(layout) => Ok(layout),
+        Ok((layout, _)) => Ok(layout),
         Err(fault) => Err(refused_by(fault_line(alloc, fault))),
     }
 }

@@ -2,9 +2,9 @@
 
 ghost use Rattle.std.specs.Prelude.{◌≡◌, ◌≤◌, IfOk, IsTrue};
 ghost use Rattle.suit_edge.specs.Flash.{IsSame, Passes};
-ghost use Rattle.flash_layout.specs.declared.frame.TheConstants.{VERSION_1};
 ghost use Rattle.flash_layout.specs.Formats.{IsBlankOrFormatted};
 ghost use Rattle.flash_layout.specs.Layouts.{IsKey, IsLayout};
+ghost use Rattle.flash_layout.specs.Frames.{head_size};
 ghost use Rattle.suit_cli.specs.Outside.{Outside, with_flash};
 ghost use Rattle.suit_cli.specs.Stages.{Does, ending_of};
 ghost use Rattle.suit_cli.specs.Formatting.{unused, formats, MayBe, MayFormat, MayLeave};
@@ -15,14 +15,14 @@ use crate::device::{device_in, key_of};
 use crate::input::{LONGEST_DEVICE, read, read_key};
 use crate::outside::{SeenDisk, SeenHost};
 use crate::reply::{Object, Outcome, Reply, Stop, declined};
-use flash_layout::{CONFIG_GATE, Formatted, Key, Layout, format};
+use flash_layout::{CONFIG_GATE, Formatted, Key, Layout, VERSION_1, format};
 use rollback_record::sound_laws;
 use std::alloc::Global;
 use suit_edge::{Disk, Edge, Host, OPEN};
 
 // The size of a flash whose configuration page is unused.
 fn unused<D: Disk>(alloc: Global, flash: &mut D) -> Result<u64, Stop>
-    requires { VERSION_1.size ≤ D.extent flash.old }
+    requires { head_size VERSION_1 ≤ D.extent flash.old }
     ensures finds { (here : Outside) → Does unused
         (with_flash here (⟦<D as SeenDisk>⟧.seen flash.old))
         (with_flash here (⟦<D as SeenDisk>⟧.seen flash.new)) result }
@@ -44,7 +44,7 @@ fn unused<D: Disk>(alloc: Global, flash: &mut D) -> Result<u64, Stop>
 
 // Formats the flash. The reply is made before the first write, so that memory cannot run out later.
 fn formats<D: Disk>(alloc: Global, layout: &Layout, key: &Key, flash: &mut D) -> Result<Reply, Stop>
-    requires large { VERSION_1.size ≤ D.extent flash.old }
+    requires large { head_size VERSION_1 ≤ D.extent flash.old }
     requires layout { IsLayout VERSION_1 (D.extent flash.old) layout.now }
     requires key { IsKey key.now }
     ensures formats { (here : Outside) → formats layout.now key.now
@@ -60,7 +60,7 @@ fn formats<D: Disk>(alloc: Global, layout: &Layout, key: &Key, flash: &mut D) ->
 {
     sound_laws();
     let ready = Reply::fixed(alloc, Outcome::Done, "ready\n")?;
-    match format(flash, layout, key) {
+    match format(flash, layout, key, VERSION_1) {
         Formatted::Done => Ok(ready),
         Formatted::NotBlank => Err(declined(Reply::fixed(alloc, Outcome::NotBlank, "not blank\n"))),
         Formatted::FlashFault => Err(Stop::Fault(Object::Flash)),
@@ -76,7 +76,7 @@ fn init_as<H: Host, D: Disk>(
     host: &mut H,
     flash: &mut D,
 ) -> Result<Reply, Stop>
-    requires large { VERSION_1.size ≤ D.extent flash.old }
+    requires large { head_size VERSION_1 ≤ D.extent flash.old }
     requires size { size ≡ D.extent flash.old }
     ensures answer { inits_as size device.now key_name.now
         (⟦<H as SeenHost>⟧.seen host.old (⟦<D as SeenDisk>⟧.seen flash.old))
@@ -103,7 +103,7 @@ pub(crate) fn init<H: Host, D: Disk>(
     host: &mut H,
     flash: &mut D,
 ) -> Result<Reply, Stop>
-    requires { VERSION_1.size ≤ D.extent flash.old }
+    requires { head_size VERSION_1 ≤ D.extent flash.old }
     ensures answer { inits device.now key_name.now
         (⟦<H as SeenHost>⟧.seen host.old (⟦<D as SeenDisk>⟧.seen flash.old))
         (⟦<H as SeenHost>⟧.seen host.new (⟦<D as SeenDisk>⟧.seen flash.new)) (ending_of result) }

@@ -2,6 +2,7 @@
 
 ghost use Rattle.std.specs.Prelude.{◌≡◌, ◌≤◌, IsTrue, Some};
 ghost use Rattle.flash_layout.specs.declared.frame.TheConstants.{VERSION_1};
+ghost use Rattle.flash_layout.specs.Frames.{head_size};
 ghost use Rattle.suit_cli.specs.Words.{RunBoot, task_of, task_said};
 ghost use Rattle.suit_cli.specs.Stages.{ending_of};
 ghost use Rattle.suit_cli.specs.Commands.{does};
@@ -58,7 +59,7 @@ fn perform<H: Host, D: Disk, L: Launcher>(
     flash: &mut D,
     launcher: &mut L,
 ) -> Answer
-    requires { VERSION_1.size ≤ D.extent flash.old }
+    requires { head_size VERSION_1 ≤ D.extent flash.old }
     ensures answer { Comes (does (task_said command.entry)) (λ task. task_said command.entry ≡ task)
         (⟦<L as SeenLauncher>⟧.seen launcher.old) (⟦<L as SeenLauncher>⟧.seen launcher.new)
         (⟦<H as SeenHost>⟧.seen host.old (⟦<D as SeenDisk>⟧.seen flash.old))
@@ -94,7 +95,7 @@ fn answer<H: Host, D: Disk, L: Launcher>(
     flash: &mut D,
     launcher: &mut L,
 ) -> Answer
-    requires { VERSION_1.size ≤ D.extent flash.old }
+    requires { head_size VERSION_1 ≤ D.extent flash.old }
     ensures answer { ComesTo words.now
         (⟦<L as SeenLauncher>⟧.seen launcher.old) (⟦<L as SeenLauncher>⟧.seen launcher.new)
         (⟦<H as SeenHost>⟧.seen host.old (⟦<D as SeenDisk>⟧.seen flash.old))
@@ -168,7 +169,7 @@ pub fn run<H: Host, D: Disk, L: Launcher, K: Sink>(
     launcher: &mut L,
     out: &mut K,
 ) -> Status
-    requires { VERSION_1.size ≤ D.extent flash.old }
+    requires { head_size VERSION_1 ≤ D.extent flash.old }
 
     // The answer to the words: stage by stage from what the host and the flash tell, or from a boot or an update, of
     // which the launcher tells as well. Its lines are put, whole or up to a fault of the sink, and its status is returned.

@@ -1,9 +1,7 @@
 //! The command `run boot`: starts what is installed.
 
 ghost use Rattle.std.specs.Prelude.{◌≡◌, IsTrue};
-ghost use Rattle.flash_layout.specs.declared.frame.TheConstants.{VERSION_1};
-ghost use Rattle.flash_layout.specs.Configs.{IsAllowed};
-ghost use Rattle.invoke_proc.specs.Banks.{config_in};
+ghost use Rattle.flash_layout.specs.Configs.{ConfigOf, Configured, IsAllowed};
 ghost use Rattle.suit_cli.specs.Coming.{BootKeeps, BootKeepsBy, BootsBy, Comes, ended_of};
 ghost use Rattle.suit_cli.specs.Commands.{does};
 ghost use Rattle.suit_cli.specs.Settling.{StaysInOrder};
@@ -27,9 +25,10 @@ fn boot_by<H: Host, D: Disk, L: Launcher>(
     launcher: &mut L,
     config: &Config,
 ) -> Answer
-    requires allowed { IsAllowed VERSION_1 (D.extent flash.old) config.now.0 config.now.1 }
+    requires allowed { IsAllowed config.now.2 (D.extent flash.old) config.now.0 config.now.1 }
     requires held { IsTrue D.told
-        → config_in (D.extent flash.old) (D.flash flash.old).reads config.now.0 config.now.1 }
+        → ConfigOf (D.extent flash.old) (D.flash flash.old).reads
+        (Configured config.now.0 config.now.1 config.now.2) }
     ensures answer { BootsBy config.now.0 config.now.1
         (⟦<L as SeenLauncher>⟧.seen launcher.old) (⟦<L as SeenLauncher>⟧.seen launcher.new)
         (⟦<H as SeenHost>⟧.seen host.old (⟦<D as SeenDisk>⟧.seen flash.old))
@@ -48,11 +47,13 @@ fn boot_by<H: Host, D: Disk, L: Launcher>(
         Ok(()) => {}
         Err(_) => return Answer::Said(Err(Stop::NoMemory)),
     }
-    let buffer = match BootBuffer::new(alloc, &config.0) {
+    let buffer = match BootBuffer::new(alloc, &config.0, config.2) {
         Ok(buffer) => buffer,
         Err(_) => return Answer::Said(Err(Stop::NoMemory)),
     };
-    let end = boot(buffer, host, flash, launcher, &config.0, &config.1);
+    let end = boot(
+        buffer, host, flash, launcher, &config.0, config.2, &config.1,
+    );
     let text = boot_line(line, end);
     Answer::Booted(end, text)
 }

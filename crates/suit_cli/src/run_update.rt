@@ -1,10 +1,8 @@
 //! The command `run update`: an envelope is accepted, its update procedure run, and the envelope installed.
 
 ghost use Rattle.std.specs.Prelude.{◌≡◌, ◌<◌, ◌^◌, IsTrue, length};
-ghost use Rattle.flash_layout.specs.declared.frame.TheConstants.{VERSION_1};
-ghost use Rattle.flash_layout.specs.Configs.{IsAllowed};
+ghost use Rattle.flash_layout.specs.Configs.{ConfigOf, Configured, IsAllowed};
 ghost use Rattle.flash_layout.specs.Placement.{HaveOtherPlaces};
-ghost use Rattle.invoke_proc.specs.Banks.{config_in};
 ghost use Rattle.rollback_record.specs.SoundFlash.{Settled};
 ghost use Rattle.suit_envelope.specs.WrapperParts.{HasWrapper};
 ghost use Rattle.admission.specs.Admission.{admission_of};
@@ -50,9 +48,10 @@ fn update_by<H: Host, D: Disk, L: Launcher>(
     accepted: &Admitted<'_>,
     uris: &Uris,
 ) -> Answer
-    requires allowed { IsAllowed VERSION_1 (D.extent flash.old) config.now.0 config.now.1 }
+    requires allowed { IsAllowed config.now.2 (D.extent flash.old) config.now.0 config.now.1 }
     requires held { IsTrue D.told
-        → config_in (D.extent flash.old) (D.flash flash.old).reads config.now.0 config.now.1 }
+        → ConfigOf (D.extent flash.old) (D.flash flash.old).reads
+        (Configured config.now.0 config.now.1 config.now.2) }
     requires accepted { IsAccepted config.now.0 config.now.1 accepted.now.envelope.whole.now
         (admission_of accepted.now) }
     requires wrapper { HasWrapper accepted.now.envelope.wrapper.now }
@@ -92,6 +91,7 @@ fn update_by<H: Host, D: Disk, L: Launcher>(
         flash,
         launcher,
         &config.0,
+        config.2,
         &accepted.places,
         &accepted.envelope,
         &accepted.manifest,

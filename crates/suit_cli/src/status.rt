@@ -1,9 +1,8 @@
 //! The command `run status`: what is installed.
 
-ghost use Rattle.std.specs.Prelude.{◌≡◌, ◌≤◌, ◌++◌, IfOk, IsTrue, string_bytes};
+ghost use Rattle.std.specs.Prelude.{◌≡◌, ◌++◌, IfOk, IsTrue, string_bytes};
 ghost use Rattle.suit_edge.specs.Flash.{IsSame};
 ghost use Rattle.suit_params.specs.DigestBytes.{digest_bytes};
-ghost use Rattle.flash_layout.specs.declared.frame.TheConstants.{VERSION_1};
 ghost use Rattle.flash_layout.specs.Configs.{ConfigOf, Configured, IsAllowed};
 ghost use Rattle.suit_cli.specs.declared.reply.Outcome.TheVariants as outcomes;
 ghost use Rattle.suit_cli.specs.Lines.{number_line};
@@ -17,14 +16,14 @@ use crate::components::component_lines;
 use crate::outside::SeenDisk;
 use crate::reply::{Object, Outcome, Reply, Stop, declined};
 use det_cbor::Text;
-use flash_layout::{FlashFault, Key, Layout, Loaded, Record, load_config};
+use flash_layout::{FlashFault, Frame, Key, Layout, Loaded, Record, load_config};
 use rollback_record::load_record_by;
 use std::alloc::{AllocError, Global};
 use suit_edge::Disk;
 use suit_params::Digest;
 
-/// The configuration of a flash: its layout and its key.
-pub(crate) type Config = (Layout, Key);
+/// The configuration of a flash: its layout, its key and its frame.
+pub(crate) type Config = (Layout, Key, Frame);
 
 /// The configuration of a flash that has one.
 pub(crate) fn config_in<D: Disk>(alloc: Global, flash: &mut D) -> Result<Config, Stop>
@@ -33,11 +32,11 @@ pub(crate) fn config_in<D: Disk>(alloc: Global, flash: &mut D) -> Result<Config,
         (with_flash here (⟦<D as SeenDisk>⟧.seen flash.new)) result }
     ensures extent { D.extent flash.new ≡ D.extent flash.old }
     ensures allowed { IfOk result
-        (λ config. IsAllowed VERSION_1 (D.extent flash.old) config.0 config.1) }
+        (λ config. IsAllowed config.2 (D.extent flash.old) config.0 config.1) }
     ensures same { IsTrue D.told → IsSame (D.flash flash.old) (D.flash flash.new) }
 {
     match load_config(alloc, flash) {
-        Loaded::Config(layout, key, _) => Ok((layout, key)),
+        Loaded::Config(layout, key, frame) => Ok((layout, key, frame)),
         Loaded::Blank => Err(declined(Reply::fixed(alloc, Outcome::Unconfigured, "blank\n"))),
         Loaded::BadConfig => Err(declined(Reply::fixed(
             alloc,
@@ -51,17 +50,17 @@ pub(crate) fn config_in<D: Disk>(alloc: Global, flash: &mut D) -> Result<Config,
 
 // The record of a flash with this configuration that has one.
 fn record_in<D: Disk>(alloc: Global, flash: &mut D, config: &Config) -> Result<Record, Stop>
-    requires allowed { IsAllowed VERSION_1 (D.extent flash.old) config.now.0 config.now.1 }
+    requires allowed { IsAllowed config.now.2 (D.extent flash.old) config.now.0 config.now.1 }
     requires held { IsTrue D.told
         → ConfigOf (D.extent flash.old) (D.flash flash.old).reads
-        (Configured config.now.0 config.now.1 VERSION_1) }
+        (Configured config.now.0 config.now.1 config.now.2) }
     ensures finds { (here : Outside) → Does record_in
         (with_flash here (⟦<D as SeenDisk>⟧.seen flash.old))
         (with_flash here (⟦<D as SeenDisk>⟧.seen flash.new)) result }
     ensures extent { D.extent flash.new ≡ D.extent flash.old }
     ensures same { IsTrue D.told → IsSame (D.flash flash.old) (D.flash flash.new) }
 {
-    match load_record_by(flash, &config.0) {
+    match load_record_by(flash, config.2, &config.0) {
         Ok(Some(record)) => Ok(record),
         Ok(None) => Err(declined(Reply::fixed(
             alloc,

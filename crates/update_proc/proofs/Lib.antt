@@ -9,3 +9,4 @@ mod InUseSlots
 mod Started
 pub mod Finished
 pub mod Reread
+mod CommitFrames

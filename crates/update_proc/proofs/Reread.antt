@@ -1,6 +1,7 @@
 -- An update whose record was read first: what holds since the read holds since before it.
 use Rattle.std.proofs.Common.{◌≡◌, ◌⊎◌, inl, inr, ℕ, List, [], Bor, length, Option, Some, None, option_map, sym, subst}
 use Rattle.std.specs.Option.{option_copied}
+use Rattle.std.specs.Prelude.{IfSome}
 use Rattle.suit_commands.specs.Tree.{PlanTree}
 use Rattle.suit_edge.specs.Flash.{Flash, IsFlash, IsSame, IsSettled, Now, Passes}
 use Rattle.suit_edge.specs.FlashLaws.{joined, same_flash_then, weakens}
@@ -17,7 +18,7 @@ use Rattle.flash_layout.specs.Frames.{head_of}
 use Rattle.flash_layout.specs.Layouts.{IsLayout}
 use Rattle.rollback_record.specs.declared.spare.RecordPages.{RecordPages}
 use Rattle.rollback_record.specs.Committing.{HasPages, HasSpare}
-use Rattle.rollback_record.specs.HeadRecord.{RecordOf}
+use Rattle.rollback_record.specs.HeadRecord.{IsLoadable, RecordOf}
 use Rattle.rollback_record.specs.RecordLaws.{OneAnswer}
 use Rattle.rollback_record.specs.SettledLaws.{each_sound}
 use Rattle.rollback_record.specs.SoundFlash.{Follows, Settled, Sound}
@@ -44,6 +45,10 @@ as_loaded (Some r) loaded same = same
 pub recorded_as : (head : List ℕ) (o : Option (Bor Record)) (loaded : Option Record) → option_copied o ≡ loaded → RecordOf VERSION_1 head loaded
     → RecordOf VERSION_1 head (option_map (λ r. r.now) o)
 recorded_as head o loaded same is = subst (λ (p : Option Record). RecordOf VERSION_1 head p) (sym (as_loaded o loaded same)) is
+
+pub loadable_as : (o : Option (Bor Record)) (loaded : Option Record) → option_copied o ≡ loaded → IfSome loaded (IsLoadable VERSION_1)
+    → IfSome (option_map (λ r. r.now) o) (IsLoadable VERSION_1)
+loadable_as o loaded same is = subst (λ (p : Option Record). IfSome p (IsLoadable VERSION_1)) (sym (as_loaded o loaded same)) is
 
 -- and so is the page beside it
 pub spare_as : (head : List ℕ) (o : Option (Bor Record)) (pages : RecordPages) → option_copied o ≡ pages.held → HasPages VERSION_1 head pages

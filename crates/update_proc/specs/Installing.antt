@@ -7,7 +7,7 @@ use Rattle.flash_layout.specs.declared.key.Key.{Key}
 use Rattle.flash_layout.specs.declared.layout.Entry.{Entry}
 use Rattle.flash_layout.specs.declared.slot.Record.{Record}
 use Rattle.flash_layout.specs.Configs.{ConfigOf, Configured}
-use Rattle.flash_layout.specs.Frames.{config_page_of, head_of, record_place}
+use Rattle.flash_layout.specs.Frames.{bank_size, config_page_of, head_of, head_size, record_place}
 use Rattle.rollback_record.specs.declared.page.TheConstants.{RECORD_BYTES}
 use Rattle.rollback_record.specs.Committing.{HasHeldOrNew}
 use Rattle.rollback_record.specs.HeadRecord.{IsLoadable}
@@ -28,7 +28,7 @@ HasLayout size image layout =
 
 -- the places of the slots
 abbrev pub BehindHead : ℕ → Type 0
-BehindHead i = VERSION_1.size ≤ i
+BehindHead i = head_size VERSION_1 ≤ i
 
 -- one record page is being written, and the record is still the held one, or it is the new one
 pub record IsRecording (held : Option Record) (new : Record) (made image : List ℕ) : Type 0 where
@@ -57,10 +57,10 @@ IsNotWorn r = r.generation < 2 ^ 64 - 1
 
 -- a flash of this size may take bytes of that length beside the record
 pub record MayInstall (size : ℕ) (held : Option Record) (bytes : List ℕ) : Type 0 where
-  pub large : VERSION_1.size ≤ size
+  pub large : head_size VERSION_1 ≤ size
   pub loadable : IfSome held (IsLoadable VERSION_1)
   pub worn : IfSome held IsNotWorn
-  pub fits : length bytes ≤ VERSION_1.bank_size
+  pub fits : length bytes ≤ bank_size VERSION_1
 
 -- under the layout and the key of this image, the bytes may be installed under the record
 abbrev pub MayBeInstalled : List ℕ → List ℕ → Record → Type 0

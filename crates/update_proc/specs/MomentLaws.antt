@@ -9,6 +9,7 @@ use Rattle.flash_layout.specs.declared.layout.Entry.{Entry}
 use Rattle.flash_layout.specs.declared.place.Places.{Places}
 use Rattle.flash_layout.specs.declared.slot.Record.{Record}
 use Rattle.flash_layout.specs.Layouts.{IsLayout, IsTypedEntry}
+use Rattle.flash_layout.specs.Frames.{bank_size}
 use Rattle.flash_slots.specs.RamContents.{empty_ram}
 use Rattle.step_machine.specs.declared.plan_end.PlanEnd.TheVariants as plays
 use Rattle.step_machine.specs.Devices.{contents_of}
@@ -27,7 +28,7 @@ pub record MomentLaws (size : ℕ) (layout : List Entry) : Type 0 where
       → SameOn (OutsideTouched layout places tree numbers) before image → KeepsContents layout places tree numbers before image
   -- while a bank is written, each content stays
   pub filling : (held : Option Record) (bytes before image : List ℕ) → length before ≡ size
-      → length bytes ≤ VERSION_1.bank_size
+      → length bytes ≤ bank_size VERSION_1
       → SameOn (BesideBank held bytes) before image → HasContentsOf layout before image
   -- and while the record is committed
   pub recording : (held : Option Record) (new : Record) (made image : List ℕ) → length made ≡ size

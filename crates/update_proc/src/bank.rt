@@ -1,7 +1,8 @@
 //! Writing the envelope to a bank.
 
+ghost use Rattle.flash_layout.specs.declared.frame.TheConstants.{VERSION_1};
 ghost use Rattle.flash_layout.specs.FaultCounts.{ResultCounts};
-ghost use Rattle.flash_layout.specs.Frames.{bank_of, bank_place, head_of};
+ghost use Rattle.flash_layout.specs.Frames.{IsFrame, bank_of, bank_place, bank_size, head_of};
 ghost use Rattle.rollback_record.specs.HeadRecord.{IsLoadable};
 ghost use Rattle.std.specs.Prelude.{◌≡◌, ◌<◌, ◌≤◌, IfOk, IfSome, IsTrue, OnOk, length, option_map};
 ghost use Rattle.suit_edge.specs.Flash.{Grows, IsSame, IsSettled, Keeps};
@@ -9,14 +10,14 @@ ghost use Rattle.suit_edge.specs.Ranges.{Outside};
 ghost use Rattle.update_proc.specs.Banks.{BesideBank, bank_for, is_kept};
 
 use crate::bank_reading::is_recorded;
-use flash_layout::{FlashFault, Record, VERSION_1, bank};
+use flash_layout::{FlashFault, Frame, Record, bank};
 use suit_edge::{Disk, Edge, write_and_sync};
 
 // Writes the envelope to that bank, and syncs all pending writes.
-fn fill_bank<D: Disk>(disk: &mut D, which: u8, bytes: &[u8]) -> Result<(), FlashFault>
-    requires size { VERSION_1.size ≤ D.extent disk.old }
+fn fill_bank<D: Disk>(disk: &mut D, frame: Frame, which: u8, bytes: &[u8]) -> Result<(), FlashFault>
+    requires frame { IsFrame (D.extent disk.old) frame }
     requires which { which < 2 }
-    requires fits { length bytes.now ≤ VERSION_1.bank_size }
+    requires fits { length bytes.now ≤ bank_size VERSION_1 }
     ensures size { D.extent disk.new ≡ D.extent disk.old }
     ensures counts { ResultCounts result (D.faults disk.old) (D.faults disk.new) }
     ensures holds { IsTrue D.told → OnOk result
@@ -28,7 +29,7 @@ fn fill_bank<D: Disk>(disk: &mut D, which: u8, bytes: &[u8]) -> Result<(), Flash
         (D.flash disk.new) }
     ensures grows { IsTrue D.told → Grows (D.flash disk.old) (D.flash disk.new) }
 {
-    match write_and_sync(disk, bank(u64::from(which)), bytes) {
+    match write_and_sync(disk, bank(frame, u64::from(which)), bytes) {
         Edge::Failed => Err(FlashFault),
         Edge::Done => Ok(()),
     }
@@ -48,18 +49,20 @@ fn keep_bank<D: Disk>(disk: &mut D) -> Result<(), FlashFault>
     }
 }
 
-/// Writes an envelope to a bank: the one that the record does not name, or the first one without a record. Where the
-/// record's bank holds the same bytes already, it is kept and nothing is written. Answers the bank. Then all pending
-/// writes are synced, the envelope's among them. At each moment nothing has changed but that range of the other bank.
+/// Writes an envelope to a bank of a flash with this frame: the one that the record does not name, or the first one
+/// without a record. Where the record's bank holds the same bytes already, it is kept and nothing is written. Answers the
+/// bank. Then all pending writes are synced, the envelope's among them. At each moment nothing has changed but that range
+/// of the other bank.
 pub fn write_bank<D: Disk>(
     disk: &mut D,
+    frame: Frame,
     held: Option<&Record>,
     bytes: &[u8],
     room: &mut [u8],
 ) -> Result<u8, FlashFault>
-    requires size { VERSION_1.size ≤ D.extent disk.old }
+    requires frame { IsFrame (D.extent disk.old) frame }
     requires held { IfSome (option_map (λ r. r.now) held) (IsLoadable VERSION_1) }
-    requires fits { length bytes.now ≤ VERSION_1.bank_size }
+    requires fits { length bytes.now ≤ bank_size VERSION_1 }
     requires room { 0 < length room.old }
     ensures size { D.extent disk.new ≡ D.extent disk.old }
     ensures counts { ResultCounts result (D.faults disk.old) (D.faults disk.new) }
@@ -81,23 +84,24 @@ pub fn write_bank<D: Disk>(
 {
     match held {
         None => {
-            fill_bank(disk, 0, bytes)?;
+            fill_bank(disk, frame, 0, bytes)?;
             Ok(0)
         }
-        Some(held) => write_beside(disk, held, bytes, room),
+        Some(held) => write_beside(disk, frame, held, bytes, room),
     }
 }
 
 // The same, beside a record.
 fn write_beside<D: Disk>(
     disk: &mut D,
+    frame: Frame,
     held: &Record,
     bytes: &[u8],
     room: &mut [u8],
 ) -> Result<u8, FlashFault>
-    requires size { VERSION_1.size ≤ D.extent disk.old }
+    requires frame { IsFrame (D.extent disk.old) frame }
     requires held { IsLoadable VERSION_1 held.now }
-    requires fits { length bytes.now ≤ VERSION_1.bank_size }
+    requires fits { length bytes.now ≤ bank_size VERSION_1 }
     requires room { 0 < length room.old }
     ensures size { D.extent disk.new ≡ D.extent disk.old }
     ensures counts { ResultCounts result (D.faults disk.old) (D.faults disk.new) }
@@ -115,12 +119,12 @@ fn write_beside<D: Disk>(
         → Keeps (BesideBank (Some held.now) bytes.now) (D.flash disk.old) (D.flash disk.new) }
     ensures grows { IsTrue D.told → Grows (D.flash disk.old) (D.flash disk.new) }
 {
-    let recorded = is_recorded(disk, held, bytes, room)?;
+    let recorded = is_recorded(disk, frame, held, bytes, room)?;
     if recorded {
         keep_bank(disk)?;
         return Ok(held.bank);
     }
     let other = 1 - held.bank;
-    fill_bank(disk, other, bytes)?;
+    fill_bank(disk, frame, other, bytes)?;
     Ok(other)
 }

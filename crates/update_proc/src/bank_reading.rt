@@ -1,12 +1,13 @@
 //! Whether a bank holds an envelope already.
 
+ghost use Rattle.flash_layout.specs.declared.frame.TheConstants.{VERSION_1};
 ghost use Rattle.flash_layout.specs.FaultCounts.{ResultCounts};
-ghost use Rattle.flash_layout.specs.Frames.{head_of};
+ghost use Rattle.flash_layout.specs.Frames.{IsFrame, head_of};
 ghost use Rattle.rollback_record.specs.HeadRecord.{IsLoadable};
 ghost use Rattle.rollback_record.specs.SoundFlash.{recorded_bank};
 ghost use Rattle.std.specs.Prelude.{◌≡◌, ◌↔◌, ◌+◌, ◌<◌, ◌≤◌, IfOk, IsTrue, length, slice_range};
 
-use flash_layout::{FlashFault, Record, VERSION_1, bank};
+use flash_layout::{FlashFault, Frame, Record, bank};
 use lane_bytes::same;
 use step_machine::Steps;
 use suit_edge::{Disk, Edge};
@@ -62,13 +63,14 @@ fn has_bytes<D: Disk>(
 /// Whether the bank of the record holds these bytes, and no more of them are recorded.
 pub(crate) fn is_recorded<D: Disk>(
     disk: &mut D,
+    frame: Frame,
     held: &Record,
     bytes: &[u8],
     room: &mut [u8],
 ) -> Result<bool, FlashFault>
     requires room { 0 < length room.old }
     requires held { IsLoadable VERSION_1 held.now }
-    requires size { VERSION_1.size ≤ D.extent disk.old }
+    requires frame { IsFrame (D.extent disk.old) frame }
     ensures read { ⟦<D as Steps>⟧.only_reads (ResultCounts result) disk.old disk.new }
     ensures exact { IsTrue D.told → IfOk result (λ same. IsTrue same ↔
         (recorded_bank VERSION_1 (head_of VERSION_1 (D.flash disk.old).reads) held.now
@@ -77,5 +79,5 @@ pub(crate) fn is_recorded<D: Disk>(
     if held.length != bytes.len() as u64 {
         return Ok(false);
     }
-    has_bytes(disk, bank(u64::from(held.bank)), bytes, room)
+    has_bytes(disk, bank(frame, u64::from(held.bank)), bytes, room)
 }

@@ -1,10 +1,11 @@
 //! The end of a procedure: the envelope is installed where it is done, and otherwise all pending writes are synced.
 
-ghost use Rattle.flash_layout.specs.Frames.{head_of};
+ghost use Rattle.flash_layout.specs.declared.frame.TheConstants.{VERSION_1};
+ghost use Rattle.flash_layout.specs.Frames.{IsFrame, head_of};
 ghost use Rattle.rollback_record.specs.Committing.{HasHeldOrNew, HasSpare, InHead};
 ghost use Rattle.rollback_record.specs.HeadRecord.{RecordOf};
 ghost use Rattle.rollback_record.specs.SoundFlash.{Follows, IsNoEarlier, Sound};
-ghost use Rattle.std.specs.Prelude.{◌≡◌, ◌<◌, ◌≤◌, IfSome, IsTrue, Some, length, option_map};
+ghost use Rattle.std.specs.Prelude.{◌≡◌, ◌<◌, IfSome, IsTrue, Some, option_map};
 ghost use Rattle.suit_edge.specs.Ranges.{SameOn};
 ghost use Rattle.suit_edge.specs.Flash.{Grows, IsFirmOn, IsSettled, Now, Passes};
 ghost use Rattle.update_proc.specs.Ends.{FinishedSo, IfInstalled, IfStopped, IfTold, IfUnfaulted, NowOr, SettledSo, StoppedSo};
@@ -12,7 +13,7 @@ ghost use Rattle.update_proc.specs.Installing.{BehindHead, HasActiveSlots, IsIns
 ghost use Rattle.update_proc.specs.Records.{new_record};
 
 use crate::{Offer, UpdateEnd, install};
-use flash_layout::{FlashFault, Record, VERSION_1};
+use flash_layout::{FlashFault, Frame, Record};
 use path_model::Cause;
 use rollback_record::Spare;
 use step_machine::{PlanEnd, Steps};
@@ -44,14 +45,14 @@ fn stop<D: Disk>(disk: &mut D, place: u64, cause: Cause) -> UpdateEnd
 /// ended it.
 pub(crate) fn finish<D: Disk>(
     disk: &mut D,
+    frame: Frame,
     end: PlanEnd,
     held: Option<&Record>,
     spare: Spare,
     offer: &Offer,
     bytes: &[u8],
-    room: &mut [u8],
 ) -> UpdateEnd
-    requires room { 0 < length room.old }
+    requires frame { IsFrame (D.extent disk.old) frame }
     requires ready { MayInstall (D.extent disk.old) (option_map (λ r. r.now) held)
         bytes.now }
     requires held { IsTrue D.told
@@ -102,10 +103,13 @@ pub(crate) fn finish<D: Disk>(
     ensures grows { IsTrue D.told → Grows (D.flash disk.old) (D.flash disk.new) }
 {
     match end {
-        PlanEnd::Done => match install(disk, held, spare, offer, bytes, room) {
-            Ok(record) => UpdateEnd::Installed(record),
-            Err(FlashFault) => UpdateEnd::FlashFault,
-        },
+        PlanEnd::Done => {
+            let mut room = [0u8; 4096];
+            match install(disk, frame, held, spare, offer, bytes, &mut room) {
+                Ok(record) => UpdateEnd::Installed(record),
+                Err(FlashFault) => UpdateEnd::FlashFault,
+            }
+        }
         PlanEnd::ConditionFailed { place } => settle(disk, UpdateEnd::Condition { place }),
         PlanEnd::DirectiveFailed { place, cause } => stop(disk, place, cause),
     }

@@ -5,7 +5,10 @@ ghost use Rattle.suit_envelope.specs.Said.{said_by};
 ghost use Rattle.suit_manifest.specs.Manifests.{IsManifest};
 ghost use Rattle.suit_manifest.specs.MembersApart.{HasMembers};
 ghost use Rattle.suit_params.specs.Refusing.{SaysWhole};
+ghost use Rattle.flash_layout.specs.declared.key.Key.{Key};
+ghost use Rattle.flash_layout.specs.Configs.{ConfigOf, Configured};
 ghost use Rattle.flash_layout.specs.Layouts.{IsLayout};
+ghost use Rattle.flash_layout.specs.Frames.{IsFrame, bank_size};
 ghost use Rattle.rollback_record.specs.SoundFlash.{Follows, Settled, Sound};
 ghost use Rattle.std.specs.Prelude.{◌^◌, ◌≡◌, ◌≤◌, ◌⊎◌, [], ℕ, IsTrue, List, length};
 ghost use Rattle.step_machine.specs.Fetching.{AsksAmong, asked_at};
@@ -20,7 +23,7 @@ ghost use Rattle.suit_envelope.specs.WrapperParts.{HasWrapper};
 ghost use Rattle.suit_manifest.specs.Procedures.{update_tree};
 ghost use Rattle.update_proc.specs.Choices.{AreChosen, active_slots};
 ghost use Rattle.update_proc.specs.Ends.{IfUnfaulted, IsUnbegun, JudgedSo, UpdateCounts};
-ghost use Rattle.update_proc.specs.Installing.{HasLayout, MayBeInstalled};
+ghost use Rattle.update_proc.specs.Installing.{MayBeInstalled};
 ghost use Rattle.update_proc.specs.Offered.{ForOffer};
 ghost use Rattle.update_proc.specs.Records.{new_record};
 ghost use Rattle.update_proc.specs.Updates.{KeepsUpdate, KeptSo, LaunchesBy, LeavesUpdate, PlayedSo, PlaysToEnd, PlaysUpdate, hosted, sources};
@@ -28,7 +31,7 @@ ghost use Rattle.update_proc.specs.Updates.{KeepsUpdate, KeptSo, LaunchesBy, Lea
 use crate::UpdateEnd;
 use crate::accepting::installable;
 use crate::starting::{Accepted, start};
-use flash_layout::{FlashFault, Layout, Places, VERSION_1};
+use flash_layout::{FlashFault, Frame, Layout, Places};
 use rollback_record::{load_pages_by, record_laws, sound_laws};
 use std::alloc::Global;
 use step_machine::Uris;
@@ -36,24 +39,25 @@ use suit_edge::{Disk, Host, Launcher};
 use suit_envelope::{Envelope, stated_digest};
 use suit_manifest::{Manifest, Members, update_plan};
 
-/// Updates a flash (draft-ietf-suit-manifest-25, section 6): the manifest is judged beside the record that the flash
-/// holds, its update procedure is run on the chosen slots, and where that is done the trimmed envelope is written to a bank
-/// and recorded. All memory is taken before anything is launched or written. The host is asked only for files that URIs
-/// name, and for none where the procedure is not begun.
+/// Updates a flash with this layout and frame (draft-ietf-suit-manifest-25, section 6): the manifest is judged beside the
+/// record that the flash holds, its update procedure is run on the chosen slots, and where that is done the trimmed
+/// envelope is written to a bank and recorded. All memory is taken before anything is launched or written. The host is
+/// asked only for files that URIs name, and for none where the procedure is not begun.
 pub fn update<H: Host, D: Disk, L: Launcher>(
     alloc: Global,
     host: &mut H,
     disk: &mut D,
     launcher: &mut L,
     layout: &Layout,
+    frame: Frame,
     places: &Places,
     envelope: &Envelope<'_>,
     manifest: &Manifest,
     members: &Members,
     uris: &Uris,
 ) -> UpdateEnd
-    requires size { VERSION_1.size ≤ D.extent disk.old }
-    requires layout { IsLayout VERSION_1 (D.extent disk.old) layout.now }
+    requires frame { IsFrame (D.extent disk.old) frame }
+    requires layout { IsLayout frame (D.extent disk.old) layout.now }
     requires distinct { AreDistinct layout.now places.now }
     requires count { length manifest.now.components ≡ places.now.count }
     requires plan { IsPlan (update_tree manifest.now members.now) }
@@ -63,9 +67,10 @@ pub fn update<H: Host, D: Disk, L: Launcher>(
     requires ends { PartsEndBelow (2 ^ 64) (said_by envelope.now) }
     requires wrapper { HasWrapper envelope.now.wrapper.now }
     requires fits { length (trimmed envelope.now.wrapper.now envelope.now.manifest.now)
-        ≤ VERSION_1.bank_size }
+        ≤ bank_size frame }
     requires config { IsTrue D.told
-        → HasLayout (D.extent disk.old) (D.flash disk.old).reads layout.now }
+        → (key : Key) × ConfigOf (D.extent disk.old) (D.flash disk.old).reads
+        (Configured layout.now key frame) }
     ensures size { D.extent disk.new ≡ D.extent disk.old }
     ensures judged { IsTrue D.told → ForOffer (D.flash disk.old).reads envelope.now.wrapper.now
         (λ held digest. JudgedSo manifest.now.sequence digest held result) }
@@ -134,7 +139,7 @@ pub fn update<H: Host, D: Disk, L: Launcher>(
 {
     record_laws();
     sound_laws();
-    let pages = match load_pages_by(disk, layout) {
+    let pages = match load_pages_by(disk, frame, layout) {
         Ok(pages) => pages,
         Err(FlashFault) => return UpdateEnd::FlashFault,
     };
@@ -147,6 +152,7 @@ pub fn update<H: Host, D: Disk, L: Launcher>(
     let plan = update_plan(manifest, members);
     let whole = bytes.as_slice();
     let accepted = Accepted {
+        frame,
         held,
         spare: pages.spare,
         bytes: whole,

@@ -1,7 +1,8 @@
 //! Writing an envelope to a bank, and recording it.
 
+ghost use Rattle.flash_layout.specs.declared.frame.TheConstants.{VERSION_1};
 ghost use Rattle.flash_layout.specs.FaultCounts.{ResultCounts};
-ghost use Rattle.flash_layout.specs.Frames.{head_of};
+ghost use Rattle.flash_layout.specs.Frames.{IsFrame, bank_size, head_of};
 ghost use Rattle.rollback_record.specs.Committing.{HasHeldOrNew, HasSpare, InHead};
 ghost use Rattle.rollback_record.specs.HeadRecord.{IsLoadable, RecordOf};
 ghost use Rattle.rollback_record.specs.SoundFlash.{Follows, IsNoEarlier, Sound};
@@ -13,7 +14,7 @@ ghost use Rattle.update_proc.specs.Records.{new_record, next_generation};
 
 use crate::Offer;
 use crate::bank::write_bank;
-use flash_layout::{FlashFault, Record, VERSION_1};
+use flash_layout::{FlashFault, Frame, Record};
 use rollback_record::{Spare, commit, sound_laws};
 use suit_edge::Disk;
 
@@ -33,16 +34,17 @@ fn generation_after(held: Option<&Record>) -> u64
 /// loss at the start leaves the head as it reads.
 pub fn install<D: Disk>(
     disk: &mut D,
+    frame: Frame,
     held: Option<&Record>,
     spare: Spare,
     offer: &Offer,
     bytes: &[u8],
     room: &mut [u8],
 ) -> Result<Record, FlashFault>
-    requires size { VERSION_1.size ≤ D.extent disk.old }
+    requires frame { IsFrame (D.extent disk.old) frame }
     requires loadable { IfSome (option_map (λ r. r.now) held) (IsLoadable VERSION_1) }
     requires worn { IfSome (option_map (λ r. r.now) held) IsNotWorn }
-    requires fits { length bytes.now ≤ VERSION_1.bank_size }
+    requires fits { length bytes.now ≤ bank_size VERSION_1 }
     requires room { 0 < length room.old }
     requires held { IsTrue D.told
         → RecordOf VERSION_1 (head_of VERSION_1 (D.flash disk.old).reads)
@@ -88,7 +90,7 @@ pub fn install<D: Disk>(
     ensures grows { IsTrue D.told → Grows (D.flash disk.old) (D.flash disk.new) }
 {
     sound_laws();
-    let bank = write_bank(disk, held, bytes, room)?;
+    let bank = write_bank(disk, frame, held, bytes, room)?;
     let new = Record {
         generation: generation_after(held),
         sequence: offer.sequence,
@@ -97,6 +99,6 @@ pub fn install<D: Disk>(
         digest: offer.digest,
         active: offer.active,
     };
-    commit(disk, held, spare, &new)?;
+    commit(disk, frame, held, spare, &new)?;
     Ok(new)
 }

@@ -1,6 +1,7 @@
 //! Running the update procedure, and installing its envelope.
 
-ghost use Rattle.flash_layout.specs.Frames.{head_of};
+ghost use Rattle.flash_layout.specs.declared.frame.TheConstants.{VERSION_1};
+ghost use Rattle.flash_layout.specs.Frames.{IsFrame, bank_size, head_of};
 ghost use Rattle.flash_layout.specs.Layouts.{IsLayout};
 ghost use Rattle.rollback_record.specs.Committing.{HasSpare};
 ghost use Rattle.rollback_record.specs.HeadRecord.{IsLoadable, RecordOf};
@@ -33,7 +34,7 @@ use crate::finishing::finish;
 use crate::in_use::choose_slots;
 use crate::program::program_of;
 use crate::{Offer, UpdateEnd, choice_laws, moment_laws};
-use flash_layout::{Layout, NoTrail, Places, Record, VERSION_1};
+use flash_layout::{Frame, Layout, NoTrail, Places, Record};
 use rollback_record::{Spare, record_laws, sound_laws};
 use std::alloc::{AllocError, Global};
 use step_machine::{Uris, World, run_plan};
@@ -42,10 +43,11 @@ use suit_edge::{Disk, Host, Launcher};
 use suit_envelope::Envelope;
 use suit_params::Digest;
 
-/// An accepted update: the bytes to be installed beside the record, which is written to the spare page, with the number and
-/// the digest of their manifest, its procedure, and where its payloads come from.
+/// An accepted update of a flash with this frame: the bytes to be installed beside the record, which is written to the
+/// spare page, with the number and the digest of their manifest, its procedure, and where its payloads come from.
 #[derive(Clone, Copy)]
 pub(crate) struct Accepted<'a> {
+    pub frame: Frame,
     pub held: Option<&'a Record>,
     pub spare: Spare,
     pub bytes: &'a [u8],
@@ -67,7 +69,7 @@ pub(crate) fn start<H: Host, D: Disk, L: Launcher>(
     places: &Places,
     accepted: &Accepted<'_>,
 ) -> UpdateEnd
-    requires size { VERSION_1.size ≤ D.extent disk.old }
+    requires frame { IsFrame (D.extent disk.old) accepted.now.frame }
     requires layout { IsLayout VERSION_1 (D.extent disk.old) layout.now }
     requires config { IsTrue D.told
         → HasLayout (D.extent disk.old) (D.flash disk.old).reads layout.now }
@@ -90,7 +92,7 @@ pub(crate) fn start<H: Host, D: Disk, L: Launcher>(
         (option_map (λ r. r.now) accepted.now.held) accepted.now.spare }
     requires judged { IsAcceptable accepted.now.sequence accepted.now.digest
         (option_map (λ r. r.now) accepted.now.held) }
-    requires fits { length accepted.now.bytes.now ≤ VERSION_1.bank_size }
+    requires fits { length accepted.now.bytes.now ≤ bank_size VERSION_1 }
     ensures size { D.extent disk.new ≡ D.extent disk.old }
     ensures later { IsTrue D.told → (D.flash disk.old).clock ≤ (D.flash disk.new).clock }
     ensures starts { IsStartEnd result }
@@ -156,7 +158,9 @@ pub(crate) fn start<H: Host, D: Disk, L: Launcher>(
     let plan = accepted.plan;
     let slots = choose_slots(layout, places, plan, held);
     let payloads = Some(accepted.envelope);
-    let mut world = match World::new(alloc, layout, places, &slots, accepted.uris, payloads) {
+    let frame = accepted.frame;
+    let uris = accepted.uris;
+    let mut world = match World::new(alloc, layout, frame, places, &slots, uris, payloads) {
         Ok(world) => world,
         Err(AllocError) => return UpdateEnd::NoMemory,
     };
@@ -165,10 +169,9 @@ pub(crate) fn start<H: Host, D: Disk, L: Launcher>(
         digest: accepted.digest,
         active: slots.number,
     };
-    let mut room = [0u8; 4096];
     let program = program_of(accepted.envelope);
     let end = run_plan(host, disk, launcher, &mut world, program, &mut NoTrail);
     let spare = accepted.spare;
     let bytes = accepted.bytes;
-    finish(disk, end, held, spare, &offer, bytes, &mut room)
+    finish(disk, frame, end, held, spare, &offer, bytes)
 }

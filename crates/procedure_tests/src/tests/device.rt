@@ -7,7 +7,7 @@ ghost use Rattle.suit_commands.specs.Numbers.{work_number};
 
 use crate::tests::player::{CAPACITIES, FILE, VENDOR};
 use det_cbor::{Bytes, Text};
-use flash_layout::{Entry, Layout, Memory, Places, Trail, is_layout};
+use flash_layout::{Entry, Layout, Memory, Places, Trail, VERSION_1, is_layout};
 use std::alloc::{AllocError, Global};
 use step_machine::{PlanEnd, Program, SlotChoice, Uris, World, run_plan};
 use suit_edge::{Disk, Edge, MemoryDisk, MemoryHost, MemoryLauncher};
@@ -117,7 +117,8 @@ impl Device {
         if !is_layout(self.disk.size(), &self.layout) {
             return Err(AllocError);
         }
-        let mut world = World::new(alloc, &self.layout, &PLACES, &SLOTS, &self.uris, None)?;
+        let layout = &self.layout;
+        let mut world = World::new(alloc, layout, VERSION_1, &PLACES, &SLOTS, &self.uris, None)?;
         let end = run_plan(
             &mut self.host,
             &mut self.disk,

@@ -2,14 +2,13 @@
 
 ghost use Rattle.std.specs.Prelude.{◌≡◌, ◌∷◌, [], IfOk};
 ghost use Rattle.flash_layout.specs.Layouts.{IsLayout};
-ghost use Rattle.flash_layout.specs.declared.frame.TheConstants.{VERSION_1};
 ghost use Rattle.suit_edge.specs.MemoryDisk.{memory_flash};
 ghost use Rattle.suit_cli.specs.DrillDevice.{IsFirst, device_layout, entry_of, flash_size};
 ghost use Rattle.suit_cli.specs.DrillRounds.{IsReady};
 
 use crate::device::key_of;
 use det_cbor::Bytes;
-use flash_layout::{Entry, Formatted, Layout, Memory, format};
+use flash_layout::{Entry, Formatted, Layout, Memory, VERSION_1, format};
 use rollback_record::sound_laws;
 use std::alloc::{AllocError, Global};
 use suit_edge::MemoryDisk;
@@ -73,7 +72,7 @@ pub(crate) fn new_flash(alloc: Global) -> Result<MemoryDisk, AllocError>
     let mut disk = MemoryDisk::new(alloc, FLASH_SIZE, &[])?;
     let layout = device_layout(alloc)?;
     let key = key_of(&KEY);
-    match format(&mut disk, &layout, &key) {
+    match format(&mut disk, &layout, &key, VERSION_1) {
         Formatted::Done => Ok(disk),
         Formatted::NotBlank => unreachable!(),
         // No call is to fail, so memory ran out.

@@ -3,11 +3,13 @@ use Rattle.boot_c.specs.Images.{IsLaunched}
 use Rattle.step_machine.specs.declared.plan_end.PlanEnd.TheVariants as plays
 use Rattle.boot_c.specs.BootAnswers.{IsAnswer, boot_answer}
 use Rattle.boot_c.proofs.Images.{one_safe, only_ended}
+use Rattle.flash_layout.specs.Configs.{ConfigOf, Configured}
+use Rattle.flash_layout.specs.ToldFrames.{by_version_1}
+use Rattle.flash_layout.specs.declared.frame.Frame.{Frame}
 use Rattle.flash_layout.specs.declared.key.Key.{Key}
 use Rattle.flash_layout.specs.declared.layout.Entry.{Entry}
 use Rattle.flash_view.specs.Noting.{launches_in, launches_of, noted_launch}
 use Rattle.flash_view.specs.ViewDisk.{ViewState}
-use Rattle.invoke_proc.specs.Banks.{config_in}
 use Rattle.invoke_proc.specs.Booting.{Answers, PlayedSo, PlaysBoot}
 use Rattle.invoke_proc.specs.declared.boot_end.BootEnd.{BootEnd}
 use Rattle.invoke_proc.specs.declared.boot_end.BootEnd.TheVariants as ends
@@ -18,12 +20,12 @@ use Rattle.suit_edge.specs.declared.launch.Launch.{Launch}
 use Rattle.boot_c.proofs.booting.boot_by.Goals as goal
 
 -- a boot by the configuration ended so, on the disk that views the flash
-ended_so : (flash : List ℕ) (layout : List Entry) (key : Key) (disk : ViewState) (end : BootEnd) (answer : Answer) → disk ≡ record { bytes = flash; faults = 0 } → config_in (length flash) flash layout key
+ended_so : (flash : List ℕ) (layout : List Entry) (key : Key) (frame : Frame) (disk : ViewState) (end : BootEnd) (answer : Answer) → disk ≡ record { bytes = flash; faults = 0 } → ConfigOf (length flash) flash (Configured layout key frame)
     → Answers layout key disk.bytes end → (answer ≡ boot_answer end) ⊎ ((end ≡ ends.Ended) × (answer ≡ answers.LaunchFault)) → IsAnswer flash answer
-ended_so flash layout key disk end answer same config ended told = inr (inr (inr (record {
+ended_so flash layout key frame disk end answer same config ended told = inr (inr (inr (record {
   layout = layout;
   key = key;
-  config = config;
+  config = by_version_1 (length flash) flash layout key frame config;
   end = end;
   ended = subst (λ (d : ViewState). Answers layout key d.bytes end) same ended;
   told = told;
@@ -31,7 +33,7 @@ ended_so flash layout key disk end answer same config ended told = inr (inr (inr
 
 pub returns-in_default-end : goal.returns-in_default-end
 returns-in_default-end c = record {
-  answers = ended_so c.args.flash.now c.args.layout.now c.args.key.now c.new-disk.result c.boot-end.result c.boot_answer-answer.result c.new-disk.ensures c.requires.held (c.boot-end.ensures.answers refl) (inl c.boot_answer-answer.ensures);
+  answers = ended_so c.args.flash.now c.args.layout.now c.args.key.now c.args.frame c.new-disk.result c.boot-end.result c.boot_answer-answer.result c.new-disk.ensures c.requires.held (c.boot-end.ensures.answers refl) (inl c.boot_answer-answer.ensures);
   image = tt;
   within = tt;
   none = λ done. λ none. absurd (c.in_default-end.not-Ended (only_ended c.boot-end.result (sym c.boot_answer-answer.ensures ∙ done)));
@@ -39,16 +41,16 @@ returns-in_default-end c = record {
 
 pub returns-in_default-noted-clause-answers : goal.returns-in_default-noted-clause-answers
 returns-in_default-noted-clause-answers c =
-    ended_so c.args.flash.now c.args.layout.now c.args.key.now c.new-disk.result c.boot-end.result c.boot_answer-answer.result c.new-disk.ensures c.requires.held (c.boot-end.ensures.answers refl) (inl c.boot_answer-answer.ensures)
+    ended_so c.args.flash.now c.args.layout.now c.args.key.now c.args.frame c.new-disk.result c.boot-end.result c.boot_answer-answer.result c.new-disk.ensures c.requires.held (c.boot-end.ensures.answers refl) (inl c.boot_answer-answer.ensures)
 
 pub returns-in-Some-image_in-clause-answers : goal.returns-in-Some-image_in-clause-answers
 returns-in-Some-image_in-clause-answers c =
-    ended_so c.args.flash.now c.args.layout.now c.args.key.now c.new-disk.result c.boot-end.result c.boot_answer-answer.result c.new-disk.ensures c.requires.held (c.boot-end.ensures.answers refl) (inl c.boot_answer-answer.ensures)
+    ended_so c.args.flash.now c.args.layout.now c.args.key.now c.args.frame c.new-disk.result c.boot-end.result c.boot_answer-answer.result c.new-disk.ensures c.requires.held (c.boot-end.ensures.answers refl) (inl c.boot_answer-answer.ensures)
 
 -- an image without a digest is no image
 pub returns-in-None-clause-answers : goal.returns-in-None-clause-answers
 returns-in-None-clause-answers c =
-    ended_so c.args.flash.now c.args.layout.now c.args.key.now c.new-disk.result c.boot-end.result answers.LaunchFault c.new-disk.ensures c.requires.held (c.boot-end.ensures.answers refl) (inr (c.in-Ended.is, refl))
+    ended_so c.args.flash.now c.args.layout.now c.args.key.now c.args.frame c.new-disk.result c.boot-end.result answers.LaunchFault c.new-disk.ensures c.requires.held (c.boot-end.ensures.answers refl) (inr (c.in-Ended.is, refl))
 
 pub returns-in-Some-image_in-clause-image : goal.returns-in-Some-image_in-clause-image
 returns-in-Some-image_in-clause-image c =
@@ -63,7 +65,7 @@ returns-in-Some-image_in-clause-image c =
       record {
         layout = c.args.layout.now;
         key = c.args.key.now;
-        config = c.requires.held;
+        config = by_version_1 (length c.args.flash.now) c.args.flash.now c.args.layout.now c.args.key.now c.args.frame c.requires.held;
         launch = launch;
         launched = subst (λ (seen : List ℕ). IsLaunched c.args.flash.now c.in-Some-image_in.image (noted_launch seen c.in-Some.note.now)) c.flash.ensures c.in-Some-image_in.ensures.launched;
         after = c.boot-end.new.disk.bytes;

@@ -1,16 +1,19 @@
-use Rattle.std.proofs.lemmas.Result.{IfOk-weaker}
+use Rattle.std.proofs.Common.{Ok, Err}
 use Rattle.serde_json.specs.View.{view}
 use Rattle.flash_layout.proofs.OneLayout.{accepted, refused_for}
 use Rattle.flash_layout.proofs.Wholes.{described_whole, allowed_layout}
 use Rattle.flash_layout.proofs.describing.layout_of.Goals as goal
 
-pub returns-clause-allowed : goal.returns-clause-allowed
-returns-clause-allowed c =
-    let d = view c.args.value.now in
-    IfOk-weaker c.read_layout.result _ _ (λ layout h. allowed_layout c.args.size layout (described_whole d layout h.reads) h.held) c.read_layout.ensures.ok
+pub returns-in-Ok-clause-allowed : goal.returns-in-Ok-clause-allowed
+returns-in-Ok-clause-allowed c =
+    let is = c.in-Ok.ensures.ok in
+    allowed_layout c.args.size c.in-Ok.layout (described_whole (view c.args.value.now) c.in-Ok.layout is.reads) is.held
 
-pub returns-clause-every_layout : goal.returns-clause-every_layout
-returns-clause-every_layout c layout p = accepted c.args.size (view c.args.value.now) layout c.read_layout.result p c.read_layout.ensures.refused
+pub returns-in-Ok-clause-every_fault : goal.returns-in-Ok-clause-every_fault
+returns-in-Ok-clause-every_fault c f r = refused_for c.args.size (view c.args.value.now) f (Ok c.in-Ok.layout) c.in-Ok.ensures.ok tt r
 
-pub returns-clause-every_fault : goal.returns-clause-every_fault
-returns-clause-every_fault c f r = refused_for c.args.size (view c.args.value.now) f c.read_layout.result c.read_layout.ensures.ok c.read_layout.ensures.refused r
+pub returns-in-Err-clause-every_layout : goal.returns-in-Err-clause-every_layout
+returns-in-Err-clause-every_layout c layout p = accepted c.args.size (view c.args.value.now) layout (Err c.in-Err.fault) p c.in-Err.ensures.refused
+
+pub returns-in-Err-clause-every_fault : goal.returns-in-Err-clause-every_fault
+returns-in-Err-clause-every_fault c f r = refused_for c.args.size (view c.args.value.now) f (Err c.in-Err.fault) tt c.in-Err.ensures.refused r

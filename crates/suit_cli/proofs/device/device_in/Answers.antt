@@ -1,4 +1,6 @@
 use Rattle.std.proofs.Common.{subst, sym, Err}
+use Rattle.flash_layout.specs.declared.frame.Frame.{Frame}
+use Rattle.flash_layout.specs.Layouts.{IsLayout}
 use Rattle.suit_cli.specs.declared.reply.Stop.{Stop}
 use Rattle.suit_cli.specs.Devices.{device_in}
 use Rattle.suit_cli.specs.Stages.{Does}
@@ -15,6 +17,9 @@ pub returns-in-Ok-clause-finds : goal.returns-in-Ok-clause-finds
 returns-in-Ok-clause-finds c here =
     let text = (c.in_ok-value.ensures anywhere).1 in
     layout_there c.args.size c.args.bytes.now _ c.in-Ok.layout text.utf8 text.reads c.in-Ok.ensures.ok here
+
+pub returns-in-Ok-clause-allowed : goal.returns-in-Ok-clause-allowed
+returns-in-Ok-clause-allowed c = subst (λ (f : Frame). IsLayout f c.args.size c.in-Ok.layout) c.in-Ok.ensures.version c.in-Ok.ensures.allowed
 
 pub returns-clause-finds : goal.returns-clause-finds
 returns-clause-finds c here =

@@ -2,6 +2,7 @@ use Rattle.std.proofs.Common.{refl, inr, subst}
 use Rattle.suit_edge.specs.Flash.{IsFlash}
 use Rattle.suit_edge.specs.FlashLaws.{weakens}
 use Rattle.flash_layout.specs.declared.formatting.Formatted.TheVariants as formatted
+use Rattle.flash_layout.specs.FirstFrame.{version_1}
 use Rattle.suit_cli.specs.declared.reply.Object.TheVariants as objects
 use Rattle.suit_cli.specs.declared.reply.Stop.TheVariants as stops
 use Rattle.suit_cli.specs.Stages.{Goes, Faults, IsSaid}
@@ -72,3 +73,6 @@ returns-in-NotBlank-clause-settled g c t = looked _ _ _ _ _ (g.met.D.Disk.obeys 
 
 pub returns-in-FlashFault-clause-settled : goal.returns-in-FlashFault-clause-settled
 returns-in-FlashFault-clause-settled g c t settled never = absurd (never c.in-FlashFault.ensures.counts)
+
+pub format-requires-clause-frame : goal.format-requires-clause-frame
+format-requires-clause-frame g c = version_1 (g.D.Disk.extent c.args.flash.now) c.requires.large

@@ -2,6 +2,7 @@ use Rattle.std.proofs.Common.{ℕ, ◌^◌, inr, ⊎_elim, refl, sym, ap, subst}
 use Rattle.suit_edge.specs.FlashLaws.{same_flash}
 use Rattle.flash_layout.specs.declared.frame.TheConstants.{VERSION_1}
 use Rattle.flash_layout.specs.Configs.{ConfigOf, Configured}
+use Rattle.flash_layout.specs.ToldFrames.{allowed_by, by_version_1}
 use Rattle.rollback_record.specs.SoundFlash.{Settled}
 use Rattle.admission.specs.Admission.{admission_of}
 use Rattle.step_machine.specs.Fetching.{asked_at}
@@ -16,8 +17,8 @@ use Rattle.suit_cli.proofs.run_update.update_by.Goals as goal
 pub returns-in-Err-clause-keeps : goal.returns-in-Err-clause-keeps
 returns-in-Err-clause-keeps g c told settled = same_flash _
 
-pub update-end-requires-clause-size : goal.update-end-requires-clause-size
-update-end-requires-clause-size g c = c.requires.allowed.whole
+pub update-end-requires-clause-frame : goal.update-end-requires-clause-frame
+update-end-requires-clause-frame g c = c.requires.allowed.frame_is
 
 pub update-end-requires-clause-layout : goal.update-end-requires-clause-layout
 update-end-requires-clause-layout g c = c.requires.allowed.layout_is
@@ -60,13 +61,13 @@ returns-clause-answer g c =
       record {
         alone = record { told = refl; files = u.files; flash_told = refl; size = u.size; launcher_told = refl };
         counts = u.counts;
-        asks = λ th. u.asked th (most_room (g.D.Disk.extent c.args.flash.now)) (rooms_fit VERSION_1 (g.D.Disk.extent c.args.flash.now) c.args.config.now.0 c.args.config.now.1 c.requires.allowed);
+        asks = λ th. u.asked th (most_room (g.D.Disk.extent c.args.flash.now)) (rooms_fit c.args.config.now.2 (g.D.Disk.extent c.args.flash.now) c.args.config.now.0 c.args.config.now.1 c.requires.allowed);
         unasked = λ which. ap (λ host. asked_at (g.H.Host.asked host) (g.H.Host.pulled host)) (⊎_elim u.unfetched u.unbegun which);
         judged = u.judged;
         plays = u.plays;
         left = u.left;
         safe = λ td tl.
-            gains_update c.play_laws.ensures.safe c.play_laws.ensures.faulted_safe c.manifest_laws.ensures (g.D.Disk.extent c.args.flash.now) c.args.config.now.0 c.args.config.now.1 c.requires.allowed c.has_identifiers.ensures
+            gains_update c.play_laws.ensures.safe c.play_laws.ensures.faulted_safe c.manifest_laws.ensures (g.D.Disk.extent c.args.flash.now) c.args.config.now.0 c.args.config.now.1 (allowed_by _ _ _ _ c.requires.allowed) c.has_identifiers.ensures
             c.args.accepted.now.envelope.whole.now (admission_of c.args.accepted.now) f c.requires.other c.args.uris.now (hosted g.H.Host.told (g.H.Host.file c.args.host.now) (g.H.Host.asked c.args.host.now) (g.H.Host.asked c.update-end.new.host)) (g.D.Disk.flash c.args.flash.now).reads
             (g.L.Launcher.launches c.args.launcher.now) (g.L.Launcher.launches c.update-end.new.launcher) (u.launches td tl);
       },
@@ -82,7 +83,7 @@ returns-in-Err-clause-flash g c told = order_start c.sound_laws.ensures _ _
 pub returns-clause-flash : goal.returns-clause-flash
 returns-clause-flash g c told =
     let a = g.D.Disk.flash c.args.flash.now in
-    let config = subst (λ (n : ℕ). ConfigOf n a.reads (Configured c.args.config.now.0 c.args.config.now.1 VERSION_1)) (sym (g.met.D.Disk.obeys c.args.flash.now told).fits) (c.requires.held told) in
+    let config = subst (λ (n : ℕ). ConfigOf n a.reads (Configured c.args.config.now.0 c.args.config.now.1 VERSION_1)) (sym (g.met.D.Disk.obeys c.args.flash.now told).fits) (by_version_1 _ _ _ _ _ (c.requires.held told)) in
     let sound = λ (settled : Settled a). sound_update c.config_laws.ensures.answer c.args.config.now.0 c.args.config.now.1 a.reads config c.installation_laws.ensures c.args.accepted.now.envelope.whole.now (admission_of c.args.accepted.now) (facts c.args.config.now.0 c.args.config.now.1 c.args.accepted.now.envelope.whole.now (admission_of c.args.accepted.now) c.requires.accepted)
     a (g.D.Disk.flash c.update-end.new.disk) settled.sound (c.update-end.ensures.sound told settled) in
     record {

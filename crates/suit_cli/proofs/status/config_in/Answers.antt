@@ -1,5 +1,4 @@
 use Rattle.std.proofs.Common.{refl}
-use Rattle.flash_layout.specs.ToldFrames.{allowed_by, by_version_1}
 use Rattle.suit_cli.specs.Outside.{Outside, with_flash}
 use Rattle.suit_cli.proofs.StatusLines.{blank_there}
 use Rattle.suit_cli.proofs.status.config_in.Goals as goal
@@ -13,12 +12,8 @@ returns-in-Blank-clause-finds g c here =
     (record { beside = refl; still = record { told = refl; size = c.in-Blank.ensures.size; reads = λ t. (c.in-Blank.ensures.same t).reads }; faults = c.in-Blank.ensures.counts })
     c.in-Blank.ensures.exact c.fixed.result c.declined.result c.fixed.ensures c.declined.ensures
 
--- the frame that is loaded is that of version 1
-pub returns-in-Config-clause-allowed : goal.returns-in-Config-clause-allowed
-returns-in-Config-clause-allowed g c = allowed_by _ _ _ _ c.in-Config.ensures.allowed
-
 pub returns-in-Config-clause-finds : goal.returns-in-Config-clause-finds
 returns-in-Config-clause-finds g c here = (
   record { beside = refl; still = record { told = refl; size = c.in-Config.ensures.size; reads = λ t. (c.in-Config.ensures.same t).reads }; faults = c.in-Config.ensures.counts },
-  λ told. by_version_1 _ _ _ _ _ (c.in-Config.ensures.exact told),
+  λ told. c.in-Config.ensures.exact told,
 )

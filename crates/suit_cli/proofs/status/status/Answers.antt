@@ -25,11 +25,11 @@ returns-in_err-installed-clause-same g c t =
     same_flash_then _ _ _ _ (g.met.D.Disk.obeys c.config_in.new.flash t) (c.in_ok-config.ensures.same t) (c.in_err-installed.ensures.same t)
 
 pub record_in-requires-clause-allowed : goal.record_in-requires-clause-allowed
-record_in-requires-clause-allowed g c = allowed_after c.in_ok-config.config.0 c.in_ok-config.config.1 _ _ c.in_ok-config.ensures.extent c.in_ok-config.ensures.allowed
+record_in-requires-clause-allowed g c = allowed_after c.in_ok-config.config.0 c.in_ok-config.config.1 c.in_ok-config.config.2 _ _ c.in_ok-config.ensures.extent c.in_ok-config.ensures.allowed
 
 pub record_in-requires-clause-held : goal.record_in-requires-clause-held
 record_in-requires-clause-held g c told =
-    held_after c.in_ok-config.config.0 c.in_ok-config.config.1 _ _ _ _ c.in_ok-config.ensures.extent (c.in_ok-config.ensures.same told).reads ((c.in_ok-config.ensures.finds anywhere).1 told)
+    held_after c.in_ok-config.config.0 c.in_ok-config.config.1 c.in_ok-config.config.2 _ _ _ _ c.in_ok-config.ensures.extent (c.in_ok-config.ensures.same told).reads ((c.in_ok-config.ensures.finds anywhere).1 told)
 
 pub component_lines-requires-clause-few : goal.component_lines-requires-clause-few
 component_lines-requires-clause-few g c =

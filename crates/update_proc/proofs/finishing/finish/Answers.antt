@@ -58,3 +58,6 @@ pub returns-in-DirectiveFailed-clause-answer : goal.returns-in-DirectiveFailed-c
 returns-in-DirectiveFailed-clause-answer g c =
     subst (λ (end : PlanEnd). FinishedSo end c.stop.result (g.D.Disk.faults c.args.disk.now) (g.D.Disk.faults c.stop.new.disk)) (sym c.in-DirectiveFailed.is)
     (stopped_so c.in-DirectiveFailed.place c.in-DirectiveFailed.cause c.stop.result _ _ c.stop.ensures.read.counts)
+
+pub slice_bounds-install-end : goal.slice_bounds-install-end
+slice_bounds-install-end g c = refl

@@ -11,7 +11,8 @@ use Rattle.suit_edge.specs.FlashLaws.{grows_start, grows_then, same_flash, start
 use Rattle.suit_envelope.specs.declared.envelope.Envelope.{Envelope}
 use Rattle.flash_layout.specs.declared.frame.TheConstants.{VERSION_1}
 use Rattle.flash_layout.specs.declared.slot.Record.{Record}
-use Rattle.flash_layout.specs.Frames.{head_of}
+use Rattle.flash_layout.specs.Frames.{IsFrame, head_of}
+use Rattle.flash_layout.specs.FirstFrame.{has_room}
 use Rattle.rollback_record.specs.Committing.{HasSpare}
 use Rattle.rollback_record.specs.HeadRecord.{RecordOf}
 use Rattle.rollback_record.specs.SettledLaws.{each_sound}
@@ -115,35 +116,34 @@ run_plan-end-requires-clause-plan g c = subst IsPlan (sym (c.program_of-program.
 pub run_plan-end-requires-clause-count : goal.run_plan-end-requires-clause-count
 run_plan-end-requires-clause-count g c = ap (λ (x : PlanTree). x.count) (c.program_of-program.ensures c.requires.said.0 c.requires.said.1 c.requires.said.2 c.requires.said.3 ∙ sym c.requires.said.4) ∙ c.requires.count ∙ sym c.in-Ok.ensures.stand.count
 
-pub slice_bounds-finish-end : goal.slice_bounds-finish-end
-slice_bounds-finish-end g c =
-    refl
-
 pub finish-requires-clause-ready : goal.finish-requires-clause-ready
 finish-requires-clause-ready g c = record {
-  large = subst (λ (n : ℕ). 49152 ≤ n) (sym c.run_plan-end.ensures.size) c.requires.size;
+  large = subst (λ (n : ℕ). 49152 ≤ n) (sym c.run_plan-end.ensures.size) (has_room (g.D.Disk.extent c.args.disk.now) c.args.accepted.now.frame c.requires.frame);
   loadable = c.requires.loadable;
   worn = not_worn (held_of c.args.accepted.now.held) c.args.accepted.now.sequence c.args.accepted.now.digest c.requires.loadable c.requires.judged;
   fits = c.requires.fits;
 }
 
+pub finish-requires-clause-frame : goal.finish-requires-clause-frame
+finish-requires-clause-frame g c = subst (λ (n : ℕ). IsFrame n c.args.accepted.now.frame) (sym c.run_plan-end.ensures.size) c.requires.frame
+
 pub finish-requires-clause-held : goal.finish-requires-clause-held
 finish-requires-clause-held g c t =
     let chosen = (chosen_as c.args.layout.now c.args.places.now (plan_tree c.args.accepted.now.plan.now) c.choose_slots-slots.ensures.chosen.0 (active_slots (held_of c.args.accepted.now.held)) c.choose_slots-slots.result.number (in_use_as_held (g.D.Disk.extent c.args.disk.now) (g.D.Disk.flash c.args.disk.now).reads c.args.layout.now (c.requires.config t).0 (held_of c.args.accepted.now.held) (c.requires.config t).1 (c.requires.held t) c.requires.loadable c.choose_slots-slots.ensures.chosen.0 c.choose_slots-slots.ensures.chosen.1) c.choose_slots-slots.ensures.chosen.2) in
     let law_b = (subst (λ (n : ℕ). IsFlash (g.D.Disk.flash c.run_plan-end.new.disk) n) c.run_plan-end.ensures.size (g.met.D.Disk.obeys c.run_plan-end.new.disk t)) in
-    was_b c.sound_laws.ensures c.moment_laws.ensures c.choice_laws.ensures (g.D.Disk.extent c.args.disk.now) c.requires.size c.args.layout.now c.requires.layout c.args.places.now (plan_tree c.args.accepted.now.plan.now) (held_of c.args.accepted.now.held) c.requires.loadable c.choose_slots-slots.result.number c.in-Ok.world.standings.items c.requires.distinct c.choose_slots-slots.ensures.choice c.in-Ok.ensures.stand chosen (g.D.Disk.flash c.args.disk.now) (g.D.Disk.flash c.run_plan-end.new.disk) (g.met.D.Disk.obeys c.args.disk.now t) law_b (c.requires.config t).0 (c.requires.config t).1 (c.requires.held t) (subst (λ (x : PlanTree). Keeps (OutsideTargets x c.in-Ok.world.standings.items) (g.D.Disk.flash c.args.disk.now) (g.D.Disk.flash c.run_plan-end.new.disk)) (c.program_of-program.ensures c.requires.said.0 c.requires.said.1 c.requires.said.2 c.requires.said.3 ∙ sym c.requires.said.4) (c.run_plan-end.ensures.keeps t))
+    was_b c.sound_laws.ensures c.moment_laws.ensures c.choice_laws.ensures (g.D.Disk.extent c.args.disk.now) (has_room (g.D.Disk.extent c.args.disk.now) c.args.accepted.now.frame c.requires.frame) c.args.layout.now c.requires.layout c.args.places.now (plan_tree c.args.accepted.now.plan.now) (held_of c.args.accepted.now.held) c.requires.loadable c.choose_slots-slots.result.number c.in-Ok.world.standings.items c.requires.distinct c.choose_slots-slots.ensures.choice c.in-Ok.ensures.stand chosen (g.D.Disk.flash c.args.disk.now) (g.D.Disk.flash c.run_plan-end.new.disk) (g.met.D.Disk.obeys c.args.disk.now t) law_b (c.requires.config t).0 (c.requires.config t).1 (c.requires.held t) (subst (λ (x : PlanTree). Keeps (OutsideTargets x c.in-Ok.world.standings.items) (g.D.Disk.flash c.args.disk.now) (g.D.Disk.flash c.run_plan-end.new.disk)) (c.program_of-program.ensures c.requires.said.0 c.requires.said.1 c.requires.said.2 c.requires.said.3 ∙ sym c.requires.said.4) (c.run_plan-end.ensures.keeps t))
 
 pub finish-requires-clause-spare : goal.finish-requires-clause-spare
 finish-requires-clause-spare g c t =
     let chosen = (chosen_as c.args.layout.now c.args.places.now (plan_tree c.args.accepted.now.plan.now) c.choose_slots-slots.ensures.chosen.0 (active_slots (held_of c.args.accepted.now.held)) c.choose_slots-slots.result.number (in_use_as_held (g.D.Disk.extent c.args.disk.now) (g.D.Disk.flash c.args.disk.now).reads c.args.layout.now (c.requires.config t).0 (held_of c.args.accepted.now.held) (c.requires.config t).1 (c.requires.held t) c.requires.loadable c.choose_slots-slots.ensures.chosen.0 c.choose_slots-slots.ensures.chosen.1) c.choose_slots-slots.ensures.chosen.2) in
     let law_b = (subst (λ (n : ℕ). IsFlash (g.D.Disk.flash c.run_plan-end.new.disk) n) c.run_plan-end.ensures.size (g.met.D.Disk.obeys c.run_plan-end.new.disk t)) in
-    subst (λ (h : List ℕ). HasSpare VERSION_1 h (held_of c.args.accepted.now.held) c.args.accepted.now.spare) (sym (head_b c.sound_laws.ensures c.moment_laws.ensures c.choice_laws.ensures (g.D.Disk.extent c.args.disk.now) c.requires.size c.args.layout.now c.requires.layout c.args.places.now (plan_tree c.args.accepted.now.plan.now) (held_of c.args.accepted.now.held) c.requires.loadable c.choose_slots-slots.result.number c.in-Ok.world.standings.items c.requires.distinct c.choose_slots-slots.ensures.choice c.in-Ok.ensures.stand chosen (g.D.Disk.flash c.args.disk.now) (g.D.Disk.flash c.run_plan-end.new.disk) (g.met.D.Disk.obeys c.args.disk.now t) law_b (c.requires.config t).0 (c.requires.config t).1 (c.requires.held t) (subst (λ (x : PlanTree). Keeps (OutsideTargets x c.in-Ok.world.standings.items) (g.D.Disk.flash c.args.disk.now) (g.D.Disk.flash c.run_plan-end.new.disk)) (c.program_of-program.ensures c.requires.said.0 c.requires.said.1 c.requires.said.2 c.requires.said.3 ∙ sym c.requires.said.4) (c.run_plan-end.ensures.keeps t)))) (c.requires.spare t)
+    subst (λ (h : List ℕ). HasSpare VERSION_1 h (held_of c.args.accepted.now.held) c.args.accepted.now.spare) (sym (head_b c.sound_laws.ensures c.moment_laws.ensures c.choice_laws.ensures (g.D.Disk.extent c.args.disk.now) (has_room (g.D.Disk.extent c.args.disk.now) c.args.accepted.now.frame c.requires.frame) c.args.layout.now c.requires.layout c.args.places.now (plan_tree c.args.accepted.now.plan.now) (held_of c.args.accepted.now.held) c.requires.loadable c.choose_slots-slots.result.number c.in-Ok.world.standings.items c.requires.distinct c.choose_slots-slots.ensures.choice c.in-Ok.ensures.stand chosen (g.D.Disk.flash c.args.disk.now) (g.D.Disk.flash c.run_plan-end.new.disk) (g.met.D.Disk.obeys c.args.disk.now t) law_b (c.requires.config t).0 (c.requires.config t).1 (c.requires.held t) (subst (λ (x : PlanTree). Keeps (OutsideTargets x c.in-Ok.world.standings.items) (g.D.Disk.flash c.args.disk.now) (g.D.Disk.flash c.run_plan-end.new.disk)) (c.program_of-program.ensures c.requires.said.0 c.requires.said.1 c.requires.said.2 c.requires.said.3 ∙ sym c.requires.said.4) (c.run_plan-end.ensures.keeps t)))) (c.requires.spare t)
 
 pub finish-requires-clause-active : goal.finish-requires-clause-active
 finish-requires-clause-active g c t =
     let chosen = (chosen_as c.args.layout.now c.args.places.now (plan_tree c.args.accepted.now.plan.now) c.choose_slots-slots.ensures.chosen.0 (active_slots (held_of c.args.accepted.now.held)) c.choose_slots-slots.result.number (in_use_as_held (g.D.Disk.extent c.args.disk.now) (g.D.Disk.flash c.args.disk.now).reads c.args.layout.now (c.requires.config t).0 (held_of c.args.accepted.now.held) (c.requires.config t).1 (c.requires.held t) c.requires.loadable c.choose_slots-slots.ensures.chosen.0 c.choose_slots-slots.ensures.chosen.1) c.choose_slots-slots.ensures.chosen.2) in
     let law_b = (subst (λ (n : ℕ). IsFlash (g.D.Disk.flash c.run_plan-end.new.disk) n) c.run_plan-end.ensures.size (g.met.D.Disk.obeys c.run_plan-end.new.disk t)) in
-    active_b c.sound_laws.ensures c.moment_laws.ensures c.choice_laws.ensures (g.D.Disk.extent c.args.disk.now) c.requires.size c.args.layout.now c.requires.layout c.args.places.now (plan_tree c.args.accepted.now.plan.now) (held_of c.args.accepted.now.held) c.requires.loadable c.choose_slots-slots.result.number c.in-Ok.world.standings.items c.requires.distinct c.choose_slots-slots.ensures.choice c.in-Ok.ensures.stand chosen (g.D.Disk.flash c.args.disk.now) (g.D.Disk.flash c.run_plan-end.new.disk) (g.met.D.Disk.obeys c.args.disk.now t) law_b (c.requires.config t).0 (c.requires.config t).1 (c.requires.held t) (subst (λ (x : PlanTree). Keeps (OutsideTargets x c.in-Ok.world.standings.items) (g.D.Disk.flash c.args.disk.now) (g.D.Disk.flash c.run_plan-end.new.disk)) (c.program_of-program.ensures c.requires.said.0 c.requires.said.1 c.requires.said.2 c.requires.said.3 ∙ sym c.requires.said.4) (c.run_plan-end.ensures.keeps t))
+    active_b c.sound_laws.ensures c.moment_laws.ensures c.choice_laws.ensures (g.D.Disk.extent c.args.disk.now) (has_room (g.D.Disk.extent c.args.disk.now) c.args.accepted.now.frame c.requires.frame) c.args.layout.now c.requires.layout c.args.places.now (plan_tree c.args.accepted.now.plan.now) (held_of c.args.accepted.now.held) c.requires.loadable c.choose_slots-slots.result.number c.in-Ok.world.standings.items c.requires.distinct c.choose_slots-slots.ensures.choice c.in-Ok.ensures.stand chosen (g.D.Disk.flash c.args.disk.now) (g.D.Disk.flash c.run_plan-end.new.disk) (g.met.D.Disk.obeys c.args.disk.now t) law_b (c.requires.config t).0 (c.requires.config t).1 (c.requires.held t) (subst (λ (x : PlanTree). Keeps (OutsideTargets x c.in-Ok.world.standings.items) (g.D.Disk.flash c.args.disk.now) (g.D.Disk.flash c.run_plan-end.new.disk)) (c.program_of-program.ensures c.requires.said.0 c.requires.said.1 c.requires.said.2 c.requires.said.3 ∙ sym c.requires.said.4) (c.run_plan-end.ensures.keeps t))
 
 pub returns-clause-size : goal.returns-clause-size
 returns-clause-size g c = c.finish.ensures.size ∙ c.run_plan-end.ensures.size
@@ -169,14 +169,14 @@ returns-clause-sound g c t settled may =
     let chosen = (chosen_as c.args.layout.now c.args.places.now (plan_tree c.args.accepted.now.plan.now) c.choose_slots-slots.ensures.chosen.0 (active_slots (held_of c.args.accepted.now.held)) c.choose_slots-slots.result.number (in_use_as_held (g.D.Disk.extent c.args.disk.now) (g.D.Disk.flash c.args.disk.now).reads c.args.layout.now (c.requires.config t).0 (held_of c.args.accepted.now.held) (c.requires.config t).1 (c.requires.held t) c.requires.loadable c.choose_slots-slots.ensures.chosen.0 c.choose_slots-slots.ensures.chosen.1) c.choose_slots-slots.ensures.chosen.2) in
     let law_b = (subst (λ (n : ℕ). IsFlash (g.D.Disk.flash c.run_plan-end.new.disk) n) c.run_plan-end.ensures.size (g.met.D.Disk.obeys c.run_plan-end.new.disk t)) in
     let law_d = (subst (λ (n : ℕ). IsFlash (g.D.Disk.flash c.finish.new.disk) n) (c.finish.ensures.size ∙ c.run_plan-end.ensures.size) (g.met.D.Disk.obeys c.finish.new.disk t)) in
-    sound_all c.sound_laws.ensures c.moment_laws.ensures c.choice_laws.ensures (g.D.Disk.extent c.args.disk.now) c.requires.size c.args.layout.now c.requires.layout c.args.places.now (plan_tree c.args.accepted.now.plan.now) (held_of c.args.accepted.now.held) c.requires.loadable c.choose_slots-slots.result.number c.in-Ok.world.standings.items c.requires.distinct c.choose_slots-slots.ensures.choice c.in-Ok.ensures.stand chosen (g.D.Disk.flash c.args.disk.now) (g.D.Disk.flash c.run_plan-end.new.disk) (g.met.D.Disk.obeys c.args.disk.now t) law_b (c.requires.config t).0 (c.requires.config t).1 (c.requires.held t) (subst (λ (x : PlanTree). Keeps (OutsideTargets x c.in-Ok.world.standings.items) (g.D.Disk.flash c.args.disk.now) (g.D.Disk.flash c.run_plan-end.new.disk)) (c.program_of-program.ensures c.requires.said.0 c.requires.said.1 c.requires.said.2 c.requires.said.3 ∙ sym c.requires.said.4) (c.run_plan-end.ensures.keeps t)) settled c.args.accepted.now.bytes.now c.args.accepted.now.sequence c.args.accepted.now.digest c.requires.fits (g.D.Disk.flash c.finish.new.disk) law_d (c.finish.ensures.sound t) (may c.choose_slots-slots.result.number chosen)
+    sound_all c.sound_laws.ensures c.moment_laws.ensures c.choice_laws.ensures (g.D.Disk.extent c.args.disk.now) (has_room (g.D.Disk.extent c.args.disk.now) c.args.accepted.now.frame c.requires.frame) c.args.layout.now c.requires.layout c.args.places.now (plan_tree c.args.accepted.now.plan.now) (held_of c.args.accepted.now.held) c.requires.loadable c.choose_slots-slots.result.number c.in-Ok.world.standings.items c.requires.distinct c.choose_slots-slots.ensures.choice c.in-Ok.ensures.stand chosen (g.D.Disk.flash c.args.disk.now) (g.D.Disk.flash c.run_plan-end.new.disk) (g.met.D.Disk.obeys c.args.disk.now t) law_b (c.requires.config t).0 (c.requires.config t).1 (c.requires.held t) (subst (λ (x : PlanTree). Keeps (OutsideTargets x c.in-Ok.world.standings.items) (g.D.Disk.flash c.args.disk.now) (g.D.Disk.flash c.run_plan-end.new.disk)) (c.program_of-program.ensures c.requires.said.0 c.requires.said.1 c.requires.said.2 c.requires.said.3 ∙ sym c.requires.said.4) (c.run_plan-end.ensures.keeps t)) settled c.args.accepted.now.bytes.now c.args.accepted.now.sequence c.args.accepted.now.digest c.requires.fits (g.D.Disk.flash c.finish.new.disk) law_d (c.finish.ensures.sound t) (may c.choose_slots-slots.result.number chosen)
 
 pub returns-clause-follows : goal.returns-clause-follows
 returns-clause-follows g c t settled =
     let chosen = (chosen_as c.args.layout.now c.args.places.now (plan_tree c.args.accepted.now.plan.now) c.choose_slots-slots.ensures.chosen.0 (active_slots (held_of c.args.accepted.now.held)) c.choose_slots-slots.result.number (in_use_as_held (g.D.Disk.extent c.args.disk.now) (g.D.Disk.flash c.args.disk.now).reads c.args.layout.now (c.requires.config t).0 (held_of c.args.accepted.now.held) (c.requires.config t).1 (c.requires.held t) c.requires.loadable c.choose_slots-slots.ensures.chosen.0 c.choose_slots-slots.ensures.chosen.1) c.choose_slots-slots.ensures.chosen.2) in
     let law_b = (subst (λ (n : ℕ). IsFlash (g.D.Disk.flash c.run_plan-end.new.disk) n) c.run_plan-end.ensures.size (g.met.D.Disk.obeys c.run_plan-end.new.disk t)) in
     let law_d = (subst (λ (n : ℕ). IsFlash (g.D.Disk.flash c.finish.new.disk) n) (c.finish.ensures.size ∙ c.run_plan-end.ensures.size) (g.met.D.Disk.obeys c.finish.new.disk t)) in
-    follows_all c.sound_laws.ensures c.moment_laws.ensures c.choice_laws.ensures (g.D.Disk.extent c.args.disk.now) c.requires.size c.args.layout.now c.requires.layout c.args.places.now (plan_tree c.args.accepted.now.plan.now) (held_of c.args.accepted.now.held) c.requires.loadable c.choose_slots-slots.result.number c.in-Ok.world.standings.items c.requires.distinct c.choose_slots-slots.ensures.choice c.in-Ok.ensures.stand chosen (g.D.Disk.flash c.args.disk.now) (g.D.Disk.flash c.run_plan-end.new.disk) (g.met.D.Disk.obeys c.args.disk.now t) law_b (c.requires.config t).0 (c.requires.config t).1 (c.requires.held t) (subst (λ (x : PlanTree). Keeps (OutsideTargets x c.in-Ok.world.standings.items) (g.D.Disk.flash c.args.disk.now) (g.D.Disk.flash c.run_plan-end.new.disk)) (c.program_of-program.ensures c.requires.said.0 c.requires.said.1 c.requires.said.2 c.requires.said.3 ∙ sym c.requires.said.4) (c.run_plan-end.ensures.keeps t)) settled c.args.accepted.now.bytes.now c.args.accepted.now.sequence c.args.accepted.now.digest c.requires.fits (g.D.Disk.flash c.finish.new.disk) law_d (c.finish.ensures.follows t)
+    follows_all c.sound_laws.ensures c.moment_laws.ensures c.choice_laws.ensures (g.D.Disk.extent c.args.disk.now) (has_room (g.D.Disk.extent c.args.disk.now) c.args.accepted.now.frame c.requires.frame) c.args.layout.now c.requires.layout c.args.places.now (plan_tree c.args.accepted.now.plan.now) (held_of c.args.accepted.now.held) c.requires.loadable c.choose_slots-slots.result.number c.in-Ok.world.standings.items c.requires.distinct c.choose_slots-slots.ensures.choice c.in-Ok.ensures.stand chosen (g.D.Disk.flash c.args.disk.now) (g.D.Disk.flash c.run_plan-end.new.disk) (g.met.D.Disk.obeys c.args.disk.now t) law_b (c.requires.config t).0 (c.requires.config t).1 (c.requires.held t) (subst (λ (x : PlanTree). Keeps (OutsideTargets x c.in-Ok.world.standings.items) (g.D.Disk.flash c.args.disk.now) (g.D.Disk.flash c.run_plan-end.new.disk)) (c.program_of-program.ensures c.requires.said.0 c.requires.said.1 c.requires.said.2 c.requires.said.3 ∙ sym c.requires.said.4) (c.run_plan-end.ensures.keeps t)) settled c.args.accepted.now.bytes.now c.args.accepted.now.sequence c.args.accepted.now.digest c.requires.fits (g.D.Disk.flash c.finish.new.disk) law_d (c.finish.ensures.follows t)
     (no_earlier (held_of c.args.accepted.now.held) (new_record (held_of c.args.accepted.now.held) (g.D.Disk.flash c.run_plan-end.new.disk).reads c.args.accepted.now.bytes.now c.args.accepted.now.sequence c.args.accepted.now.digest c.choose_slots-slots.result.number) c.args.accepted.now.sequence c.args.accepted.now.digest refl refl c.requires.judged)
 
 pub returns-clause-settled : goal.returns-clause-settled
@@ -192,7 +192,7 @@ returns-clause-keeps g c t settled =
     let chosen = (chosen_as c.args.layout.now c.args.places.now (plan_tree c.args.accepted.now.plan.now) c.choose_slots-slots.ensures.chosen.0 (active_slots (held_of c.args.accepted.now.held)) c.choose_slots-slots.result.number (in_use_as_held (g.D.Disk.extent c.args.disk.now) (g.D.Disk.flash c.args.disk.now).reads c.args.layout.now (c.requires.config t).0 (held_of c.args.accepted.now.held) (c.requires.config t).1 (c.requires.held t) c.requires.loadable c.choose_slots-slots.ensures.chosen.0 c.choose_slots-slots.ensures.chosen.1) c.choose_slots-slots.ensures.chosen.2) in
     let law_b = (subst (λ (n : ℕ). IsFlash (g.D.Disk.flash c.run_plan-end.new.disk) n) c.run_plan-end.ensures.size (g.met.D.Disk.obeys c.run_plan-end.new.disk t)) in
     let law_d = (subst (λ (n : ℕ). IsFlash (g.D.Disk.flash c.finish.new.disk) n) (c.finish.ensures.size ∙ c.run_plan-end.ensures.size) (g.met.D.Disk.obeys c.finish.new.disk t)) in
-    let moments = moments_of c.sound_laws.ensures c.moment_laws.ensures c.choice_laws.ensures (g.D.Disk.extent c.args.disk.now) c.requires.size c.args.layout.now c.requires.layout c.args.places.now (plan_tree c.args.accepted.now.plan.now) (held_of c.args.accepted.now.held) c.requires.loadable c.choose_slots-slots.result.number c.in-Ok.world.standings.items c.requires.distinct c.choose_slots-slots.ensures.choice c.in-Ok.ensures.stand chosen (g.D.Disk.flash c.args.disk.now) (g.D.Disk.flash c.run_plan-end.new.disk) (g.met.D.Disk.obeys c.args.disk.now t) law_b (c.requires.config t).0 (c.requires.config t).1 (c.requires.held t) (subst (λ (x : PlanTree). Keeps (OutsideTargets x c.in-Ok.world.standings.items) (g.D.Disk.flash c.args.disk.now) (g.D.Disk.flash c.run_plan-end.new.disk)) (c.program_of-program.ensures c.requires.said.0 c.requires.said.1 c.requires.said.2 c.requires.said.3 ∙ sym c.requires.said.4) (c.run_plan-end.ensures.keeps t)) settled c.args.accepted.now.bytes.now c.args.accepted.now.sequence c.args.accepted.now.digest c.requires.fits (g.D.Disk.flash c.finish.new.disk) law_d (c.finish.ensures.any_moment t) in
+    let moments = moments_of c.sound_laws.ensures c.moment_laws.ensures c.choice_laws.ensures (g.D.Disk.extent c.args.disk.now) (has_room (g.D.Disk.extent c.args.disk.now) c.args.accepted.now.frame c.requires.frame) c.args.layout.now c.requires.layout c.args.places.now (plan_tree c.args.accepted.now.plan.now) (held_of c.args.accepted.now.held) c.requires.loadable c.choose_slots-slots.result.number c.in-Ok.world.standings.items c.requires.distinct c.choose_slots-slots.ensures.choice c.in-Ok.ensures.stand chosen (g.D.Disk.flash c.args.disk.now) (g.D.Disk.flash c.run_plan-end.new.disk) (g.met.D.Disk.obeys c.args.disk.now t) law_b (c.requires.config t).0 (c.requires.config t).1 (c.requires.held t) (subst (λ (x : PlanTree). Keeps (OutsideTargets x c.in-Ok.world.standings.items) (g.D.Disk.flash c.args.disk.now) (g.D.Disk.flash c.run_plan-end.new.disk)) (c.program_of-program.ensures c.requires.said.0 c.requires.said.1 c.requires.said.2 c.requires.said.3 ∙ sym c.requires.said.4) (c.run_plan-end.ensures.keeps t)) settled c.args.accepted.now.bytes.now c.args.accepted.now.sequence c.args.accepted.now.digest c.requires.fits (g.D.Disk.flash c.finish.new.disk) law_d (c.finish.ensures.any_moment t) in
     let b = g.D.Disk.flash c.run_plan-end.new.disk in
     let d = g.D.Disk.flash c.finish.new.disk in
     let Done : List ℕ → Type 0 = (λ made. IsTrue g.H.Host.told → IsTrue g.L.Launcher.told → PlaysToEnd c.args.layout.now c.args.places.now (plan_tree c.args.accepted.now.plan.now) (held_of c.args.accepted.now.held) c.args.accepted.now.envelope.now.whole.now c.args.accepted.now.uris.now (g.H.Host.file c.args.host.now) (g.D.Disk.flash c.args.disk.now).reads (g.L.Launcher.launches c.args.launcher.now) (g.L.Launcher.launches c.run_plan-end.new.launcher) made) in
@@ -203,12 +203,12 @@ returns-clause-keeps g c t settled =
           (plays_update c.args.layout.now c.args.places.now (plan_tree c.args.accepted.now.plan.now) (held_of c.args.accepted.now.held) payloads c.in-Ok.world.uris.now c.args.accepted.now.uris.now (hosted g.H.Host.told (g.H.Host.file c.args.host.now) (g.H.Host.asked c.args.host.now) (g.H.Host.asked c.run_plan-end.new.host)) (g.D.Disk.flash c.args.disk.now).reads (g.D.Disk.flash c.run_plan-end.new.disk).reads (g.L.Launcher.launches c.args.launcher.now) (g.L.Launcher.launches c.run_plan-end.new.launcher) c.run_plan-end.result c.choose_slots-slots.result.number c.in-Ok.world.standings.items c.in-Ok.world.ram c.run_plan-end.new.world.ram chosen c.choose_slots-slots.ensures.choice c.in-Ok.ensures.stand c.in-Ok.ensures.ram c.in-Ok.ensures.uris
           (program_tree c.program_of-program.result) (c.program_of-program.ensures c.requires.said.0 c.requires.said.1 c.requires.said.2 c.requires.said.3 ∙ sym c.requires.said.4) (c.run_plan-end.ensures.plays refl refl t tl payloads (subst (λ (e : Option (Bor Envelope)). ArePayloads e payloads) (sym c.in-Ok.ensures.envelope) has)))),
     ) in
-    let others = contents_made c.sound_laws.ensures c.moment_laws.ensures c.choice_laws.ensures (g.D.Disk.extent c.args.disk.now) c.requires.size c.args.layout.now c.requires.layout c.args.places.now (plan_tree c.args.accepted.now.plan.now) (held_of c.args.accepted.now.held) c.requires.loadable c.choose_slots-slots.result.number c.in-Ok.world.standings.items c.requires.distinct c.choose_slots-slots.ensures.choice c.in-Ok.ensures.stand chosen (g.D.Disk.flash c.args.disk.now) (g.D.Disk.flash c.run_plan-end.new.disk) (g.met.D.Disk.obeys c.args.disk.now t) law_b (c.requires.config t).0 (c.requires.config t).1 (c.requires.held t) (subst (λ (x : PlanTree). Keeps (OutsideTargets x c.in-Ok.world.standings.items) (g.D.Disk.flash c.args.disk.now) (g.D.Disk.flash c.run_plan-end.new.disk)) (c.program_of-program.ensures c.requires.said.0 c.requires.said.1 c.requires.said.2 c.requires.said.3 ∙ sym c.requires.said.4) (c.run_plan-end.ensures.keeps t)) in
-    let stays = old_all c.sound_laws.ensures c.moment_laws.ensures c.choice_laws.ensures (g.D.Disk.extent c.args.disk.now) c.requires.size c.args.layout.now c.requires.layout c.args.places.now (plan_tree c.args.accepted.now.plan.now) (held_of c.args.accepted.now.held) c.requires.loadable c.choose_slots-slots.result.number c.in-Ok.world.standings.items c.requires.distinct c.choose_slots-slots.ensures.choice c.in-Ok.ensures.stand chosen (g.D.Disk.flash c.args.disk.now) (g.D.Disk.flash c.run_plan-end.new.disk) (g.met.D.Disk.obeys c.args.disk.now t) law_b (c.requires.config t).0 (c.requires.config t).1 (c.requires.held t) (subst (λ (x : PlanTree). Keeps (OutsideTargets x c.in-Ok.world.standings.items) (g.D.Disk.flash c.args.disk.now) (g.D.Disk.flash c.run_plan-end.new.disk)) (c.program_of-program.ensures c.requires.said.0 c.requires.said.1 c.requires.said.2 c.requires.said.3 ∙ sym c.requires.said.4) (c.run_plan-end.ensures.keeps t)) settled c.args.accepted.now.bytes.now c.args.accepted.now.sequence c.args.accepted.now.digest c.requires.fits (g.D.Disk.flash c.finish.new.disk) law_d in
-    let old_left = old_at_end c.sound_laws.ensures c.moment_laws.ensures c.choice_laws.ensures (g.D.Disk.extent c.args.disk.now) c.requires.size c.args.layout.now c.requires.layout c.args.places.now (plan_tree c.args.accepted.now.plan.now) (held_of c.args.accepted.now.held) c.requires.loadable c.choose_slots-slots.result.number c.in-Ok.world.standings.items c.requires.distinct c.choose_slots-slots.ensures.choice c.in-Ok.ensures.stand chosen (g.D.Disk.flash c.args.disk.now) (g.D.Disk.flash c.run_plan-end.new.disk) (g.met.D.Disk.obeys c.args.disk.now t) law_b (c.requires.config t).0 (c.requires.config t).1 (c.requires.held t) (subst (λ (x : PlanTree). Keeps (OutsideTargets x c.in-Ok.world.standings.items) (g.D.Disk.flash c.args.disk.now) (g.D.Disk.flash c.run_plan-end.new.disk)) (c.program_of-program.ensures c.requires.said.0 c.requires.said.1 c.requires.said.2 c.requires.said.3 ∙ sym c.requires.said.4) (c.run_plan-end.ensures.keeps t)) settled c.args.accepted.now.bytes.now c.args.accepted.now.sequence c.args.accepted.now.digest c.requires.fits (g.D.Disk.flash c.finish.new.disk) law_d in
+    let others = contents_made c.sound_laws.ensures c.moment_laws.ensures c.choice_laws.ensures (g.D.Disk.extent c.args.disk.now) (has_room (g.D.Disk.extent c.args.disk.now) c.args.accepted.now.frame c.requires.frame) c.args.layout.now c.requires.layout c.args.places.now (plan_tree c.args.accepted.now.plan.now) (held_of c.args.accepted.now.held) c.requires.loadable c.choose_slots-slots.result.number c.in-Ok.world.standings.items c.requires.distinct c.choose_slots-slots.ensures.choice c.in-Ok.ensures.stand chosen (g.D.Disk.flash c.args.disk.now) (g.D.Disk.flash c.run_plan-end.new.disk) (g.met.D.Disk.obeys c.args.disk.now t) law_b (c.requires.config t).0 (c.requires.config t).1 (c.requires.held t) (subst (λ (x : PlanTree). Keeps (OutsideTargets x c.in-Ok.world.standings.items) (g.D.Disk.flash c.args.disk.now) (g.D.Disk.flash c.run_plan-end.new.disk)) (c.program_of-program.ensures c.requires.said.0 c.requires.said.1 c.requires.said.2 c.requires.said.3 ∙ sym c.requires.said.4) (c.run_plan-end.ensures.keeps t)) in
+    let stays = old_all c.sound_laws.ensures c.moment_laws.ensures c.choice_laws.ensures (g.D.Disk.extent c.args.disk.now) (has_room (g.D.Disk.extent c.args.disk.now) c.args.accepted.now.frame c.requires.frame) c.args.layout.now c.requires.layout c.args.places.now (plan_tree c.args.accepted.now.plan.now) (held_of c.args.accepted.now.held) c.requires.loadable c.choose_slots-slots.result.number c.in-Ok.world.standings.items c.requires.distinct c.choose_slots-slots.ensures.choice c.in-Ok.ensures.stand chosen (g.D.Disk.flash c.args.disk.now) (g.D.Disk.flash c.run_plan-end.new.disk) (g.met.D.Disk.obeys c.args.disk.now t) law_b (c.requires.config t).0 (c.requires.config t).1 (c.requires.held t) (subst (λ (x : PlanTree). Keeps (OutsideTargets x c.in-Ok.world.standings.items) (g.D.Disk.flash c.args.disk.now) (g.D.Disk.flash c.run_plan-end.new.disk)) (c.program_of-program.ensures c.requires.said.0 c.requires.said.1 c.requires.said.2 c.requires.said.3 ∙ sym c.requires.said.4) (c.run_plan-end.ensures.keeps t)) settled c.args.accepted.now.bytes.now c.args.accepted.now.sequence c.args.accepted.now.digest c.requires.fits (g.D.Disk.flash c.finish.new.disk) law_d in
+    let old_left = old_at_end c.sound_laws.ensures c.moment_laws.ensures c.choice_laws.ensures (g.D.Disk.extent c.args.disk.now) (has_room (g.D.Disk.extent c.args.disk.now) c.args.accepted.now.frame c.requires.frame) c.args.layout.now c.requires.layout c.args.places.now (plan_tree c.args.accepted.now.plan.now) (held_of c.args.accepted.now.held) c.requires.loadable c.choose_slots-slots.result.number c.in-Ok.world.standings.items c.requires.distinct c.choose_slots-slots.ensures.choice c.in-Ok.ensures.stand chosen (g.D.Disk.flash c.args.disk.now) (g.D.Disk.flash c.run_plan-end.new.disk) (g.met.D.Disk.obeys c.args.disk.now t) law_b (c.requires.config t).0 (c.requires.config t).1 (c.requires.held t) (subst (λ (x : PlanTree). Keeps (OutsideTargets x c.in-Ok.world.standings.items) (g.D.Disk.flash c.args.disk.now) (g.D.Disk.flash c.run_plan-end.new.disk)) (c.program_of-program.ensures c.requires.said.0 c.requires.said.1 c.requires.said.2 c.requires.said.3 ∙ sym c.requires.said.4) (c.run_plan-end.ensures.keeps t)) settled c.args.accepted.now.bytes.now c.args.accepted.now.sequence c.args.accepted.now.digest c.requires.fits (g.D.Disk.flash c.finish.new.disk) law_d in
     let Kept : UpdateEnd → Type 0 = KeepsUpdate c.args.layout.now c.args.places.now (plan_tree c.args.accepted.now.plan.now) Done (held_of c.args.accepted.now.held) (λ numbers. new_record (held_of c.args.accepted.now.held) (g.D.Disk.flash c.args.disk.now).reads c.args.accepted.now.bytes.now c.args.accepted.now.sequence c.args.accepted.now.digest numbers) (g.D.Disk.flash c.args.disk.now) d in
     after c.run_plan-end.result c.finish.result _ _ c.finish.ensures.answer (λ answer. KeptSo (Kept answer) (IsSame (g.D.Disk.flash c.args.disk.now) d) answer)
-    (λ r same ended. record { numbers = c.choose_slots-slots.result.number; chosen = chosen; accepted = c.requires.judged; made = b.reads; others = others; any_moment = moments; whole = did ended; left = ((installed_as c.finish.result r (λ r. r ≡ new_record (held_of c.args.accepted.now.held) (g.D.Disk.flash c.run_plan-end.new.disk).reads c.args.accepted.now.bytes.now c.args.accepted.now.sequence c.args.accepted.now.digest c.choose_slots-slots.result.number) (c.finish.ensures.new t) same) ∙ new_is c.sound_laws.ensures c.moment_laws.ensures c.choice_laws.ensures (g.D.Disk.extent c.args.disk.now) c.requires.size c.args.layout.now c.requires.layout c.args.places.now (plan_tree c.args.accepted.now.plan.now) (held_of c.args.accepted.now.held) c.requires.loadable c.choose_slots-slots.result.number c.in-Ok.world.standings.items c.requires.distinct c.choose_slots-slots.ensures.choice c.in-Ok.ensures.stand chosen (g.D.Disk.flash c.args.disk.now) (g.D.Disk.flash c.run_plan-end.new.disk) (g.met.D.Disk.obeys c.args.disk.now t) law_b (c.requires.config t).0 (c.requires.config t).1 (c.requires.held t) (subst (λ (x : PlanTree). Keeps (OutsideTargets x c.in-Ok.world.standings.items) (g.D.Disk.flash c.args.disk.now) (g.D.Disk.flash c.run_plan-end.new.disk)) (c.program_of-program.ensures c.requires.said.0 c.requires.said.1 c.requires.said.2 c.requires.said.3 ∙ sym c.requires.said.4) (c.run_plan-end.ensures.keeps t)) settled c.args.accepted.now.bytes.now c.args.accepted.now.sequence c.args.accepted.now.digest c.requires.fits (g.D.Disk.flash c.finish.new.disk) law_d, new_at_end c.sound_laws.ensures c.moment_laws.ensures c.choice_laws.ensures (g.D.Disk.extent c.args.disk.now) c.requires.size c.args.layout.now c.requires.layout c.args.places.now (plan_tree c.args.accepted.now.plan.now) (held_of c.args.accepted.now.held) c.requires.loadable c.choose_slots-slots.result.number c.in-Ok.world.standings.items c.requires.distinct c.choose_slots-slots.ensures.choice c.in-Ok.ensures.stand chosen (g.D.Disk.flash c.args.disk.now) (g.D.Disk.flash c.run_plan-end.new.disk) (g.met.D.Disk.obeys c.args.disk.now t) law_b (c.requires.config t).0 (c.requires.config t).1 (c.requires.held t) (subst (λ (x : PlanTree). Keeps (OutsideTargets x c.in-Ok.world.standings.items) (g.D.Disk.flash c.args.disk.now) (g.D.Disk.flash c.run_plan-end.new.disk)) (c.program_of-program.ensures c.requires.said.0 c.requires.said.1 c.requires.said.2 c.requires.said.3 ∙ sym c.requires.said.4) (c.run_plan-end.ensures.keeps t)) settled c.args.accepted.now.bytes.now c.args.accepted.now.sequence c.args.accepted.now.digest c.requires.fits (g.D.Disk.flash c.finish.new.disk) law_d (c.finish.ensures.any_moment t) c.record_laws.ensures.answer r (installed_as c.finish.result r (λ r. r ≡ new_record (held_of c.args.accepted.now.held) (g.D.Disk.flash c.run_plan-end.new.disk).reads c.args.accepted.now.bytes.now c.args.accepted.now.sequence c.args.accepted.now.digest c.choose_slots-slots.result.number) (c.finish.ensures.new t) same) (installed_as c.finish.result r (λ r. RecordOf VERSION_1 (head_of VERSION_1 (g.D.Disk.flash c.finish.new.disk).reads) (Some r)) (c.finish.ensures.recorded t) same)) })
+    (λ r same ended. record { numbers = c.choose_slots-slots.result.number; chosen = chosen; accepted = c.requires.judged; made = b.reads; others = others; any_moment = moments; whole = did ended; left = ((installed_as c.finish.result r (λ r. r ≡ new_record (held_of c.args.accepted.now.held) (g.D.Disk.flash c.run_plan-end.new.disk).reads c.args.accepted.now.bytes.now c.args.accepted.now.sequence c.args.accepted.now.digest c.choose_slots-slots.result.number) (c.finish.ensures.new t) same) ∙ new_is c.sound_laws.ensures c.moment_laws.ensures c.choice_laws.ensures (g.D.Disk.extent c.args.disk.now) (has_room (g.D.Disk.extent c.args.disk.now) c.args.accepted.now.frame c.requires.frame) c.args.layout.now c.requires.layout c.args.places.now (plan_tree c.args.accepted.now.plan.now) (held_of c.args.accepted.now.held) c.requires.loadable c.choose_slots-slots.result.number c.in-Ok.world.standings.items c.requires.distinct c.choose_slots-slots.ensures.choice c.in-Ok.ensures.stand chosen (g.D.Disk.flash c.args.disk.now) (g.D.Disk.flash c.run_plan-end.new.disk) (g.met.D.Disk.obeys c.args.disk.now t) law_b (c.requires.config t).0 (c.requires.config t).1 (c.requires.held t) (subst (λ (x : PlanTree). Keeps (OutsideTargets x c.in-Ok.world.standings.items) (g.D.Disk.flash c.args.disk.now) (g.D.Disk.flash c.run_plan-end.new.disk)) (c.program_of-program.ensures c.requires.said.0 c.requires.said.1 c.requires.said.2 c.requires.said.3 ∙ sym c.requires.said.4) (c.run_plan-end.ensures.keeps t)) settled c.args.accepted.now.bytes.now c.args.accepted.now.sequence c.args.accepted.now.digest c.requires.fits (g.D.Disk.flash c.finish.new.disk) law_d, new_at_end c.sound_laws.ensures c.moment_laws.ensures c.choice_laws.ensures (g.D.Disk.extent c.args.disk.now) (has_room (g.D.Disk.extent c.args.disk.now) c.args.accepted.now.frame c.requires.frame) c.args.layout.now c.requires.layout c.args.places.now (plan_tree c.args.accepted.now.plan.now) (held_of c.args.accepted.now.held) c.requires.loadable c.choose_slots-slots.result.number c.in-Ok.world.standings.items c.requires.distinct c.choose_slots-slots.ensures.choice c.in-Ok.ensures.stand chosen (g.D.Disk.flash c.args.disk.now) (g.D.Disk.flash c.run_plan-end.new.disk) (g.met.D.Disk.obeys c.args.disk.now t) law_b (c.requires.config t).0 (c.requires.config t).1 (c.requires.held t) (subst (λ (x : PlanTree). Keeps (OutsideTargets x c.in-Ok.world.standings.items) (g.D.Disk.flash c.args.disk.now) (g.D.Disk.flash c.run_plan-end.new.disk)) (c.program_of-program.ensures c.requires.said.0 c.requires.said.1 c.requires.said.2 c.requires.said.3 ∙ sym c.requires.said.4) (c.run_plan-end.ensures.keeps t)) settled c.args.accepted.now.bytes.now c.args.accepted.now.sequence c.args.accepted.now.digest c.requires.fits (g.D.Disk.flash c.finish.new.disk) law_d (c.finish.ensures.any_moment t) c.record_laws.ensures.answer r (installed_as c.finish.result r (λ r. r ≡ new_record (held_of c.args.accepted.now.held) (g.D.Disk.flash c.run_plan-end.new.disk).reads c.args.accepted.now.bytes.now c.args.accepted.now.sequence c.args.accepted.now.digest c.choose_slots-slots.result.number) (c.finish.ensures.new t) same) (installed_as c.finish.result r (λ r. RecordOf VERSION_1 (head_of VERSION_1 (g.D.Disk.flash c.finish.new.disk).reads) (Some r)) (c.finish.ensures.recorded t) same)) })
     (λ place told ended. let still = stopped_at c.run_plan-end.result place (Passes b d (Now b)) (c.finish.ensures.still t) ended in
     record { numbers = c.choose_slots-slots.result.number; chosen = chosen; accepted = c.requires.judged; made = b.reads; others = others; any_moment = moments; whole = stays still; left = old_left (told_at c.finish.result place (d.reads ≡ b.reads) (c.finish.ensures.stays t) told) })
     (λ place cause told ended. let still = stopped_by c.run_plan-end.result place cause (Passes b d (Now b)) (c.finish.ensures.still t) ended in
@@ -221,7 +221,7 @@ returns-clause-keeps g c t settled =
       others = others;
       any_moment = moments;
       whole = stopped_or_done c.run_plan-end.result (Passes b d (Now b)) _ _ (c.finish.ensures.still t) stays did;
-      left = moment_at_end c.sound_laws.ensures c.moment_laws.ensures c.choice_laws.ensures (g.D.Disk.extent c.args.disk.now) c.requires.size c.args.layout.now c.requires.layout c.args.places.now (plan_tree c.args.accepted.now.plan.now) (held_of c.args.accepted.now.held) c.requires.loadable c.choose_slots-slots.result.number c.in-Ok.world.standings.items c.requires.distinct c.choose_slots-slots.ensures.choice c.in-Ok.ensures.stand chosen (g.D.Disk.flash c.args.disk.now) (g.D.Disk.flash c.run_plan-end.new.disk) (g.met.D.Disk.obeys c.args.disk.now t) law_b (c.requires.config t).0 (c.requires.config t).1 (c.requires.held t) (subst (λ (x : PlanTree). Keeps (OutsideTargets x c.in-Ok.world.standings.items) (g.D.Disk.flash c.args.disk.now) (g.D.Disk.flash c.run_plan-end.new.disk)) (c.program_of-program.ensures c.requires.said.0 c.requires.said.1 c.requires.said.2 c.requires.said.3 ∙ sym c.requires.said.4) (c.run_plan-end.ensures.keeps t)) settled c.args.accepted.now.bytes.now c.args.accepted.now.sequence c.args.accepted.now.digest c.requires.fits (g.D.Disk.flash c.finish.new.disk) law_d (c.finish.ensures.any_moment t);
+      left = moment_at_end c.sound_laws.ensures c.moment_laws.ensures c.choice_laws.ensures (g.D.Disk.extent c.args.disk.now) (has_room (g.D.Disk.extent c.args.disk.now) c.args.accepted.now.frame c.requires.frame) c.args.layout.now c.requires.layout c.args.places.now (plan_tree c.args.accepted.now.plan.now) (held_of c.args.accepted.now.held) c.requires.loadable c.choose_slots-slots.result.number c.in-Ok.world.standings.items c.requires.distinct c.choose_slots-slots.ensures.choice c.in-Ok.ensures.stand chosen (g.D.Disk.flash c.args.disk.now) (g.D.Disk.flash c.run_plan-end.new.disk) (g.met.D.Disk.obeys c.args.disk.now t) law_b (c.requires.config t).0 (c.requires.config t).1 (c.requires.held t) (subst (λ (x : PlanTree). Keeps (OutsideTargets x c.in-Ok.world.standings.items) (g.D.Disk.flash c.args.disk.now) (g.D.Disk.flash c.run_plan-end.new.disk)) (c.program_of-program.ensures c.requires.said.0 c.requires.said.1 c.requires.said.2 c.requires.said.3 ∙ sym c.requires.said.4) (c.run_plan-end.ensures.keeps t)) settled c.args.accepted.now.bytes.now c.args.accepted.now.sequence c.args.accepted.now.digest c.requires.fits (g.D.Disk.flash c.finish.new.disk) law_d (c.finish.ensures.any_moment t);
     }))
 
 pub returns-in-Err-clause-left : goal.returns-in-Err-clause-left
@@ -233,9 +233,9 @@ returns-clause-left g c t =
     let law_b = (subst (λ (n : ℕ). IsFlash (g.D.Disk.flash c.run_plan-end.new.disk) n) c.run_plan-end.ensures.size (g.met.D.Disk.obeys c.run_plan-end.new.disk t)) in
     let numbers = c.choose_slots-slots.result.number in
     let new = λ (numbers : List ℕ). new_record (held_of c.args.accepted.now.held) (g.D.Disk.flash c.args.disk.now).reads c.args.accepted.now.bytes.now c.args.accepted.now.sequence c.args.accepted.now.digest numbers in
-    let contents = contents_since c.sound_laws.ensures c.moment_laws.ensures c.choice_laws.ensures (g.D.Disk.extent c.args.disk.now) c.requires.size c.args.layout.now c.requires.layout c.args.places.now (plan_tree c.args.accepted.now.plan.now) (held_of c.args.accepted.now.held) c.requires.loadable c.choose_slots-slots.result.number c.in-Ok.world.standings.items c.requires.distinct c.choose_slots-slots.ensures.choice c.in-Ok.ensures.stand chosen (g.D.Disk.flash c.args.disk.now) (g.D.Disk.flash c.run_plan-end.new.disk) (g.met.D.Disk.obeys c.args.disk.now t) law_b (c.requires.config t).0 (c.requires.config t).1 (c.requires.held t) (subst (λ (x : PlanTree). Keeps (OutsideTargets x c.in-Ok.world.standings.items) (g.D.Disk.flash c.args.disk.now) (g.D.Disk.flash c.run_plan-end.new.disk)) (c.program_of-program.ensures c.requires.said.0 c.requires.said.1 c.requires.said.2 c.requires.said.3 ∙ sym c.requires.said.4) (c.run_plan-end.ensures.keeps t)) (g.D.Disk.flash c.finish.new.disk).reads (c.finish.ensures.behind t) in
-    let same_new = new_as c.sound_laws.ensures c.moment_laws.ensures c.choice_laws.ensures (g.D.Disk.extent c.args.disk.now) c.requires.size c.args.layout.now c.requires.layout c.args.places.now (plan_tree c.args.accepted.now.plan.now) (held_of c.args.accepted.now.held) c.requires.loadable c.choose_slots-slots.result.number c.in-Ok.world.standings.items c.requires.distinct c.choose_slots-slots.ensures.choice c.in-Ok.ensures.stand chosen (g.D.Disk.flash c.args.disk.now) (g.D.Disk.flash c.run_plan-end.new.disk) (g.met.D.Disk.obeys c.args.disk.now t) law_b (c.requires.config t).0 (c.requires.config t).1 (c.requires.held t) (subst (λ (x : PlanTree). Keeps (OutsideTargets x c.in-Ok.world.standings.items) (g.D.Disk.flash c.args.disk.now) (g.D.Disk.flash c.run_plan-end.new.disk)) (c.program_of-program.ensures c.requires.said.0 c.requires.said.1 c.requires.said.2 c.requires.said.3 ∙ sym c.requires.said.4) (c.run_plan-end.ensures.keeps t)) c.args.accepted.now.bytes.now c.args.accepted.now.sequence c.args.accepted.now.digest in
-    let held_at = was_b c.sound_laws.ensures c.moment_laws.ensures c.choice_laws.ensures (g.D.Disk.extent c.args.disk.now) c.requires.size c.args.layout.now c.requires.layout c.args.places.now (plan_tree c.args.accepted.now.plan.now) (held_of c.args.accepted.now.held) c.requires.loadable c.choose_slots-slots.result.number c.in-Ok.world.standings.items c.requires.distinct c.choose_slots-slots.ensures.choice c.in-Ok.ensures.stand chosen (g.D.Disk.flash c.args.disk.now) (g.D.Disk.flash c.run_plan-end.new.disk) (g.met.D.Disk.obeys c.args.disk.now t) law_b (c.requires.config t).0 (c.requires.config t).1 (c.requires.held t) (subst (λ (x : PlanTree). Keeps (OutsideTargets x c.in-Ok.world.standings.items) (g.D.Disk.flash c.args.disk.now) (g.D.Disk.flash c.run_plan-end.new.disk)) (c.program_of-program.ensures c.requires.said.0 c.requires.said.1 c.requires.said.2 c.requires.said.3 ∙ sym c.requires.said.4) (c.run_plan-end.ensures.keeps t)) in
+    let contents = contents_since c.sound_laws.ensures c.moment_laws.ensures c.choice_laws.ensures (g.D.Disk.extent c.args.disk.now) (has_room (g.D.Disk.extent c.args.disk.now) c.args.accepted.now.frame c.requires.frame) c.args.layout.now c.requires.layout c.args.places.now (plan_tree c.args.accepted.now.plan.now) (held_of c.args.accepted.now.held) c.requires.loadable c.choose_slots-slots.result.number c.in-Ok.world.standings.items c.requires.distinct c.choose_slots-slots.ensures.choice c.in-Ok.ensures.stand chosen (g.D.Disk.flash c.args.disk.now) (g.D.Disk.flash c.run_plan-end.new.disk) (g.met.D.Disk.obeys c.args.disk.now t) law_b (c.requires.config t).0 (c.requires.config t).1 (c.requires.held t) (subst (λ (x : PlanTree). Keeps (OutsideTargets x c.in-Ok.world.standings.items) (g.D.Disk.flash c.args.disk.now) (g.D.Disk.flash c.run_plan-end.new.disk)) (c.program_of-program.ensures c.requires.said.0 c.requires.said.1 c.requires.said.2 c.requires.said.3 ∙ sym c.requires.said.4) (c.run_plan-end.ensures.keeps t)) (g.D.Disk.flash c.finish.new.disk).reads (c.finish.ensures.behind t) in
+    let same_new = new_as c.sound_laws.ensures c.moment_laws.ensures c.choice_laws.ensures (g.D.Disk.extent c.args.disk.now) (has_room (g.D.Disk.extent c.args.disk.now) c.args.accepted.now.frame c.requires.frame) c.args.layout.now c.requires.layout c.args.places.now (plan_tree c.args.accepted.now.plan.now) (held_of c.args.accepted.now.held) c.requires.loadable c.choose_slots-slots.result.number c.in-Ok.world.standings.items c.requires.distinct c.choose_slots-slots.ensures.choice c.in-Ok.ensures.stand chosen (g.D.Disk.flash c.args.disk.now) (g.D.Disk.flash c.run_plan-end.new.disk) (g.met.D.Disk.obeys c.args.disk.now t) law_b (c.requires.config t).0 (c.requires.config t).1 (c.requires.held t) (subst (λ (x : PlanTree). Keeps (OutsideTargets x c.in-Ok.world.standings.items) (g.D.Disk.flash c.args.disk.now) (g.D.Disk.flash c.run_plan-end.new.disk)) (c.program_of-program.ensures c.requires.said.0 c.requires.said.1 c.requires.said.2 c.requires.said.3 ∙ sym c.requires.said.4) (c.run_plan-end.ensures.keeps t)) c.args.accepted.now.bytes.now c.args.accepted.now.sequence c.args.accepted.now.digest in
+    let held_at = was_b c.sound_laws.ensures c.moment_laws.ensures c.choice_laws.ensures (g.D.Disk.extent c.args.disk.now) (has_room (g.D.Disk.extent c.args.disk.now) c.args.accepted.now.frame c.requires.frame) c.args.layout.now c.requires.layout c.args.places.now (plan_tree c.args.accepted.now.plan.now) (held_of c.args.accepted.now.held) c.requires.loadable c.choose_slots-slots.result.number c.in-Ok.world.standings.items c.requires.distinct c.choose_slots-slots.ensures.choice c.in-Ok.ensures.stand chosen (g.D.Disk.flash c.args.disk.now) (g.D.Disk.flash c.run_plan-end.new.disk) (g.met.D.Disk.obeys c.args.disk.now t) law_b (c.requires.config t).0 (c.requires.config t).1 (c.requires.held t) (subst (λ (x : PlanTree). Keeps (OutsideTargets x c.in-Ok.world.standings.items) (g.D.Disk.flash c.args.disk.now) (g.D.Disk.flash c.run_plan-end.new.disk)) (c.program_of-program.ensures c.requires.said.0 c.requires.said.1 c.requires.said.2 c.requires.said.3 ∙ sym c.requires.said.4) (c.run_plan-end.ensures.keeps t)) in
     let Left : UpdateEnd → Type 0 = LeavesUpdate c.args.layout.now c.args.places.now (plan_tree c.args.accepted.now.plan.now) (held_of c.args.accepted.now.held) new (g.D.Disk.flash c.args.disk.now).reads (g.D.Disk.flash c.finish.new.disk).reads in
     after c.run_plan-end.result c.finish.result _ _ c.finish.ensures.answer (λ answer. KeptSo (Left answer) ((g.D.Disk.flash c.finish.new.disk).reads ≡ (g.D.Disk.flash c.args.disk.now).reads) answer)
     (λ r same ended. let is = installed_as c.finish.result r (λ r. r ≡ new_record (held_of c.args.accepted.now.held) (g.D.Disk.flash c.run_plan-end.new.disk).reads c.args.accepted.now.bytes.now c.args.accepted.now.sequence c.args.accepted.now.digest numbers) (c.finish.ensures.new t) same ∙ same_new in

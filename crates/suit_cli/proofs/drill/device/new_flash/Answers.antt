@@ -1,4 +1,5 @@
 use Rattle.std.proofs.Common.{◌∙◌, refl, arith}
+use Rattle.flash_layout.specs.FirstFrame.{version_1}
 use Rattle.suit_cli.specs.DrillDevice.{flash_size}
 use Rattle.suit_cli.proofs.DrillDevices.{is_first, is_ready, never_open, sized}
 use Rattle.suit_cli.proofs.drill.device.new_flash.Goals as goal
@@ -13,3 +14,6 @@ returns-in-Done-clause-first c =
 pub returns-in-Done-clause-ready : goal.returns-in-Done-clause-ready
 returns-in-Done-clause-ready c =
     is_ready c.sound_laws.ensures _ (c.in-Done.ensures.size ∙ sized c.in_ok-disk.disk _ flash_size c.in_ok-disk.ensures.state) (returns-in-Done-clause-first c) (c.in-Done.ensures.settled refl)
+
+pub format-requires-clause-frame : goal.format-requires-clause-frame
+format-requires-clause-frame c = version_1 _ (omega (arith, sized c.in_ok-disk.disk _ flash_size c.in_ok-disk.ensures.state))
