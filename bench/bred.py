@@ -262,7 +262,7 @@ class Plan:
 
 def steps(nodes):
     """How many commands are spelled."""
-    return sum((node[1] if node[0] == "again" else 1) * (1 + sum(map(steps, inners(node)))) for node in nodes)
+    return sum(node[1] * steps(node[2]) if node[0] == "again" else 1 + sum(map(steps, inners(node))) for node in nodes)
 
 
 # ---- changes by chance

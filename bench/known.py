@@ -1,6 +1,7 @@
 """Plans that were dear at some time, or that were made by reading the body: from these `bench/search` begins. Each is one of a kind, and
 not yet filled where a repetition stands last."""
 
+from against import against
 from bred import ALL, EACH, IMAGE, INVOKE, MATCH, SWAP, WRITE, Plan, again, nested, pick, run, sets, size, tries
 
 ALL_KEYS = tuple((key, ("bytes", 0, 16)) for key in (1, 2, 24)) + (
@@ -199,7 +200,7 @@ def long_ones():
 def known():
     """All plans, by their names."""
     all = {}
-    for kind in (outside, in_states, compared, in_loops, long_ones):
+    for kind in (outside, in_states, compared, in_loops, long_ones, against):
         for name, nodes, place, count in kind():
             nodes = nodes if isinstance(nodes[0], tuple) else (nodes,)
             all[name] = Plan(nodes, place, count)
