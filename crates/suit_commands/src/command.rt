@@ -1,6 +1,6 @@
 //! Commands and their sequences, which hold each other.
 
-ghost use Rattle.std.specs.Prelude.{◌≡◌, OnOk, OnErr};
+ghost use Rattle.std.specs.Prelude.{◌≡◌, OnOk, OnErr, IfOk};
 ghost use Rattle.suit_commands.specs.Tree.{NoSteps, NoBranches};
 ghost use Rattle.suit_commands.specs.View.{command_tree, sequence_tree, branches_tree, step_after, branch_after};
 
@@ -102,6 +102,15 @@ impl Sequence {
         }
     }
 
+    /// A sequence of no commands with room for so many.
+    pub fn with_room(alloc: Global, steps: usize) -> Result<Sequence, AllocError>
+        ensures { IfOk result (λ sequence. sequence ≡ NoSteps) }
+    {
+        Ok(Sequence {
+            held: Vec::with_capacity(alloc, steps)?,
+        })
+    }
+
     /// The list that a vector holds. Takes no memory and copies nothing.
     pub fn from_vec(steps: Vec<Step>) -> Sequence
         ensures { result ≡ sequence_tree steps.items }
@@ -142,6 +151,15 @@ impl Branches {
         Branches {
             held: Vec::new(alloc),
         }
+    }
+
+    /// No sequences, with room for so many.
+    pub fn with_room(alloc: Global, branches: usize) -> Result<Branches, AllocError>
+        ensures { IfOk result (λ list. list ≡ NoBranches) }
+    {
+        Ok(Branches {
+            held: Vec::with_capacity(alloc, branches)?,
+        })
     }
 
     /// The list that a vector holds. Takes no memory and copies nothing.

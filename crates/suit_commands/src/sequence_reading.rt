@@ -57,7 +57,7 @@ fn read_steps(mut cursor: Cursor<'_>, steps: u64, scope: Scope) -> Result<Sequen
     ensures { Gives (λ s. s) result
         (steps_from (inner_reader scope) scope.shared scope.count steps cursor.entry) }
 {
-    let mut sequence = Sequence::new(scope.alloc);
+    let mut sequence = Sequence::with_room(scope.alloc, steps as usize)?;
     for _ in 0..steps {
         let place = cursor.place();
         let command = read_step(&mut cursor, scope)?;
@@ -137,7 +137,7 @@ fn read_branches(cursor: &mut Cursor<'_>, number: u64, scope: Scope) -> Result<B
     ensures { Gives (λ bs. (bs, cursor.new)) result
         (branches_from (inner_reader scope) number cursor.old) }
 {
-    let mut branches = Branches::new(scope.alloc);
+    let mut branches = Branches::with_room(scope.alloc, number as usize)?;
     for done in 0..number {
         let others = number - done - 1;
         let branch = read_branch(cursor, others == 0, scope)?;

@@ -1,6 +1,6 @@
 //! Maps of parameters.
 
-ghost use Rattle.std.specs.Prelude.{◌≡◌, ℕ, ◌<◌, List, get_or, Result, Ok, Err, IfOk, IfErr, OnErr};
+ghost use Rattle.std.specs.Prelude.{◌≡◌, ℕ, ◌<◌, List, [], get_or, Result, Ok, Err, IfOk, IfErr, OnErr};
 ghost use Rattle.det_cbor.specs.HeadReading.{map_ok};
 ghost use Rattle.det_cbor.specs.Position.{Position};
 ghost use Rattle.suit_params.specs.declared.param.Param.{Param};
@@ -92,6 +92,17 @@ fn read_param(alloc: Global, map: &mut Cursor<'_>, count: u32) -> Result<Param, 
     read_value(alloc, map, key, count)
 }
 
+// How many keys there are, so that a map without one twice has at most so many pairs.
+const KEYS: u64 = 12;
+
+// An empty list with room for so many pairs.
+fn list_for(alloc: Global, pairs: u64) -> Result<ParamList, AllocError>
+    ensures { IfOk result (λ list. list ≡ []) }
+{
+    let room = Vec::with_capacity(alloc, pairs.min(KEYS) as usize)?;
+    Ok(ParamList::from_vec(room))
+}
+
 // So many pairs of a map.
 fn read_pairs(
     alloc: Global,
@@ -101,7 +112,7 @@ fn read_pairs(
 ) -> Result<ParamList, Fault>
     ensures { Gives (λ list. list) result (params_from count pairs map.entry) }
 {
-    let mut list = ParamList::new(alloc);
+    let mut list = list_for(alloc, pairs)?;
     for _ in 0..pairs {
         let param = read_param(alloc, &mut map, count)?;
         list.push(param)?;
