@@ -63,7 +63,7 @@ Adds-branch body s inside d n n1 r st0 st f f' a next soft hard = record {
 
 -- ---- try each
 
-softly-at : (s : State) (st : List Stopped) → AllAt s (softly s st)
+pub softly-at : (s : State) (st : List Stopped) → AllAt s (softly s st)
 softly-at s st k i = let y = softly-from s st k i in sym (ap (λ (x : Kept). x.state) y.3)
 
 -- the invariant of the loop over the branches: those that are tried now are all, where what follows them is kept

@@ -1,10 +1,8 @@
 -- Parts of a procedure, one after another, where the states after the last one are not kept.
-use Rattle.std.proofs.Common.{◌≡◌, ℕ, ◌+◌, ◌<◌, List, [], ◌∷◌, ◌++◌, length, get_or, drop, Option, refl, sym, ap, ◌∙◌, subst, append_assoc, arith, inl, inr}
+use Rattle.std.proofs.Common.{◌≡◌, ℕ, ◌+◌, ◌<◌, List, [], ◌∷◌, ◌++◌, length, get_or, drop, refl, sym, ap, ◌∙◌, subst, append_assoc, inl, inr}
 use Rattle.std.proofs.lemmas.List.{append-nil}
-use Rattle.std.specs.Borrow.{Bor}
 use Rattle.suit_commands.specs.declared.command.Step.{Step}
-use Rattle.suit_commands.specs.Tree.{SequenceTree, NoSteps, StepThen, PlanTree}
-use Rattle.suit_commands.specs.Plans.{lent_tree}
+use Rattle.suit_commands.specs.Tree.{SequenceTree, PlanTree}
 use Rattle.suit_commands.specs.View.{sequence_tree, command_tree}
 use Rattle.path_model.specs.declared.event.Event.{Event}
 use Rattle.path_model.specs.declared.identity.Identity.{Identity}
@@ -14,14 +12,14 @@ use Rattle.path_model.specs.Path.{RunsPlan}
 use Rattle.path_model.proofs.Covering.{CoveredFrom-append}
 use Rattle.path_checker.specs.declared.judge_plan.facts.Knowledge.{Knowledge}
 use Rattle.path_checker.specs.declared.judge_plan.halt.Halt.{Halt}
-use Rattle.path_checker.specs.Exploring.{Course, Kept, Passes, Uncovered, Uncovers}
+use Rattle.path_checker.specs.Knowing.{Allows}
+use Rattle.path_checker.specs.Exploring.{Course, Kept, Passes, Uncovered, Uncovers, kept_of}
 use Rattle.path_checker.specs.Halting.{Halts}
-use Rattle.path_checker.specs.Inner.{restarted, all_restarted}
 use Rattle.path_checker.specs.Invoking.{AreQuiet, Covers}
-use Rattle.path_checker.specs.Procedures.{FromStart, FromThird, FromSecond, ThirdInvokes, SecondInvokes, RunsParts, RunsThen}
+use Rattle.path_checker.specs.Procedures.{FromStart, FromThird, FromSecond, ThirdInvokes, SecondInvokes}
+use Rattle.path_checker.specs.Rests.{RunsRest}
 use Rattle.path_checker.proofs.Carrying.{nothing_course, Explores-nothing}
 use Rattle.path_checker.proofs.Exploring.{then_course}
-use Rattle.path_checker.proofs.InnerStates.{In-restarted, restarted-from}
 use Rattle.path_checker.proofs.Membership.{In-left, In-right, In-cases}
 use Rattle.path_checker.proofs.Quiet.{IsSilent, quiet_covered}
 use Rattle.path_checker.proofs.Starting.{Covers-then, third_silent, second_silent}
@@ -41,10 +39,10 @@ then-right a b c s es e (inl (f, r)) = inl (f, inl (f, r))
 then-right a b c s es e (inr (m, x, y, is, r, inl (f, q))) = inl (f, inr (m, x, y, is, r, q))
 then-right a b c s es e (inr (m, x, y, is, r, inr (n, v, w, is', p, q))) = inr (n, x ++ v, w, is ∙ ap (λ (z : List Event). x ++ z) is' ∙ sym (append_assoc x v w), inr (m, x, v, refl, r, p), q)
 
-Covers-left : (a b c : Course) (from : List Kept) → Covers (then_course a (then_course b c)) from → Covers (then_course (then_course a b) c) from
+pub Covers-left : (a b c : Course) (from : List Kept) → Covers (then_course a (then_course b c)) from → Covers (then_course (then_course a b) c) from
 Covers-left a b c from h k i ids al es e r = h k i ids al es e (then-left (a ids) (b ids) (c ids) k.state es e r)
 
-Uncovers-left : (a b c : Course) (from : List Kept) (facts : List Knowledge) (events : List Event) → Uncovers (then_course a (then_course b c)) from facts events → Uncovers (then_course (then_course a b) c) from facts events
+pub Uncovers-left : (a b c : Course) (from : List Kept) (facts : List Knowledge) (events : List Event) → Uncovers (then_course a (then_course b c)) from facts events → Uncovers (then_course (then_course a b) c) from facts events
 Uncovers-left a b c from facts events (k, i, u) =
     (k, i, Uncovered-lift (then_course a (then_course b c)) (then_course (then_course a b) c) k k facts events refl refl (λ ids al es place r. then-right (a ids) (b ids) (c ids) k.state es (Directive place) r) u)
 
@@ -88,6 +86,13 @@ module _ (steps : List Step) (i count : ℕ) (step : Step) (lt : i < length step
   pub GoesOn-stops : (h : Halt) → Halts does now h → Halts whole from h
   GoesOn-stops h u = Halts-lift does whole now from (λ facts events x. parted.uncovers facts events (Uncovers-left does rest after now facts events (Uncovers-first does (then_course rest after) now facts events x))) h u
 
+  -- the command, and then those behind it
+  pub GoesOn-next : GoesOn whole from (then_course does (then_course rest after)) now
+  GoesOn-next = record {
+    covers = λ h. parted.covers (Covers-left does rest after now h);
+    uncovers = λ facts events u. parted.uncovers facts events (Uncovers-left does rest after now facts events u);
+  }
+
 pub GoesOn-end : (steps : List Step) (i count : ℕ) (after whole : Course) (from now : List Kept) → drop i steps ≡ [] → GoesOn whole from (then_course (runs_course (sequence_tree (drop i steps)) count) after) now → GoesOn whole from after now
 GoesOn-end steps i count after whole from now none g =
     let at : GoesOn whole from (then_course nothing_course after) now = subst (λ (xs : List Step). GoesOn whole from (then_course (runs_course (sequence_tree xs) count) after) now) none g in
@@ -117,50 +122,31 @@ GoesOn-halted whole from now rest k g popped h u =
 pub GoesOn-covers : (whole : Course) (from now : List Kept) → GoesOn whole from whole now → now ≡ [] → Covers whole from
 GoesOn-covers whole from now g none = g.covers (subst (Covers whole) (sym none) (Covers-none whole))
 
--- ---- a part begins
+-- ---- one state becomes another
 
-module _ (parts rest : List (Option (Bor SequenceTree))) (lent : Option (Bor SequenceTree)) (count : ℕ) (from started : List Kept) (is : parts ≡ lent ∷ rest) (begun : started ≡ all_restarted from) where
-  pub Covers-part : Covers (RunsThen (lent_tree lent) rest count) started → Covers (RunsParts parts count) from
-  Covers-part h =
-      let at : Covers (RunsThen (lent_tree lent) rest count) (all_restarted from) = subst (Covers (RunsThen (lent_tree lent) rest count)) begun h in
-      subst (λ (ps : List (Option (Bor SequenceTree))). Covers (RunsParts ps count) from) (sym is) (λ k i ids al es e r. at (restarted k) (In-restarted k from i) ids al es e r)
+module _ (whole rest : Course) (k : Kept) (state : State) (ones : List Kept) (one : ones ≡ kept_of k.facts k.events state ∷ [])
+    (there : (ids : List Identity) (es : List Event) (e : Ending) → whole ids k.state es e → rest ids state es e) (back : (ids : List Identity) (es : List Event) (p : ℕ) → rest ids state es (Directive p) → whole ids k.state es (Directive p)) where
+  moved-covers : Covers rest (kept_of k.facts k.events state ∷ []) → Covers whole (k ∷ [])
+  moved-covers h to i = elim i [
+    | inr n ↦ absurd n
+    | inl is ↦ subst (λ (z : Kept). (ids : List Identity) → Allows z.facts ids → (es : List Event) (e : Ending) → whole ids z.state es e → CoveredFrom z.events es) is (λ ids al es e r. h (kept_of k.facts k.events state) (inl refl) ids al es e (there ids es e r))
+  ]
 
-  uncovers_part : (facts : List Knowledge) (events : List Event) → Uncovers (RunsThen (lent_tree lent) rest count) (all_restarted from) facts events → Uncovers (RunsParts (lent ∷ rest) count) from facts events
-  uncovers_part facts events (to, i, u) =
-      let y = restarted-from to from i in
-      let at : Uncovered (RunsThen (lent_tree lent) rest count) (restarted y.0) facts events = subst (λ (k : Kept). Uncovered (RunsThen (lent_tree lent) rest count) k facts events) (sym y.2) u in
-      (y.0, y.1, Uncovered-lift (RunsThen (lent_tree lent) rest count) (RunsParts (lent ∷ rest) count) (restarted y.0) y.0 facts events refl refl (λ ids al es place r. r) at)
+  moved-uncovers : (facts : List Knowledge) (events : List Event) → Uncovers rest (kept_of k.facts k.events state ∷ []) facts events → Uncovers whole (k ∷ []) facts events
+  moved-uncovers facts events (to, inr n, u) = absurd n
+  moved-uncovers facts events (to, inl is, u) =
+      let at : Uncovered rest (kept_of k.facts k.events state) facts events = subst (λ (z : Kept). Uncovered rest z facts events) (sym is) u in
+      (k, inl refl, Uncovered-lift rest whole (kept_of k.facts k.events state) k facts events refl refl (λ ids al es p r. back ids es p r) at)
 
-  pub Halts-part : (h : Halt) → Halts (RunsThen (lent_tree lent) rest count) started h → Halts (RunsParts parts count) from h
-  Halts-part h u =
-      subst (λ (ps : List (Option (Bor SequenceTree))). Halts (RunsParts ps count) from h) (sym is)
-      (Halts-lift (RunsThen (lent_tree lent) rest count) (RunsParts (lent ∷ rest) count) started from (λ facts events x. uncovers_part facts events (subst (λ (y : List Kept). Uncovers (RunsThen (lent_tree lent) rest count) y facts events) begun x)) h u)
+  pub GoesOn-moved : GoesOn whole (k ∷ []) rest ones
+  GoesOn-moved = record {
+    covers = λ h. moved-covers (subst (Covers rest) one h);
+    uncovers = λ facts events u. moved-uncovers facts events (subst (λ (ks : List Kept). Uncovers rest ks facts events) one u);
+  }
 
-pub no_parts : (parts : List (Option (Bor SequenceTree))) → (0 < length parts → ⊥) → parts ≡ []
-no_parts [] never = refl
-no_parts (lent ∷ parts) never = absurd (never (omega arith))
-
--- where there is no part, nothing happens
-pub Covers-no_part : (count : ℕ) (from : List Kept) → Covers (RunsParts [] count) from
-Covers-no_part count from k i ids al es e r = subst (CoveredFrom k.events) (sym r.0) tt
-
--- ---- how long they are
-
-abbrev pub tree_length : SequenceTree → ℕ
-tree_length NoSteps = 0
-tree_length (StepThen place command rest) = 1 + tree_length rest
-
-abbrev pub parts_length : List (Option (Bor SequenceTree)) → ℕ
-parts_length [] = 0
-parts_length (lent ∷ rest) = 1 + tree_length (lent_tree lent) + parts_length rest
-
-pub tree_length-is : (steps : List Step) → tree_length (sequence_tree steps) ≡ length steps
-tree_length-is [] = refl
-tree_length-is (step ∷ steps) = ap (λ (n : ℕ). 1 + n) (tree_length-is steps) ∙ omega arith
-
-pub parts_length-is : (parts rest : List (Option (Bor SequenceTree))) (lent : Option (Bor SequenceTree)) (steps : List Step) → parts ≡ lent ∷ rest → sequence_tree steps ≡ lent_tree lent → parts_length parts ≡ 1 + length steps + parts_length rest
-parts_length-is parts rest lent steps is same =
-    ap parts_length is ∙ ap (λ (n : ℕ). 1 + n + parts_length rest) (ap tree_length (sym same) ∙ tree_length-is steps)
+-- where nothing follows, nothing happens
+pub Covers-end : (count : ℕ) (from : List Kept) → Covers (RunsRest [] count) from
+Covers-end count from k i ids al es e r = subst (CoveredFrom k.events) (sym r.0) tt
 
 -- ---- the last parts left out
 

@@ -2,7 +2,7 @@
 use Rattle.std.proofs.Common.{◌≡◌, ℕ, Bool, true, false, List, [], ◌∷◌, ◌++◌, refl, sym, ap, subst, inl, inr}
 use Rattle.path_model.specs.Behaviour.{State}
 use Rattle.path_checker.specs.Exploring.{In, Kept, Stopped}
-use Rattle.path_checker.specs.Inner.{entered, all_entered, left, all_left, resumed, hardened, if_soft, if_hard, softly, hardly, restarted, all_restarted}
+use Rattle.path_checker.specs.Inner.{entered, all_entered, left, all_left, resumed, hardened, if_soft, if_hard, softly, hardly}
 use Rattle.path_checker.proofs.Membership.{In-left, In-right, In-cases}
 
 pub In-entered : (s : State) (c : ℕ) (soft : Bool) (k : Kept) (ks : List Kept) → In k ks → In (entered s c soft k) (all_entered s c soft ks)
@@ -24,16 +24,6 @@ pub left-from : (s : State) (to : Kept) (ks : List Kept) → In to (all_left s k
 left-from s to [] h = absurd h
 left-from s to (x ∷ ks) (inl e) = (x, inl refl, e)
 left-from s to (x ∷ ks) (inr h) = let y = left-from s to ks h in (y.0, inr y.1, y.2)
-
-pub In-restarted : (k : Kept) (ks : List Kept) → In k ks → In (restarted k) (all_restarted ks)
-In-restarted k [] h = absurd h
-In-restarted k (x ∷ ks) (inl e) = inl (ap restarted e)
-In-restarted k (x ∷ ks) (inr h) = inr (In-restarted k ks h)
-
-pub restarted-from : (to : Kept) (ks : List Kept) → In to (all_restarted ks) → (k : Kept) × In k ks × (restarted k ≡ to)
-restarted-from to [] h = absurd h
-restarted-from to (x ∷ ks) (inl e) = (x, inl refl, e)
-restarted-from to (x ∷ ks) (inr h) = let y = restarted-from to ks h in (y.0, inr y.1, y.2)
 
 -- ---- failures, each of which gives some
 

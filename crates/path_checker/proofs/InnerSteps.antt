@@ -3,7 +3,7 @@ use Rattle.std.proofs.Common.{◌≡◌, ℕ, Bool, true, false, List, [], ◌�
 use Rattle.std.proofs.lemmas.List.{append-nil}
 use Rattle.path_model.specs.Behaviour.{State}
 use Rattle.path_checker.specs.Exploring.{Kept, Stopped, Failures, after_stops}
-use Rattle.path_checker.specs.Inner.{entered, all_entered, left, all_left, resumed, hardened, if_soft, if_hard, softly, hardly, exhausted_at, exhausted, restarted, all_restarted}
+use Rattle.path_checker.specs.Inner.{entered, all_entered, left, all_left, resumed, hardened, if_soft, if_hard, softly, hardly, exhausted_at, exhausted}
 use Rattle.path_checker.proofs.Keeping.{after_none, after_both}
 
 added : {A : Type 0} (n0 n n' front back : List A) → n ≡ n0 ++ front → n' ≡ n ++ back → n' ≡ n0 ++ (front ++ back)
@@ -24,14 +24,6 @@ entered-push s c b (x ∷ ks) k = ap (λ (ys : List Kept). entered s c b x ∷ y
 pub entered_step : (s : State) (c : ℕ) (b : Bool) (n n' ys : List Kept) (k made : Kept) → n ≡ all_entered s c b ys → n' ≡ n ++ made ∷ [] → made ≡ entered s c b k → n' ≡ all_entered s c b (ys ++ k ∷ [])
 entered_step s c b n n' ys k made so_far pushed is =
     pushed ∙ ap (λ (x : List Kept). x ++ made ∷ []) so_far ∙ ap (λ (x : Kept). all_entered s c b ys ++ x ∷ []) is ∙ sym (entered-push s c b ys k)
-
-restarted-push : (ks : List Kept) (k : Kept) → all_restarted (ks ++ k ∷ []) ≡ all_restarted ks ++ restarted k ∷ []
-restarted-push [] k = refl
-restarted-push (x ∷ ks) k = ap (λ (ys : List Kept). restarted x ∷ ys) (restarted-push ks k)
-
-pub restarted_step : (n n' ys : List Kept) (k made : Kept) → n ≡ all_restarted ys → n' ≡ n ++ made ∷ [] → made ≡ restarted k → n' ≡ all_restarted (ys ++ k ∷ [])
-restarted_step n n' ys k made so_far pushed is =
-    pushed ∙ ap (λ (x : List Kept). x ++ made ∷ []) so_far ∙ ap (λ (x : Kept). all_restarted ys ++ x ∷ []) is ∙ sym (restarted-push ys k)
 
 exhausted-push : (s : State) (p : ℕ) (ks : List Kept) (k : Kept) → exhausted s p (ks ++ k ∷ []) ≡ exhausted s p ks ++ exhausted_at s p k ∷ []
 exhausted-push s p [] k = refl

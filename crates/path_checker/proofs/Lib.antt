@@ -21,12 +21,13 @@ pub mod Telling
 pub mod ConditionLeaves
 pub mod DirectiveLeaves
 pub mod InnerSteps
-pub mod InPlace
 pub mod KeyedLaws
 pub mod RowLaws
 pub mod Smallness
 pub mod Starting
 pub mod Going
+pub mod Besides
+pub mod Trying
 pub mod PlanSmall
 pub mod PlanJudging
 pub mod OwnTests
@@ -39,3 +40,4 @@ pub mod Passing
 pub mod OverridesEach
 pub mod Overriding
 pub mod Unconditional
+pub mod Weights

@@ -1,6 +1,8 @@
 -- A loop that takes states from the end of a list, and what one command is.
-use Rattle.std.proofs.Common.{◌≡◌, ℕ, ◌+◌, ◌<◌, add-one, List, [], ◌∷◌, ◌++◌, length, get_or, drop, refl, sym, ap, ◌∙◌, subst, append_assoc, inl, inr, arith}
+use Rattle.std.proofs.Common.{◌≡◌, ℕ, ◌+◌, ◌<◌, Bool, true, false, add-one, List, [], ◌∷◌, ◌++◌, length, get_or, drop, refl, sym, ap, ◌∙◌, subst, append_assoc, inl, inr, arith}
 use Rattle.std.proofs.Math.Seq.{drop-cons}
+use Rattle.std.proofs.lemmas.Bool.Decides.{eqb_tells}
+use Rattle.std.specs.Prelude.{◌==◌}
 use Rattle.std.proofs.lemmas.List.{append-nil}
 use Rattle.suit_commands.specs.declared.command.Command.{Command}
 use Rattle.suit_commands.specs.declared.command.Command.TheVariants as commands
@@ -82,6 +84,13 @@ Pops-end course from failed0 now next failed w none =
       failed_is = w.failed_is;
       explores = subst (λ (x : List Kept). Explores course x next w.added) (sym all) w.explores;
     }
+
+-- what is empty has none
+pub not_empty : (n : ℕ) (empty : Bool) → empty ≡ (n == 0) → empty ≡ true → 0 < n → ⊥
+not_empty n empty is there lt = elim (eqb_tells n 0) [
+  | inl h ↦ absurd (omega (arith, h.1, lt))
+  | inr h ↦ let never : true ≡ false = sym there ∙ is ∙ h.0 in absurd cc
+]
 
 pub none_left : (xs : List Kept) → (0 < length xs → ⊥) → xs ≡ []
 none_left [] h = refl

@@ -6,7 +6,7 @@ use Rattle.suit_commands.specs.View.{sequence_tree, command_tree, branches_tree}
 use Rattle.suit_commands.specs.declared.command.Step.{Step}
 use Rattle.path_checker.specs.Small.{AreSmall, IsSmallSequence, IsSmallCommand, AreSmallBranches}
 
-drop_next : {A : Type 0} (xs : List A) (i : ℕ) (d : A) → i < length xs → drop i xs ≡ get_or xs i d ∷ drop (i + 1) xs
+pub drop_next : {A : Type 0} (xs : List A) (i : ℕ) (d : A) → i < length xs → drop i xs ≡ get_or xs i d ∷ drop (i + 1) xs
 drop_next {A} xs i d lt = drop-cons xs i d lt ∙ ap (λ (m : ℕ). get_or xs i d ∷ drop m xs) (sym (add-one i))
 
 pub small_step : (count : ℕ) (ss : List Step) (i : ℕ) (d : Step) → i < length ss → IsSmallSequence count (sequence_tree (drop i ss))

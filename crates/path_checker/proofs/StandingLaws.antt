@@ -21,6 +21,7 @@ use Rattle.suit_commands.specs.Tree.{CommandTree, Test, Act, Index, Override, Tr
 use Rattle.suit_commands.specs.View.{sequence_tree}
 use Rattle.path_checker.specs.Happening.{after_end, sets_at, command_sets, sequence_sets, told_by}
 use Rattle.path_checker.specs.Selecting.{components_of}
+use Rattle.std.specs.List.{range_with_len}
 use Rattle.std.specs.Prelude.{◌↔◌, slice_get}
 use Rattle.path_checker.specs.Exploring.{In}
 use Rattle.path_checker.specs.Matches.{Match, match_of, matches_from}
@@ -150,7 +151,9 @@ told_other standing (tells.Covered c own) no_match no_write event one = by_plain
 told_other standing (tells.Swapped c s) no_match no_write event one = absurd cc
 told_other standing (tells.Several several) no_match no_write event one = λ events stand. subst (λ (es : List Event). Stands standing (events ++ es)) one (stands_sequence standing events (sequence_tree several.now.steps.now) (components_of several.now.components) stand)
 told_other standing (tells.Sets c list) no_match no_write event one = λ events stand. subst (λ (es : List Event). Stands standing (events ++ es)) one (stands_sets standing events (c ∷ []) list.now stand)
-told_other standing (tells.SetsAt sets) no_match no_write event one = λ events stand. subst (λ (es : List Event). Stands standing (events ++ es)) one (stands_sets standing events (components_of sets.now.components) sets.now.list.now stand)
+told_other standing (tells.SetsFirst n list) no_match no_write event one = λ events stand. subst (λ (es : List Event). Stands standing (events ++ es)) one (stands_sets standing events (range_with_len 0 n) list.now stand)
+told_other standing (tells.SetsBoth c d list) no_match no_write event one = λ events stand. subst (λ (es : List Event). Stands standing (events ++ es)) one (stands_sets standing events (c ∷ d ∷ []) list.now stand)
+told_other standing (tells.SetsAt sets) no_match no_write event one = λ events stand. subst (λ (es : List Event). Stands standing (events ++ es)) one (stands_sets standing events sets.now.components.now sets.now.list.now stand)
 
 -- ---- where the same matches are held
 

@@ -1,6 +1,7 @@
 -- The events that lent ones are.
 use Rattle.std.specs.Prelude.{ℕ, false, List, [], ◌∷◌, ◌++◌, take}
 use Rattle.std.specs.Option.{option_copied}
+use Rattle.std.specs.List.{range_with_len}
 use Rattle.path_model.specs.declared.event.Event.{Event}
 use Rattle.path_model.specs.declared.event.Event.TheVariants as events
 use Rattle.path_model.specs.Directives.{set_events}
@@ -48,7 +49,7 @@ sequence_sets NoSteps components = []
 sequence_sets (StepThen place command rest) components = command_sets command components ++ sequence_sets rest components
 
 abbrev pub sets_of : SetsAt → List Event
-sets_of sets = sets_at (components_of sets.components) sets.list.now
+sets_of sets = sets_at sets.components.now sets.list.now
 
 abbrev pub several_sets : Several → List Event
 several_sets several = sequence_sets (sequence_tree several.steps.now) (components_of several.components)
@@ -63,6 +64,8 @@ told_by (told.Swapped component source) = events.Wrote component ∷ events.Wrot
 told_by (told.Covered component own) = covered_event component (match_of own.now) ∷ []
 told_by (told.Invoked invoke) = invoke_event invoke.now ∷ []
 told_by (told.Sets component list) = sets_at (component ∷ []) list.now
+told_by (told.SetsFirst count list) = sets_at (range_with_len 0 count) list.now
+told_by (told.SetsBoth first second list) = sets_at (first ∷ second ∷ []) list.now
 told_by (told.SetsAt sets) = sets_of sets.now
 told_by (told.Several several) = several_sets several.now
 

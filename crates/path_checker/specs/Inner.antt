@@ -81,7 +81,3 @@ pub record RunsInside (course : Course) (component : ℕ) (soft_failure : Bool) 
 
 abbrev pub restarted : Kept → Kept
 restarted k = record { facts = k.facts; events = k.events; state = start_state k.state }
-
-abbrev pub all_restarted : List Kept → List Kept
-all_restarted [] = []
-all_restarted (k ∷ ks) = restarted k ∷ all_restarted ks

@@ -19,5 +19,8 @@ pub mod Selecting
 pub mod Steps
 pub mod Overriding
 pub mod Procedures
+pub mod Rests
+pub mod RestViews
+pub mod RestFalls
 pub mod Halting
 pub mod PlanVerdicts

@@ -1,10 +1,7 @@
 -- Walks through whole procedures.
-use Rattle.std.specs.Prelude.{◌⊎◌, ℕ, List, [], ◌∷◌, Option}
-use Rattle.std.specs.Borrow.{Bor}
-use Rattle.std.specs.List.{AllByRecursion}
-use Rattle.suit_commands.specs.Plans.{lent_tree}
+use Rattle.std.specs.Prelude.{◌⊎◌, ℕ, []}
 use Rattle.suit_commands.specs.Tree.{SequenceTree, PlanTree}
-use Rattle.path_model.specs.Behaviour.{Becomes, Then}
+use Rattle.path_model.specs.Behaviour.{Then}
 use Rattle.path_model.specs.Path.{start_state, first_state}
 use Rattle.path_model.specs.Runs.{Runs}
 use Rattle.path_checker.specs.Exploring.{Course, Kept}
@@ -47,18 +44,3 @@ SecondInvokes plan = Invokes plan.second ⊎ ThirdInvokes plan
 
 abbrev pub FirstInvokes : PlanTree → Type 0
 FirstInvokes plan = Invokes plan.first ⊎ SecondInvokes plan
-
--- ---- the parts of a procedure, one after another
-
-abbrev pub RunsParts : List (Option (Bor SequenceTree)) → ℕ → Course
-RunsParts [] count identities = λ state. Becomes state
-RunsParts (lent ∷ rest) count identities =
-    Then (FromStart (lent_tree lent) count identities) (RunsParts rest count identities)
-
--- the commands of one, and then others
-abbrev pub RunsThen : SequenceTree → List (Option (Bor SequenceTree)) → ℕ → Course
-RunsThen sequence rest count identities =
-    Then (Runs sequence identities count) (RunsParts rest count identities)
-
-abbrev pub AreSmallParts : ℕ → List (Option (Bor SequenceTree)) → Type 0
-AreSmallParts count parts = AllByRecursion (λ lent. IsSmallSequence count (lent_tree lent)) parts

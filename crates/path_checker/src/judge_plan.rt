@@ -30,6 +30,7 @@ mod outermost;
 mod overriding;
 mod past;
 mod procedure_walk;
+mod rest;
 mod reuse;
 mod same_param;
 mod selected;
@@ -39,6 +40,7 @@ mod straight;
 mod trace;
 mod unconditional;
 mod walk;
+mod wide_try;
 
 use bumpalo::Bump;
 use choice::chosen_identities;

@@ -122,7 +122,7 @@ fn invoke<'a>(
         }
         Some(digest) => {
             let own = Match::lent(memory, digest, size)?;
-            if k.history.has_matched(component, own) {
+            if k.history.has_matched(memory, component, own) {
                 happens(memory, k, Happened::Covered { component, own })?;
                 return Ok(true);
             }
@@ -185,7 +185,6 @@ fn soft_after_all(soft_failure: bool, list: &ParamList) -> bool
 /// Override parameters.
 pub(crate) fn override_in<'a>(
     memory: Memory<'a>,
-    place: u64,
     list: &'a ParamList,
     component: u32,
     k: &mut Kept<'a>,
@@ -196,7 +195,7 @@ pub(crate) fn override_in<'a>(
 {
     k.params.override_with(memory.alloc, component, list)?;
     k.history
-        .add_sets(memory, place, Components::One(component), list)?;
+        .add_sets(memory, Components::One(component), list)?;
     k.soft_failure = soft_after_all(k.soft_failure, list);
     Ok(())
 }
@@ -231,7 +230,6 @@ pub(crate) fn soft_at(soft_failure: bool, list: &ParamList, components: &[u32]) 
 /// Override parameters at each selected component.
 pub(crate) fn override_each_in<'a>(
     memory: Memory<'a>,
-    place: u64,
     list: &'a ParamList,
     k: &mut Kept<'a>,
 ) -> Result<(), AllocError>
@@ -243,8 +241,7 @@ pub(crate) fn override_each_in<'a>(
     let components = k.selection.listed(memory.alloc)?;
     override_all(memory.alloc, list, &components, &mut k.params)?;
     k.soft_failure = soft_at(k.soft_failure, list, &components);
-    k.history
-        .add_sets(memory, place, k.selection.components(), list)?;
+    k.history.add_sets(memory, k.selection.components(), list)?;
     Ok(())
 }
 

@@ -45,7 +45,7 @@ impl<'a> Model for History<'a> {
 
 // The matches that stand after one more event.
 fn stand_after<'a>(
-    alloc: Global,
+    memory: Memory<'a>,
     standing: &mut StandingMatches<'a>,
     told: &Told<'a>,
 ) -> Result<(), AllocError>
@@ -53,7 +53,7 @@ fn stand_after<'a>(
         → StandsAfter standing.old event standing.new) }
 {
     match told {
-        Told::Matched { component, own } => standing.gain(alloc, *component, *own),
+        Told::Matched { component, own } => standing.gain(memory, *component, *own),
         Told::Wrote { component } => {
             standing.lose(*component);
             Ok(())
@@ -109,7 +109,7 @@ impl<'a> History<'a> {
     {
         let told = Told::of(memory, event)?;
         self.past.add(memory, told)?;
-        match stand_after(memory.alloc, &mut self.standing, &told) {
+        match stand_after(memory, &mut self.standing, &told) {
             Ok(()) => Ok(()),
             Err(error) => {
                 self.past = Past::new();
@@ -119,18 +119,17 @@ impl<'a> History<'a> {
         }
     }
 
-    /// The events of an override at a place more, at some components. They end no match.
+    /// The events of an override at some components more. They end no match.
     pub(crate) fn add_sets(
         &mut self,
         memory: Memory<'a>,
-        place: u64,
         components: Components<'a>,
         list: &'a ParamList,
     ) -> Result<(), AllocError>
         ensures { OnOk result
             (self.new ≡ self.old ++ sets_at (components_of components.entry) list.now) }
     {
-        let told = Told::sets(memory, place, components, list)?;
+        let told = Told::sets(memory, components, list)?;
         self.past.add(memory, told)?;
         Ok(())
     }
@@ -208,11 +207,11 @@ impl<'a> History<'a> {
     }
 
     /// Whether a component stands as matched so.
-    pub(crate) fn has_matched(&self, component: u32, own: &Match<'_>) -> bool
+    pub(crate) fn has_matched(&self, memory: Memory<'_>, component: u32, own: &Match<'_>) -> bool
         ensures { IsTrue result
             ↔ HasMatched self.now component own.now.digest.now own.now.size }
     {
-        self.standing.has(component, own)
+        self.standing.has(memory, component, own)
     }
 
     /// Whether the same matches stand.

@@ -112,7 +112,7 @@ fn each_in<'a>(
         return one_in(memory, count, step, component, k);
     }
     if let Command::Override(list) = &step.command {
-        override_each_in(memory, step.place, list, k)?;
+        override_each_in(memory, list, k)?;
         return Ok(true);
     }
     let selection = k.selection.copy();
@@ -149,7 +149,7 @@ fn one_in<'a>(
         Command::Test { kind, .. } => Ok(pass_test(memory, step.place, *kind, component, k)?),
         Command::Act { kind, .. } => act_in(memory, step.place, *kind, component, k),
         Command::Override(list) => {
-            override_in(memory, step.place, list, component, k)?;
+            override_in(memory, list, component, k)?;
             Ok(true)
         }
         Command::TryEach(branches) => try_in(memory, count, branches, step.place, component, k),

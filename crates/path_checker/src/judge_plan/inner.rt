@@ -1,8 +1,8 @@
 //! Entering and leaving inner sequences.
 
 ghost use Rattle.std.specs.Prelude.{◌≡◌, ◌<◌, true, [], ◌∷◌, ◌++◌, OnOk, IfOk};
-ghost use Rattle.path_checker.specs.Inner.{entered, all_entered, all_left, resumed, if_soft, if_hard, softly, hardly, exhausted_at, exhausted, restarted, all_restarted, none_inside};
-ghost use Rattle.path_checker.specs.Exploring.{after_stops};
+ghost use Rattle.path_checker.specs.Inner.{entered, all_entered, all_left, resumed, if_soft, if_hard, softly, hardly, exhausted_at, exhausted, restarted, none_inside};
+ghost use Rattle.path_checker.specs.Exploring.{after_stops, kept_of, state_of};
 
 use crate::judge_plan::failures::Failures;
 use crate::judge_plan::happened::Ended;
@@ -17,8 +17,8 @@ use std::marker::Model;
 #[derive(Drop)]
 pub(crate) struct Outer<'a> {
     params: InForce<'a>,
-    selection: Selected<'a>,
-    soft_failure: bool,
+    pub selection: Selected<'a>,
+    pub soft_failure: bool,
 }
 
 impl<'a> Model for Outer<'a> {
@@ -121,6 +121,22 @@ fn leave_all<'a>(
         next.push(k)?;
     }
     Ok(())
+}
+
+/// Leaves a branch that completed, in one state: the selection and the soft failure go back.
+pub(crate) fn leave_one<'a>(
+    selection: &Selected<'a>,
+    soft_failure: bool,
+    from: Kept<'a>,
+) -> Kept<'a>
+    ensures { result
+        ≡ kept_of from.entry.facts from.entry.events
+        (state_of from.entry.state.parameters selection.now soft_failure) }
+{
+    let mut done = from;
+    done.selection = selection.copy();
+    done.soft_failure = soft_failure;
+    done
 }
 
 // Leaves one that failed softly: everything is as it was.
@@ -262,17 +278,5 @@ pub(crate) fn restart<'a>(from: Kept<'a>) -> Kept<'a>
     let mut started = from;
     started.selection = Selected::one(0);
     started.soft_failure = false;
-    started
-}
-
-/// The states in which a member or the shared sequence begins.
-pub(crate) fn restart_all<'a>(from: Vec<Kept<'a>>) -> Vec<Kept<'a>>
-    ensures { result.items ≡ all_restarted from.entry.items }
-{
-    let mut started = from;
-    for k in started.iter_mut() {
-        k.selection = Selected::one(0);
-        k.soft_failure = false;
-    }
     started
 }

@@ -104,15 +104,15 @@ pub(crate) fn is_at(all: &[&Match<'_>], at: usize, wanted: &Match<'_>) -> bool
     if at >= all.len() {
         return false;
     }
-    all[at].is(wanted)
+    all[at].is_alike(wanted)
 }
 
-// First links to no match: more than a quarter of a count.
+// First links to no match: more than a count.
 fn first_links(alloc: Global, count: usize) -> Result<Vec<Link>, AllocError> {
     let mut first = Vec::new(alloc);
     first.push(Link::none())?;
     for _ in 0..24_u32 {
-        if first.len() > count / CROWD {
+        if first.len() > count {
             break;
         }
         let mut more = Vec::from_slice(alloc, &first)?;

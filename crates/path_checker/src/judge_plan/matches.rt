@@ -10,7 +10,6 @@ use crate::judge_plan::memory::Memory;
 use crate::judge_plan::same_param::same_digest;
 use path_model::Event;
 use std::alloc::{AllocError, Global};
-use std::cell::Cell;
 use std::hash::{DefaultHasher, Hasher};
 use std::marker::Model;
 use std::rc::Rc;
@@ -38,6 +37,9 @@ fn print_of(digest: &Digest, size: Option<u64>) -> u64 {
 fn number_of(digest: &Digest, size: Option<u64>) -> u64 {
     mixed(of_bytes(digest.bytes()), size.unwrap_or(0))
 }
+
+// Stands for no component: all matches of a judgement.
+const ALL: usize = 8;
 
 // As many matches as are searched among all at most. Then they are forgotten, and equal ones may be made anew.
 const MANY: usize = 65_536;
@@ -71,8 +73,13 @@ impl<'a> Match<'a> {
         ensures { IfOk result (λ own. match_of own.now ≡ (digest.now, size)) }
     {
         let own = Match::new(digest, size);
+        if memory.skips_search() {
+            let lent = memory.events.try_alloc(own)?;
+            return Ok(lent);
+        }
         let mut all = memory.last.matches.replace(Held::none());
         if all.len() >= MANY {
+            memory.pause_searches(all.len());
             all = Held::none();
         }
         let lent = all.lent(memory, own)?;
@@ -138,6 +145,13 @@ impl<'a> Match<'a> {
         self.is_of(other.digest, other.size)
     }
 
+    /// Whether it is the other. Nearly all others are told by their fingerprint alone.
+    pub(crate) fn is_alike(&self, other: &Match<'_>) -> bool
+        ensures { IsTrue result → match_of self.now ≡ match_of other.now }
+    {
+        self.print == other.print && self.is(other)
+    }
+
     /// Some bits of the fingerprint.
     pub(crate) fn middle(&self) -> usize {
         ((self.print >> 32) & 0x00ff_ffff) as usize
@@ -164,9 +178,6 @@ struct Matches<'a> {
     links: Links,
     // The fingerprints of all matches, added up.
     sum: u64,
-    // Where the last two stand that were found by a search.
-    last: Cell<usize>,
-    before: Cell<usize>,
 }
 
 impl<'a> Model for Matches<'a> {
@@ -190,8 +201,6 @@ impl<'a> Matches<'a> {
             all,
             links,
             sum: own.print,
-            last: Cell::new(0),
-            before: Cell::new(0),
         })
     }
 
@@ -206,8 +215,6 @@ impl<'a> Matches<'a> {
             all,
             links,
             sum: self.sum,
-            last: Cell::new(self.last.get()),
-            before: Cell::new(self.before.get()),
         })
     }
 
@@ -218,31 +225,38 @@ impl<'a> Matches<'a> {
         self.links.search(self.all.as_slice(), wanted)
     }
 
-    // Whether a match is one of the two that were found last.
-    fn is_recent(&self, wanted: &Match<'_>) -> bool
-        ensures { IsTrue result → In (match_of wanted.now) self.now }
-    {
-        let all = self.all.as_slice();
-        is_at(all, self.last.get(), wanted) || is_at(all, self.before.get(), wanted)
-    }
-
-    // Searches a match, and keeps where it is found.
-    fn search_kept(&self, wanted: &Match<'_>) -> Ended
-        ensures { IsTrue result.found → In (match_of wanted.now) self.now }
-    {
-        let ended = self.search(wanted);
-        if let Some(at) = self.links.found_at(ended, wanted) {
-            self.before.set(self.last.get());
-            self.last.set(at);
-        }
-        ended
-    }
-
     // Whether a match is found.
     fn finds(&self, wanted: &Match<'_>) -> bool
         ensures { IsTrue result → In (match_of wanted.now) self.now }
     {
-        self.is_recent(wanted) || self.search_kept(wanted).found
+        self.search(wanted).found
+    }
+
+    // Whether a match stands where it was found last among those of a component, in any state.
+    fn is_there(&self, memory: Memory<'_>, component: usize, wanted: &Match<'_>) -> bool
+        ensures { IsTrue result → In (match_of wanted.now) self.now }
+    {
+        let at = memory.place(wanted.print, component);
+        is_at(self.all.as_slice(), at, wanted)
+    }
+
+    // Searches a match among those of a component, and keeps where it is found.
+    fn search_kept(&self, memory: Memory<'_>, component: usize, wanted: &Match<'_>) -> Ended
+        ensures { IsTrue result.found → In (match_of wanted.now) self.now }
+    {
+        let ended = self.search(wanted);
+        if let Some(at) = self.links.found_at(ended, wanted) {
+            memory.keep_place(wanted.print, component, at);
+        }
+        ended
+    }
+
+    // Whether a match is found among those of a component: where it was found last, or by a search.
+    fn finds_of(&self, memory: Memory<'_>, component: usize, wanted: &Match<'_>) -> bool
+        ensures { IsTrue result → In (match_of wanted.now) self.now }
+    {
+        self.is_there(memory, component, wanted)
+            || self.search_kept(memory, component, wanted).found
     }
 
     // One match more, where a search for it ended.
@@ -266,7 +280,7 @@ impl<'a> Matches<'a> {
             return None;
         }
         let made = all[at];
-        if made.is(wanted) {
+        if made.is_alike(wanted) {
             return Some(made);
         }
         None
@@ -282,25 +296,16 @@ impl<'a> Matches<'a> {
         }
     }
 
-    // One of the two that were found last, if it is the wanted one.
-    fn recent(&self, wanted: &Match<'_>) -> Option<&'a Match<'a>>
-        ensures { IfSome result (λ made. match_of made.now ≡ match_of wanted.now) }
-    {
-        match self.at(self.last.get(), wanted) {
-            Some(made) => Some(made),
-            None => self.at(self.before.get(), wanted),
-        }
-    }
-
     // A match in memory that all states share: one of these, or one more.
     fn lent(&mut self, memory: Memory<'a>, own: Match<'a>) -> Result<&'a Match<'a>, AllocError>
         ensures { IfOk result (λ lent. match_of lent.now ≡ match_of own.entry) }
     {
-        if let Some(made) = self.recent(&own) {
+        if let Some(made) = self.at(memory.place(own.print, ALL), &own) {
             return Ok(made);
         }
-        let ended = self.search_kept(&own);
+        let ended = self.search_kept(memory, ALL, &own);
         if let Some(made) = self.found(ended, &own) {
+            memory.count_found();
             return Ok(made);
         }
         let lent = memory.events.try_alloc(own)?;
@@ -358,21 +363,23 @@ impl<'a> Model for Held<'a> {
     ghost view = { λ a. held_matches a.held };
 }
 
-// One match more, in place or in a copy where they are shared. Where it is found, nothing is copied.
+// One match of a component more, in place or in a copy where they are shared. Where it is found, nothing is copied.
 fn add_shared<'a>(
     held: &mut Rc<Matches<'a>>,
-    alloc: Global,
+    memory: Memory<'a>,
+    component: usize,
     own: &'a Match<'a>,
 ) -> Result<(), AllocError>
     ensures { OnOk result (SameMembers held.new.value (match_of own.now ∷ held.old.value)) }
 {
-    if held.is_recent(own) {
+    if held.is_there(memory, component, own) {
         return Ok(());
     }
-    let ended = held.search_kept(own);
+    let ended = held.search_kept(memory, component, own);
     if ended.found {
         return Ok(());
     }
+    let alloc = memory.alloc;
     match Rc::get_mut(held) {
         Some(all) => all.put(alloc, own, ended),
         None => {
@@ -473,14 +480,16 @@ impl<'a> Held<'a> {
         }
     }
 
-    /// Whether a match is among them. All are looked at only where it is not found.
-    pub(crate) fn has(&self, wanted: &Match<'_>) -> bool
+    /// Whether a match is among them, which are of a component. All are looked at only where it is not found.
+    pub(crate) fn has(&self, memory: Memory<'_>, component: usize, wanted: &Match<'_>) -> bool
         ensures { IsTrue result ↔ In (match_of wanted.now) self.now }
     {
         match &self.held {
             Holding::Nothing => false,
             Holding::One(own) => own.is(wanted),
-            Holding::Several(all) => all.finds(wanted) || all.is_among(wanted),
+            Holding::Several(all) => {
+                all.finds_of(memory, component, wanted) || all.is_among(wanted)
+            }
         }
     }
 
@@ -517,12 +526,17 @@ impl<'a> Held<'a> {
             Holding::Nothing => {}
         }
         let lent = memory.events.try_alloc(own)?;
-        self.add(memory.alloc, lent)?;
+        self.add(memory, ALL, lent)?;
         Ok(lent)
     }
 
-    /// One match more.
-    pub(crate) fn add(&mut self, alloc: Global, own: &'a Match<'a>) -> Result<(), AllocError>
+    /// One match more, where they are of a component.
+    pub(crate) fn add(
+        &mut self,
+        memory: Memory<'a>,
+        component: usize,
+        own: &'a Match<'a>,
+    ) -> Result<(), AllocError>
         ensures { OnOk result (SameMembers self.new (match_of own.now ∷ self.old)) }
     {
         match &mut self.held {
@@ -533,11 +547,11 @@ impl<'a> Held<'a> {
             Holding::One(one) => {
                 let one = *one;
                 if !one.is(own) {
-                    self.held = Holding::Several(both(alloc, one, own)?);
+                    self.held = Holding::Several(both(memory.alloc, one, own)?);
                 }
                 Ok(())
             }
-            Holding::Several(all) => add_shared(all, alloc, own),
+            Holding::Several(all) => add_shared(all, memory, component, own),
         }
     }
 }

@@ -5,7 +5,6 @@ use crate::judge_plan::fingerprint::mixed;
 use crate::judge_plan::in_force::{InForce, Row};
 use crate::judge_plan::made::Made;
 use crate::judge_plan::matches::{Held, Match};
-use crate::judge_plan::trace::Told;
 use bumpalo::Bump;
 use std::alloc::{AllocError, Global};
 use std::cell::Cell;
@@ -23,12 +22,11 @@ const CROWD: usize = 4_096;
 // How many bytes of parameters are compared in all so that states share them.
 const READ: u64 = 4_294_967_296;
 
-// How many overrides are kept at most: a power of two, far above the number of overrides of a manifest of 16,384 bytes, each at
-// eight components.
-const KEPT: usize = 262_144;
-
-// How many of the matches used last are kept at most: a power of two.
+// How many of the matches used last, and of where they stand, are kept at most: a power of two.
 const USED: usize = 8_192;
+
+// How many matches are made at most without a search among all, and then they are searched again.
+const UNSEARCHED: usize = 1_048_576;
 
 // How many of a kind are kept at first: a power of two.
 const FIRST: usize = 2;
@@ -52,14 +50,19 @@ pub(crate) struct Memory<'a> {
 /// The values made last, in any state.
 #[derive(Drop)]
 pub(crate) struct Last<'a> {
-    // The last overrides, by their fingerprints, and how many were made.
-    told: Cell<&'a [Cell<Option<Told<'a>>>]>,
-    made: Cell<usize>,
     /// All matches.
     pub matches: Cell<Held<'a>>,
+    // How many were found among them since they were forgotten.
+    found: Cell<usize>,
+    // How many are still made without a search among them, and how many were to be at first.
+    unsearched: Cell<usize>,
+    pause: Cell<usize>,
     // The matches used last, and how many were searched among all.
     used: Cell<&'a [Cell<Option<&'a Match<'a>>>]>,
     searched: Cell<usize>,
+    // Where matches were found last in a list, and how many were searched there.
+    places: Cell<&'a [Cell<usize>]>,
+    sought: Cell<usize>,
     // How many states are kept at once.
     states: Cell<usize>,
     // How many bytes of parameters may still be compared so that states share them.
@@ -116,11 +119,14 @@ impl<'a> Last<'a> {
     // Nothing.
     fn new() -> Last<'a> {
         Last {
-            told: Cell::new(&[]),
-            made: Cell::new(0),
             matches: Cell::new(Held::none()),
+            found: Cell::new(0),
+            unsearched: Cell::new(0),
+            pause: Cell::new(0),
             used: Cell::new(&[]),
             searched: Cell::new(0),
+            places: Cell::new(&[]),
+            sought: Cell::new(0),
             states: Cell::new(0),
             left: Cell::new(READ),
             params: Cell::new(None),
@@ -133,6 +139,11 @@ impl<'a> Last<'a> {
 /// One of the places, of so many, where one with a fingerprint is kept. Two fingerprints have the same places only by chance.
 pub(crate) fn place_by(print: u64, way: u32, count: usize) -> usize {
     mixed(print, u64::from(way)) as usize & count.wrapping_sub(1)
+}
+
+// Which of so many places tells where a match of a component stands.
+fn spot_by(print: u64, component: usize, count: usize) -> usize {
+    mixed(print, component as u64) as usize & count.wrapping_sub(1)
 }
 
 // The first of the two places, of so many, for a number.
@@ -159,15 +170,6 @@ impl<'a> Memory<'a> {
             left,
             last,
         })
-    }
-
-    // Keeps so much of what happens from now on.
-    fn keep_lent(&self, count: usize) -> Result<(), AllocError> {
-        let told = self
-            .events
-            .try_alloc_slice_fill_clone(count, Cell::new(None))?;
-        self.last.told.set(told);
-        Ok(())
     }
 
     /// Frees what was made last.
@@ -197,6 +199,33 @@ impl<'a> Memory<'a> {
         self.last.states.get() > CROWD
     }
 
+    /// A match was found among all.
+    pub(crate) fn count_found(&self) {
+        self.last.found.set(self.last.found.get().wrapping_add(1));
+    }
+
+    /// Whether the next match is made without a search among all, and one less from now on.
+    pub(crate) fn skips_search(&self) -> bool {
+        match self.last.unsearched.get().checked_sub(1) {
+            Some(left) => {
+                self.last.unsearched.set(left);
+                true
+            }
+            None => false,
+        }
+    }
+
+    /// So many matches are forgotten. Where few of them were found, as many are made without a search from now on, and each time
+    /// twice as many.
+    pub(crate) fn pause_searches(&self, forgotten: usize) {
+        let few = self.last.found.get() < forgotten / 8;
+        let more = self.last.pause.get().saturating_mul(2).max(forgotten);
+        let pause = if few { more.min(UNSEARCHED) } else { 0 };
+        self.last.pause.set(pause);
+        self.last.unsearched.set(pause);
+        self.last.found.set(0);
+    }
+
     /// The match that was used last, or second to last, of those with such a number.
     pub(crate) fn used(&self, number: u64, second: bool) -> Option<&'a Match<'a>> {
         let used = self.last.used.get();
@@ -220,6 +249,35 @@ impl<'a> Memory<'a> {
             last.set(Some(own));
         }
         Ok(())
+    }
+
+    /// Where a match with such a fingerprint was found last among those of a component, in any state.
+    pub(crate) fn place(&self, print: u64, component: usize) -> usize {
+        let places = self.last.places.get();
+        match places.get(spot_by(print, component, places.len())) {
+            Some(at) => at.get(),
+            None => 0,
+        }
+    }
+
+    /// A match with such a fingerprint is found at an index among those of a component.
+    pub(crate) fn keep_place(&self, print: u64, component: usize, index: usize) {
+        let (sought, kept) = (self.last.sought.get(), self.last.places.get().len());
+        self.last.sought.set(sought.wrapping_add(1));
+        if sought >= kept && kept < USED {
+            self.more_spots(more_places(kept, USED));
+        }
+        let places = self.last.places.get();
+        if let Some(at) = places.get(spot_by(print, component, places.len())) {
+            at.set(index);
+        }
+    }
+
+    // Keeps where so many matches are found from now on, if there is memory for it.
+    fn more_spots(&self, count: usize) {
+        if let Ok(places) = self.events.try_alloc_slice_fill_clone(count, Cell::new(0)) {
+            self.last.places.set(places);
+        }
     }
 
     // Keeps so many matches from now on.
@@ -251,43 +309,6 @@ impl<'a> Memory<'a> {
     pub(crate) fn lacking(&self, component: usize) -> Result<&'a Cell<Option<Shared>>, AllocError> {
         let known = &self.known()?.lacking[..];
         Ok(&known[component % 8])
-    }
-
-    // One more is made. Where they have become many, more are kept from now on.
-    fn count(&self) -> Result<(), AllocError> {
-        let (made, kept) = (self.last.made.get(), self.last.told.get().len());
-        self.last.made.set(made.wrapping_add(1));
-        if made >= kept && kept < KEPT {
-            return self.keep_lent(more_places(kept, KEPT));
-        }
-        Ok(())
-    }
-
-    /// Overrides that were kept, in any state, in one of the places for a fingerprint.
-    pub(crate) fn told_at(&self, print: u64, way: u32) -> Option<Told<'a>> {
-        let told = self.last.told.get();
-        match told.get(place_by(print, way, told.len())) {
-            Some(at) => at.get(),
-            None => None,
-        }
-    }
-
-    /// Keeps overrides with a fingerprint: in the next free one of their places, or else in the first.
-    pub(crate) fn keep_told(&self, print: u64, last: Told<'a>) -> Result<(), AllocError> {
-        self.count()?;
-        let told = self.last.told.get();
-        for way in 0..WAYS {
-            if let Some(at) = told.get(place_by(print, way, told.len())) {
-                if at.get().is_none() {
-                    at.set(Some(last));
-                    return Ok(());
-                }
-            }
-        }
-        if let Some(first) = told.get(place_by(print, 0, told.len())) {
-            first.set(Some(last));
-        }
-        Ok(())
     }
 
     /// Whether two states may be compared, where what one of them holds has such a cost.

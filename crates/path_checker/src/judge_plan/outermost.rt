@@ -1,26 +1,61 @@
-//! The parts of a procedure, and their commands outside any inner sequence. A failure there ends the procedure, so none is kept.
+//! The parts of a procedure, their commands outside any inner sequence, and those of a last branch there. A failure there ends the
+//! procedure, so none is kept.
 
-ghost use Rattle.std.specs.Prelude.{◌≡◌, ◌<◌, [], ◌∷◌, length, get_or, IfSome, OnOk, IfOk, IfErr};
+ghost use Rattle.std.specs.Prelude.{◌≡◌, ◌<◌, ◌≤◌, [], ◌∷◌, length, get_or, drop, IfSome, OnOk, IfOk, IfErr};
 ghost use Rattle.suit_commands.specs.Plans.{lent_tree};
 ghost use Rattle.suit_commands.specs.View.{command_tree, sequence_tree};
 ghost use Rattle.path_model.specs.Runs.{Does};
 ghost use Rattle.path_checker.specs.Exploring.{Passes};
 ghost use Rattle.path_checker.specs.Invoking.{Covers};
-ghost use Rattle.path_checker.specs.Procedures.{RunsParts, RunsThen, AreSmallParts};
-ghost use Rattle.path_checker.specs.Small.{IsSmallSequence, IsSmallCommand, IsStraight};
+ghost use Rattle.path_checker.specs.RestViews.{tried_branches};
+ghost use Rattle.path_checker.specs.Rests.{RunsRest, RunsThen, TriesAt, TriesThen, IsSmallRest, AreFew, OfTries, of_parts};
+ghost use Rattle.path_checker.specs.Small.{AreSmallBranches, IsSmallSequence, IsSmallCommand, IsStraight};
 ghost use Rattle.path_checker.specs.Halting.{Halts};
 
 use crate::judge_plan::failures::Failures;
 use crate::judge_plan::halt::Halt;
-use crate::judge_plan::inner::{only, restart, restart_all};
+use crate::judge_plan::inner::{enter_all, leave_one, none_inside, only, outer_of, restart};
 use crate::judge_plan::kept::Kept;
 use crate::judge_plan::memory::Memory;
+use crate::judge_plan::rest::{First, Rest};
+use crate::judge_plan::selected::Selected;
 use crate::judge_plan::straight::{is_straight, straight, straight_in};
-use crate::judge_plan::walk::command;
+use crate::judge_plan::walk::{command, one_branch};
+use crate::judge_plan::wide_try::{Tried, wide_try};
+use std::alloc::AllocError;
 use suit_commands::{Sequence, Step};
 
 // More states than these go on alone, one after another. Equal ones are then looked for among those that follow one alone.
 const MANY: usize = 8;
+
+// So many commands follow one another, each of which a state does in place: several states do them one after another.
+const LONG: usize = 64;
+
+// Whether so many commands are the first.
+fn is_long(steps: &[Step]) -> bool {
+    if steps.len() < LONG {
+        return false;
+    }
+    for step in &steps[..LONG] {
+        if !is_straight(&step.command) {
+            return false;
+        }
+    }
+    true
+}
+
+// Whether so many states go on alone from an index on. Such commands are looked for where they begin.
+fn go_alone(steps: &[Step], at: usize, states: usize) -> bool
+    requires within { at ≤ length steps.now }
+{
+    if states > MANY {
+        return true;
+    }
+    if states < 2 || at > 1 && is_straight(&steps[at - 1].command) {
+        return false;
+    }
+    is_long(&steps[at..])
+}
 
 // Does a command.
 fn outermost<'a>(
@@ -56,36 +91,89 @@ fn steps_of<'a>(lent: Option<&'a Sequence>) -> &'a [Step]
     }
 }
 
+// Parts of a procedure, one after another.
+fn chain<'a>(memory: Memory<'a>, parts: &[Option<&'a Sequence>]) -> Result<&'a Rest<'a>, AllocError>
+    ensures { IfOk result (λ rest. rest.now ≡ of_parts parts.now) }
+{
+    let Some((lent, others)) = parts.split_first() else {
+        return Rest::of(memory, First::End);
+    };
+    let behind = chain(memory, others)?;
+    Rest::of(memory, First::Part(steps_of(*lent), behind))
+}
+
 /// Runs parts of a procedure from each of the states: the shared sequence and members, one after another.
-#[cycle(alone)]
 pub(crate) fn parts<'a>(
     memory: Memory<'a>,
     count: u32,
     parts: &[Option<&'a Sequence>],
     from: Vec<Kept<'a>>,
 ) -> Result<(), Halt<'a>>
-    requires small { AreSmallParts count parts.now }
-    ensures ok { OnOk result (Covers (RunsParts parts.now count) from.entry.items) }
-    ensures err { IfErr result (λ h. Halts (RunsParts parts.now count) from.entry.items h) }
+    requires small { IsSmallRest count (of_parts parts.now) }
+    ensures ok { OnOk result (Covers (RunsRest (of_parts parts.now) count) from.entry.items) }
+    ensures err { IfErr result
+        (λ h. Halts (RunsRest (of_parts parts.now) count) from.entry.items h) }
 {
-    let Some((lent, rest)) = parts.split_first() else {
-        return Ok(());
-    };
-    let started = restart_all(from);
-    commands(memory, count, steps_of(*lent), rest, started)
+    let rest = chain(memory, parts)?;
+    follow(memory, count, rest, from)
 }
 
-// Runs commands, and then parts.
+// Runs what follows from each of the states.
+#[cycle(alone)]
+fn follow<'a>(
+    memory: Memory<'a>,
+    count: u32,
+    rest: &'a Rest<'a>,
+    from: Vec<Kept<'a>>,
+) -> Result<(), Halt<'a>>
+    requires small { IsSmallRest count rest.now }
+    ensures ok { OnOk result (Covers (RunsRest rest.now count) from.entry.items) }
+    ensures err { IfErr result (λ h. Halts (RunsRest rest.now count) from.entry.items h) }
+{
+    let mut now = from;
+    while let Some(k) = now.pop() {
+        follow_alone(memory, count, rest, k)?;
+    }
+    Ok(())
+}
+
+// Runs what follows from one state, alone.
+#[cycle(alone)]
+fn follow_alone<'a>(
+    memory: Memory<'a>,
+    count: u32,
+    rest: &'a Rest<'a>,
+    from: Kept<'a>,
+) -> Result<(), Halt<'a>>
+    requires small { IsSmallRest count rest.now }
+    ensures ok { OnOk result (Covers (RunsRest rest.now count) (from.entry ∷ [])) }
+    ensures err { IfErr result (λ h. Halts (RunsRest rest.now count) (from.entry ∷ []) h) }
+{
+    match &rest.first {
+        First::End => Ok(()),
+        First::Part(steps, behind) => alone(memory, count, steps, behind, restart(from)),
+        First::Steps(steps, behind) => alone(memory, count, steps, behind, from),
+        First::Tries(tried, selection, at, behind) => {
+            tries(memory, count, *tried, selection, *at, behind, from)
+        }
+        First::Leave(selection, soft_failure, behind) => {
+            let left = leave_one(selection, *soft_failure, from);
+            follow_alone(memory, count, behind, left)
+        }
+    }
+}
+
+// Runs commands, and what follows them.
 #[cycle(alone)]
 fn commands<'a>(
     memory: Memory<'a>,
     count: u32,
     steps: &'a [Step],
-    rest: &[Option<&'a Sequence>],
+    rest: &'a Rest<'a>,
     from: Vec<Kept<'a>>,
 ) -> Result<(), Halt<'a>>
     requires small { IsSmallSequence count (sequence_tree steps.now) }
-    requires rest { AreSmallParts count rest.now }
+    requires rest { IsSmallRest count rest.now }
     ensures ok { OnOk result
         (Covers (RunsThen (sequence_tree steps.now) rest.now count) from.entry.items) }
     ensures err { IfErr result
@@ -94,13 +182,20 @@ fn commands<'a>(
     let mut now = from;
     let mut at = 0;
     while at < steps.len() {
+        if now.is_empty() {
+            return Ok(());
+        }
+        if let Some(tried) = wide_try(&steps[at], &now) {
+            let behind = Rest::of(memory, First::Steps(&steps[at + 1..], rest))?;
+            return each_tried(memory, count, tried, behind, now);
+        }
         now = outermost(memory, count, &steps[at], now)?;
         at += 1;
-        if now.len() > MANY {
+        if go_alone(steps, at, now.len()) {
             return each_alone(memory, count, &steps[at..], rest, now);
         }
     }
-    parts(memory, count, rest, now)
+    follow(memory, count, rest, now)
 }
 
 // The same from each of the states, alone.
@@ -109,11 +204,11 @@ fn each_alone<'a>(
     memory: Memory<'a>,
     count: u32,
     steps: &'a [Step],
-    rest: &[Option<&'a Sequence>],
+    rest: &'a Rest<'a>,
     from: Vec<Kept<'a>>,
 ) -> Result<(), Halt<'a>>
     requires small { IsSmallSequence count (sequence_tree steps.now) }
-    requires rest { AreSmallParts count rest.now }
+    requires rest { IsSmallRest count rest.now }
     ensures ok { OnOk result
         (Covers (RunsThen (sequence_tree steps.now) rest.now count) from.entry.items) }
     ensures err { IfErr result
@@ -132,11 +227,11 @@ fn alone<'a>(
     memory: Memory<'a>,
     count: u32,
     steps: &'a [Step],
-    rest: &[Option<&'a Sequence>],
+    rest: &'a Rest<'a>,
     from: Kept<'a>,
 ) -> Result<(), Halt<'a>>
     requires small { IsSmallSequence count (sequence_tree steps.now) }
-    requires rest { AreSmallParts count rest.now }
+    requires rest { IsSmallRest count rest.now }
     ensures ok { OnOk result
         (Covers (RunsThen (sequence_tree steps.now) rest.now count) (from.entry ∷ [])) }
     ensures err { IfErr result
@@ -153,29 +248,119 @@ fn alone<'a>(
         }
     }
     if at == steps.len() {
-        return parts_alone(memory, count, rest, k);
+        return follow_alone(memory, count, rest, k);
     }
     let one = only(memory.alloc, k.shared(memory)?)?;
     commands(memory, count, &steps[at..], rest, one)
 }
 
-// Runs parts from one state, alone.
+// Does a try each at each selected component, and runs what follows, from each of the states, alone.
 #[cycle(alone)]
-fn parts_alone<'a>(
+fn each_tried<'a>(
     memory: Memory<'a>,
     count: u32,
-    parts: &[Option<&'a Sequence>],
-    from: Kept<'a>,
+    tried: Tried<'a>,
+    behind: &'a Rest<'a>,
+    from: Vec<Kept<'a>>,
 ) -> Result<(), Halt<'a>>
-    requires small { AreSmallParts count parts.now }
-    ensures ok { OnOk result (Covers (RunsParts parts.now count) (from.entry ∷ [])) }
-    ensures err { IfErr result (λ h. Halts (RunsParts parts.now count) (from.entry ∷ []) h) }
+    requires few { AreFew from.items }
+    requires small { AreSmallBranches count (tried_branches tried) }
+    requires behind { IsSmallRest count behind.now }
+    ensures ok { OnOk result
+        (Covers (TriesThen (tried_branches tried.entry) tried.entry.place behind.now count)
+        from.entry.items) }
+    ensures err { IfErr result
+        (λ h. Halts (TriesThen (tried_branches tried.entry) tried.entry.place behind.now count)
+        from.entry.items h) }
 {
-    let Some((lent, rest)) = parts.split_first() else {
-        return Ok(());
-    };
-    let started = restart(from);
-    alone(memory, count, steps_of(*lent), rest, started)
+    let mut now = from;
+    while let Some(k) = now.pop() {
+        let selection = k.selection.copy();
+        tries(memory, count, tried, &selection, 0, behind, k)?;
+    }
+    Ok(())
+}
+
+// Does a try each at these components from an index on, and runs what follows, from one state, alone.
+#[cycle(alone)]
+fn tries<'a>(
+    memory: Memory<'a>,
+    count: u32,
+    tried: Tried<'a>,
+    selection: &Selected<'a>,
+    at: usize,
+    behind: &'a Rest<'a>,
+    k: Kept<'a>,
+) -> Result<(), Halt<'a>>
+    requires small { AreSmallBranches count (tried_branches tried) }
+    requires behind { IsSmallRest count behind.now }
+    ensures ok { OnOk result
+        (Covers
+        (RunsRest
+        (OfTries (tried_branches tried.entry) tried.entry.place (drop at selection.now)
+        ∷ behind.now)
+        count)
+        (k.entry ∷ [])) }
+    ensures err { IfErr result
+        (λ h. Halts
+        (RunsRest
+        (OfTries (tried_branches tried.entry) tried.entry.place (drop at selection.now)
+        ∷ behind.now)
+        count)
+        (k.entry ∷ []) h) }
+{
+    if at >= selection.len() {
+        return follow_alone(memory, count, behind, k);
+    }
+    let later = Rest::of(
+        memory,
+        First::Tries(tried, selection.copy(), at + 1, behind),
+    )?;
+    tries_at(memory, count, tried, selection.at(at), later, k)
+}
+
+// Does a try each at one component, and runs what follows, from one state, alone. The states in the last branch go on through
+// the rest of the procedure.
+#[cycle(alone)]
+fn tries_at<'a>(
+    memory: Memory<'a>,
+    count: u32,
+    tried: Tried<'a>,
+    component: u32,
+    behind: &'a Rest<'a>,
+    k: Kept<'a>,
+) -> Result<(), Halt<'a>>
+    requires room { component < 8 }
+    requires small { AreSmallBranches count (tried_branches tried) }
+    requires behind { IsSmallRest count behind.now }
+    ensures ok { OnOk result
+        (Covers (TriesAt (tried_branches tried.entry) tried.entry.place component behind.now count)
+        (k.entry ∷ [])) }
+    ensures err { IfErr result
+        (λ h. Halts
+        (TriesAt (tried_branches tried.entry) tried.entry.place component behind.now count)
+        (k.entry ∷ []) h) }
+{
+    let outer = outer_of(&k)?;
+    let outer = &outer;
+    let mut ended = Failures::none(memory.alloc, false, false);
+    let mut done = Vec::new(memory.alloc);
+    let mut now = only(memory.alloc, k.shared(memory)?)?;
+    for branch in tried.before {
+        let Some(inner) = branch else {
+            done.append(&mut now)?;
+            return follow(memory, count, behind, done);
+        };
+        let inside = enter_all(memory.alloc, component, outer, now)?;
+        let stops = none_inside(memory.alloc, true, &ended, outer);
+        now = one_branch(
+            memory, count, inner, outer, inside, stops, &mut done, &mut ended,
+        )?;
+    }
+    let inside = enter_all(memory.alloc, component, outer, now)?;
+    let leave = Rest::leave(memory, outer, behind)?;
+    commands(memory, count, tried.last.as_slice(), leave, inside)?;
+    follow(memory, count, behind, done)
 }
 
 // The command at an index, if it is a condition, or holds none that is met.

@@ -4,7 +4,7 @@ ghost use Rattle.std.specs.Prelude.{◌≡◌, ◌↔◌, IsTrue};
 ghost use Rattle.std.specs.Option.{option_copied};
 
 use lane_bytes::same as same_bytes;
-use suit_params::{Digest, Param, ParamList};
+use suit_params::{Digest, Param};
 
 /// Whether two digests are equal.
 pub(crate) fn same_digest(one: &Digest, other: &Digest) -> bool
@@ -46,40 +46,6 @@ fn same(one: &Param, other: &Param) -> bool
         (Param::Args(bytes), Param::Args(other)) => same_bytes(bytes.as_slice(), other.as_slice()),
         _ => false,
     }
-}
-
-// Longer values are not compared.
-const SHORT: usize = 4096;
-
-// Whether they are equal, and short.
-fn is_short(one: &Param, other: &Param) -> bool
-    ensures { IsTrue result → one.now ≡ other.now }
-{
-    let short = match one {
-        Param::Content(bytes) => bytes.len() <= SHORT,
-        Param::Uri(text) => text.len() <= SHORT,
-        Param::Args(bytes) => bytes.len() <= SHORT,
-        _ => true,
-    };
-    short && same(one, other)
-}
-
-/// Whether both lists hold the same parameters. May be false of equal ones that are long.
-pub(crate) fn same_short(ones: &ParamList, others: &ParamList) -> bool
-    ensures { IsTrue result → ones.now ≡ others.now }
-{
-    let (mine, theirs) = (ones.as_slice(), others.as_slice());
-    if mine.len() != theirs.len() {
-        return false;
-    }
-    let mut index = 0;
-    while index < mine.len() {
-        if !is_short(&mine[index], &theirs[index]) {
-            return false;
-        }
-        index += 1;
-    }
-    true
 }
 
 /// Whether both are absent, or both are there and equal.

@@ -60,8 +60,8 @@ pub(crate) fn listed(alloc: Global, held: Components<'_>) -> Result<Vec<u32>, Al
     }
 }
 
-/// Whether they are the same, in the same order. May be false of those that are told in two ways.
-pub(crate) fn same_components(some: &Components<'_>, others: &Components<'_>) -> bool
+// Whether they are the same, in the same order. May be false of those that are told in two ways.
+fn same_components(some: &Components<'_>, others: &Components<'_>) -> bool
     ensures { IsTrue result → components_of some.now ≡ components_of others.now }
 {
     match (some, others) {
@@ -69,15 +69,6 @@ pub(crate) fn same_components(some: &Components<'_>, others: &Components<'_>) ->
         (Components::First(count), Components::First(other)) => *count == *other,
         (Components::Listed(components), Components::Listed(other)) => *components == *other,
         _ => false,
-    }
-}
-
-/// A number that tells one component from another.
-pub(crate) fn number_of(held: &Components<'_>) -> u64 {
-    match held {
-        Components::One(component) => u64::from(*component),
-        Components::First(count) => 8 + u64::from(*count),
-        Components::Listed(components) => 32 + components.len() as u64,
     }
 }
 

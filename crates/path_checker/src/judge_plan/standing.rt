@@ -7,6 +7,7 @@ ghost use Rattle.path_checker.specs.Standing.{held_of, Gains, Loses, SameHeld};
 
 use crate::judge_plan::fingerprint::mixed;
 use crate::judge_plan::matches::{Held, Match};
+use crate::judge_plan::memory::Memory;
 use std::alloc::{AllocError, Global};
 
 // How many components there is room for.
@@ -46,11 +47,11 @@ impl<'a> StandingMatches<'a> {
     }
 
     /// Whether a match stands.
-    pub(crate) fn has(&self, component: u32, wanted: &Match<'_>) -> bool
+    pub(crate) fn has(&self, memory: Memory<'_>, component: u32, wanted: &Match<'_>) -> bool
         ensures { IsTrue result ↔ In (match_of wanted.now) (held_of self.now component) }
     {
         match self.of.get(component as usize) {
-            Some(held) => held.has(wanted),
+            Some(held) => held.has(memory, component as usize, wanted),
             None => false,
         }
     }
@@ -96,7 +97,7 @@ impl<'a> StandingMatches<'a> {
     /// One match more.
     pub(crate) fn gain(
         &mut self,
-        alloc: Global,
+        memory: Memory<'a>,
         component: u32,
         own: &'a Match<'a>,
     ) -> Result<(), AllocError>
@@ -104,7 +105,7 @@ impl<'a> StandingMatches<'a> {
     {
         let index = component as usize;
         self.widen(index)?;
-        self.of[index].add(alloc, own)?;
+        self.of[index].add(memory, index, own)?;
         self.added = self.added.saturating_add(1);
         Ok(())
     }

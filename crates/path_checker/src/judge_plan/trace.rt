@@ -11,7 +11,7 @@ use crate::judge_plan::happened::{Happened, copied};
 use crate::judge_plan::matches::Match;
 use crate::judge_plan::memory::Memory;
 use crate::judge_plan::selected::Components;
-use crate::judge_plan::sets::{SetsAt, Several, tell_all_sets};
+use crate::judge_plan::sets::{SetsAt, Several, tell_all_sets, tell_both_sets};
 use bumpalo::Bump;
 use path_model::{Event, Events};
 use std::alloc::{AllocError, Global};
@@ -61,6 +61,17 @@ pub(crate) enum Told<'a> {
     // Those of an override at a component.
     Sets {
         component: u32,
+        list: &'a ParamList,
+    },
+    // At the first so many.
+    SetsFirst {
+        count: u32,
+        list: &'a ParamList,
+    },
+    // At two of them.
+    SetsBoth {
+        first: u8,
+        second: u8,
         list: &'a ParamList,
     },
     SetsAt(&'a SetsAt<'a>),
@@ -149,20 +160,40 @@ impl<'a> Invoke<'a> {
 }
 
 impl<'a> Told<'a> {
-    /// Those of an override at a place, at some components.
+    /// Those of an override at some components.
     pub(crate) fn sets(
         memory: Memory<'a>,
-        place: u64,
         components: Components<'a>,
         list: &'a ParamList,
     ) -> Result<Told<'a>, AllocError>
         ensures { IfOk result
             (λ told. told_by told ≡ sets_at (components_of components.entry) list.now) }
     {
-        if let Components::One(component) = components {
-            return Ok(Told::Sets { component, list });
+        match components {
+            Components::One(component) => Ok(Told::Sets { component, list }),
+            Components::First(count) => Ok(Told::SetsFirst { count, list }),
+            Components::Listed(components) => Told::listed_sets(memory, components, list),
         }
-        let lent = SetsAt::lent(memory, place, components, list)?;
+    }
+
+    // Those of an override at the components of a list. Where it lists two, they take no memory.
+    fn listed_sets(
+        memory: Memory<'a>,
+        components: &'a [u32],
+        list: &'a ParamList,
+    ) -> Result<Told<'a>, AllocError>
+        ensures { IfOk result (λ told. told_by told ≡ sets_at components.now list.now) }
+    {
+        if let [first, second] = components {
+            if *first < 256 && *second < 256 {
+                return Ok(Told::SetsBoth {
+                    first: *first as u8,
+                    second: *second as u8,
+                    list,
+                });
+            }
+        }
+        let lent = SetsAt::lent(memory, components, list)?;
         Ok(Told::SetsAt(lent))
     }
 
@@ -179,14 +210,10 @@ impl<'a> Told<'a> {
     {
         if let [step] = steps {
             if let Command::Override(list) = &step.command {
-                return Told::sets(memory, step.place, components, list);
+                return Told::sets(memory, components, list);
             }
         }
-        let place = match steps.first() {
-            Some(step) => step.place,
-            None => 0,
-        };
-        let lent = Several::lent(memory, place, components, steps)?;
+        let lent = Several::lent(memory, components, steps)?;
         Ok(Told::Several(lent))
     }
 
@@ -258,6 +285,14 @@ impl<'a> Told<'a> {
             Told::Sets { component, list } => {
                 return tell_all_sets(alloc, Components::One(component), list, events);
             }
+            Told::SetsFirst { count, list } => {
+                return tell_all_sets(alloc, Components::First(count), list, events);
+            }
+            Told::SetsBoth {
+                first,
+                second,
+                list,
+            } => return tell_both_sets(alloc, first, second, list, events),
             Told::SetsAt(sets) => return sets.tell(alloc, events),
             Told::Several(several) => return several.tell(alloc, events),
         };

@@ -263,9 +263,9 @@ fn try_each<'a>(
     Ok(exhaust(place, outer, now, failed)?)
 }
 
-// Runs a branch from each of the states, which are those in which it begins.
+/// Runs a branch from each of the states, which are those in which it begins.
 #[cycle(walk)]
-fn one_branch<'a>(
+pub(crate) fn one_branch<'a>(
     memory: Memory<'a>,
     count: u32,
     inner: &'a Sequence,

@@ -6,4 +6,4 @@ use Rattle.path_checker.proofs.judge_plan.links.is_at.Goals as goal
 
 pub returns : goal.returns
 returns c t =
-    subst (λ (m : Match). In m (all_lent c.args.all.now)) (c.is.ensures.0 t) (lent_at c.args.all.now c.args.at _ (omega (arith, c.if-at-all.false)))
+    subst (λ (m : Match). In m (all_lent c.args.all.now)) (c.is_alike.ensures t) (lent_at c.args.all.now c.args.at _ (omega (arith, c.if-at-all.false)))

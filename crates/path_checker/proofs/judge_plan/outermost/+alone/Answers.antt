@@ -1,23 +1,27 @@
-use Rattle.std.proofs.Common.{rules, ◌≡◌, ℕ, ◌<◌, ◌+◌, ◌-◌, [], ◌∷◌, ◌++◌, List, length, take, drop, sym, ap, ◌∙◌, subst, arith, length-drop, take_all}
+use Rattle.std.proofs.Common.{rules, ◌≡◌, ℕ, ◌<◌, ◌≤◌, ◌+◌, ◌*◌, ◌-◌, [], ◌∷◌, ◌++◌, List, Option, Some, None, length, get_or, take, drop, refl, sym, ap, ◌∙◌, subst, arith, length-drop, take_all}
 use Rattle.std.proofs.lemmas.List.{drop_all}
 use Rattle.std.proofs.lemmas.Result.{err_from_is_err_and, on_ok_weaker, IfErr-weaker}
-use Rattle.std.specs.Prelude.{Option, OnOk, IfErr}
-use Rattle.std.specs.Borrow.{Bor}
+use Rattle.std.specs.Prelude.{OnOk, IfErr}
 use Rattle.std.specs.Vec.{vec_len}
 use Rattle.suit_commands.specs.declared.command.Step.{Step}
-use Rattle.suit_commands.specs.Tree.{SequenceTree}
-use Rattle.suit_commands.specs.Plans.{lent_tree}
-use Rattle.suit_commands.specs.View.{sequence_tree, command_tree}
-use Rattle.path_checker.specs.Exploring.{Kept, Passes, kept_if}
+use Rattle.suit_commands.specs.Tree.{SequenceTree, TryEach}
+use Rattle.suit_commands.specs.View.{sequence_tree, branches_tree, command_tree}
+use Rattle.path_checker.specs.Exploring.{Course, Kept, Passes, kept_if}
 use Rattle.path_checker.specs.Halting.{Halts}
+use Rattle.path_checker.specs.Inner.{AllAt}
 use Rattle.path_checker.specs.Invoking.{Covers}
-use Rattle.path_checker.specs.Procedures.{RunsParts, RunsThen, AreSmallParts}
-use Rattle.path_checker.specs.Small.{IsSmallSequence, IsSmallCommand}
+use Rattle.path_checker.specs.RestViews.{tried_branches, all_of}
+use Rattle.path_checker.specs.Rests.{Later, OfPart, OfSteps, OfTries, OfLeave, RunsRest, RunsThen, TriesAt, TriesThen, IsSmallRest, AreFew}
+use Rattle.path_checker.specs.Small.{IsSmallSequence, IsSmallCommand, AreSmallBranches}
+use Rattle.path_checker.proofs.Besides.{GoesBoth, GoesBoth-start, GoesBoth-branch, GoesBoth-halts, GoesBoth-null, GoesBoth-last, GoesBoth-stops, before_some, before_none, small_before}
+use Rattle.path_checker.proofs.Branching.{rest_course, at-one}
 use Rattle.path_checker.proofs.DirectiveLeaves.{never_true}
-use Rattle.path_checker.proofs.Going.{GoesOn, GoesOn-start, GoesOn-halts, GoesOn-step, GoesOn-stops, GoesOn-end, GoesOn-popped, GoesOn-halted, GoesOn-covers, Covers-none, Covers-part, Halts-part, Covers-no_part, no_parts, parts_length-is}
-use Rattle.path_checker.proofs.Popping.{none_left}
-use Rattle.path_checker.proofs.Smallness.{small_step}
-use Rattle.path_checker.proofs.Walking.{does_course}
+use Rattle.path_checker.proofs.Going.{GoesOn, GoesOn-start, GoesOn-halts, GoesOn-step, GoesOn-stops, GoesOn-end, GoesOn-popped, GoesOn-halted, GoesOn-covers, Covers-none, Covers-end}
+use Rattle.path_checker.proofs.Popping.{none_left, not_empty}
+use Rattle.path_checker.proofs.Smallness.{small_step, drop_next}
+use Rattle.path_checker.proofs.Trying.{GoesOn-part, GoesOn-steps, GoesOn-leave, GoesOn-tries, GoesOn-each, GoesOn-first, GoesOn-at_none, few_popped}
+use Rattle.path_checker.proofs.Walking.{does_course, runs_course}
+use Rattle.path_checker.proofs.Weights.{weight, once_weight, rest_weight, branches_weight, step_weight, weight_after, last_weight, few_components, tries_weight}
 use Rattle.path_checker.proofs.judge_plan.outermost.+alone.Goals as goal
 
 -- what is left of a list from an index on
@@ -31,35 +35,39 @@ commands-loop-at-init t c = record {
 }
 
 pub commands-outermost-requires : goal.commands-outermost-requires
-commands-outermost-requires t c = record { small = subst (λ (s : Step). IsSmallCommand c.args.count (command_tree s.command)) (sym c.index-steps-at.is) (small_step c.args.count c.args.steps.now c.loop-at.at c.index-steps-at.result c.loop-at-test.true c.loop-at.invariant.small).0 }
+commands-outermost-requires t c = record { small = subst (λ (s : Step). IsSmallCommand c.args.count (command_tree s.command)) (sym c.index-steps-at-in-loop-at.is) (small_step c.args.count c.args.steps.now c.loop-at.at c.index-steps-at-in-loop-at.result c.loop-at-test.true c.loop-at.invariant.small).0 }
 
 pub commands-returns-in_err-now-clause-err : goal.commands-returns-in_err-now-clause-err
 commands-returns-in_err-now-clause-err t c =
-    let p = err_from_is_err_and c.from_residual.result c.from_residual.ensures.1 in
-    rw (p.1, p.2) (GoesOn-stops c.args.steps.now c.loop-at.at c.args.count c.index-steps-at.result c.loop-at-test.true c.index-steps-at.is (RunsParts c.args.rest.now c.args.count) (RunsThen (sequence_tree c.args.steps.now) c.args.rest.now c.args.count) c.args.from.items c.loop-at.now.items c.loop-at.invariant.goes c.in_err-now.field-0.0 c.in_err-now.ensures.err)
+    let p = err_from_is_err_and c.from_residual-in_err-now.result c.from_residual-in_err-now.ensures.1 in
+    rw (p.1, p.2) (GoesOn-stops c.args.steps.now c.loop-at.at c.args.count c.index-steps-at-in-loop-at.result c.loop-at-test.true c.index-steps-at-in-loop-at.is (RunsRest c.args.rest.now c.args.count) (RunsThen (sequence_tree c.args.steps.now) c.args.rest.now c.args.count) c.args.from.items c.loop-at.now.items c.loop-at.invariant.goes c.in_err-now.field-0.0 c.in_err-now.ensures.err)
 
 pub commands-loop-at-preserved : goal.commands-loop-at-preserved
 commands-loop-at-preserved t c = record {
-  small = (small_step c.args.count c.args.steps.now c.loop-at.at c.index-steps-at.result c.loop-at-test.true c.loop-at.invariant.small).1;
-  goes = GoesOn-step c.args.steps.now c.loop-at.at c.args.count c.index-steps-at.result c.loop-at-test.true c.index-steps-at.is (RunsParts c.args.rest.now c.args.count) (RunsThen (sequence_tree c.args.steps.now) c.args.rest.now c.args.count) c.args.from.items c.loop-at.now.items c.loop-at.invariant.goes c.in_ok-now.now.items c.in_ok-now.ensures.ok;
+  small = (small_step c.args.count c.args.steps.now c.loop-at.at c.index-steps-at-in-loop-at.result c.loop-at-test.true c.loop-at.invariant.small).1;
+  goes = GoesOn-step c.args.steps.now c.loop-at.at c.args.count c.index-steps-at-in-loop-at.result c.loop-at-test.true c.index-steps-at-in-loop-at.is (RunsRest c.args.rest.now c.args.count) (RunsThen (sequence_tree c.args.steps.now) c.args.rest.now c.args.count) c.args.from.items c.loop-at.now.items c.loop-at.invariant.goes c.in_ok-now.now.items c.in_ok-now.ensures.ok;
 }
+
+-- a command, and those behind it, weigh no more than all
+next_weight : (steps : List Step) (i : ℕ) (d : Step) → i < length steps → weight (sequence_tree (drop (i + 1) steps)) + 4 + 22 * once_weight (command_tree (get_or steps i d).command) ≤ weight (sequence_tree steps)
+next_weight steps i d lt = omega (arith, step_weight steps i d lt, weight_after steps i)
 
 pub commands-each_alone-requires : goal.commands-each_alone-requires
 commands-each_alone-requires t c =
     let same = same_rest c.args.steps.now (c.loop-at.at + 1) in (
-      omega (arith, c.decreases, length-drop (c.loop-at.at + 1) c.args.steps.now, ap (λ (s : List Step). length s) same, c.loop-at-test.true),
-      (subst (λ (s : List Step). IsSmallSequence c.args.count (sequence_tree s)) (sym same) (small_step c.args.count c.args.steps.now c.loop-at.at c.index-steps-at.result c.loop-at-test.true c.loop-at.invariant.small).1, c.requires.rest),
+      omega (arith, c.decreases, next_weight c.args.steps.now c.loop-at.at c.index-steps-at-in-loop-at.result c.loop-at-test.true, ap (λ (s : List Step). weight (sequence_tree s)) same),
+      (subst (λ (s : List Step). IsSmallSequence c.args.count (sequence_tree s)) (sym same) (small_step c.args.count c.args.steps.now c.loop-at.at c.index-steps-at-in-loop-at.result c.loop-at-test.true c.loop-at.invariant.small).1, c.requires.rest),
     )
 
-pub commands-returns-then-len-gt-MANY-clause-ok : goal.commands-returns-then-len-gt-MANY-clause-ok
-commands-returns-then-len-gt-MANY-clause-ok t c =
-    let goes = GoesOn-step c.args.steps.now c.loop-at.at c.args.count c.index-steps-at.result c.loop-at-test.true c.index-steps-at.is (RunsParts c.args.rest.now c.args.count) (RunsThen (sequence_tree c.args.steps.now) c.args.rest.now c.args.count) c.args.from.items c.loop-at.now.items c.loop-at.invariant.goes c.in_ok-now.now.items c.in_ok-now.ensures.ok in
+pub commands-returns-then-go_alone-clause-ok : goal.commands-returns-then-go_alone-clause-ok
+commands-returns-then-go_alone-clause-ok t c =
+    let goes = GoesOn-step c.args.steps.now c.loop-at.at c.args.count c.index-steps-at-in-loop-at.result c.loop-at-test.true c.index-steps-at-in-loop-at.is (RunsRest c.args.rest.now c.args.count) (RunsThen (sequence_tree c.args.steps.now) c.args.rest.now c.args.count) c.args.from.items c.loop-at.now.items c.loop-at.invariant.goes c.in_ok-now.now.items c.in_ok-now.ensures.ok in
     on_ok_weaker c.each_alone.result goes.covers
     (subst (λ (s : List Step). OnOk c.each_alone.result (Covers (RunsThen (sequence_tree s) c.args.rest.now c.args.count) c.in_ok-now.now.items)) (same_rest c.args.steps.now (c.loop-at.at + 1)) c.each_alone.ensures.ok)
 
-pub commands-returns-then-len-gt-MANY-clause-err : goal.commands-returns-then-len-gt-MANY-clause-err
-commands-returns-then-len-gt-MANY-clause-err t c =
-    let goes = GoesOn-step c.args.steps.now c.loop-at.at c.args.count c.index-steps-at.result c.loop-at-test.true c.index-steps-at.is (RunsParts c.args.rest.now c.args.count) (RunsThen (sequence_tree c.args.steps.now) c.args.rest.now c.args.count) c.args.from.items c.loop-at.now.items c.loop-at.invariant.goes c.in_ok-now.now.items c.in_ok-now.ensures.ok in
+pub commands-returns-then-go_alone-clause-err : goal.commands-returns-then-go_alone-clause-err
+commands-returns-then-go_alone-clause-err t c =
+    let goes = GoesOn-step c.args.steps.now c.loop-at.at c.args.count c.index-steps-at-in-loop-at.result c.loop-at-test.true c.index-steps-at-in-loop-at.is (RunsRest c.args.rest.now c.args.count) (RunsThen (sequence_tree c.args.steps.now) c.args.rest.now c.args.count) c.args.from.items c.loop-at.now.items c.loop-at.invariant.goes c.in_ok-now.now.items c.in_ok-now.ensures.ok in
     let rest = RunsThen (sequence_tree (drop (c.loop-at.at + 1) c.args.steps.now)) c.args.rest.now c.args.count in
     IfErr-weaker c.each_alone.result (λ h. Halts rest c.in_ok-now.now.items h) (λ h. Halts (RunsThen (sequence_tree c.args.steps.now) c.args.rest.now c.args.count) c.args.from.items h)
     (λ h u. GoesOn-halts (RunsThen (sequence_tree c.args.steps.now) c.args.rest.now c.args.count) rest c.args.from.items c.in_ok-now.now.items goes h u)
@@ -67,14 +75,48 @@ commands-returns-then-len-gt-MANY-clause-err t c =
 
 pub commands-returns-clause-ok : goal.commands-returns-clause-ok
 commands-returns-clause-ok t c =
-    let goes = GoesOn-end c.args.steps.now c.loop-at.at c.args.count (RunsParts c.args.rest.now c.args.count) (RunsThen (sequence_tree c.args.steps.now) c.args.rest.now c.args.count) c.args.from.items c.loop-at.now.items (drop_all c.loop-at.at c.args.steps.now c.loop-at-test.false) c.loop-at.invariant.goes in
-    on_ok_weaker c.parts.result goes.covers c.parts.ensures.ok
+    let goes = GoesOn-end c.args.steps.now c.loop-at.at c.args.count (RunsRest c.args.rest.now c.args.count) (RunsThen (sequence_tree c.args.steps.now) c.args.rest.now c.args.count) c.args.from.items c.loop-at.now.items (drop_all c.loop-at.at c.args.steps.now c.loop-at-test.false) c.loop-at.invariant.goes in
+    on_ok_weaker c.follow.result goes.covers c.follow.ensures.ok
 
 pub commands-returns-clause-err : goal.commands-returns-clause-err
 commands-returns-clause-err t c =
-    let goes = GoesOn-end c.args.steps.now c.loop-at.at c.args.count (RunsParts c.args.rest.now c.args.count) (RunsThen (sequence_tree c.args.steps.now) c.args.rest.now c.args.count) c.args.from.items c.loop-at.now.items (drop_all c.loop-at.at c.args.steps.now c.loop-at-test.false) c.loop-at.invariant.goes in
-    IfErr-weaker c.parts.result (λ h. Halts (RunsParts c.args.rest.now c.args.count) c.loop-at.now.items h) (λ h. Halts (RunsThen (sequence_tree c.args.steps.now) c.args.rest.now c.args.count) c.args.from.items h)
-    (λ h u. GoesOn-halts (RunsThen (sequence_tree c.args.steps.now) c.args.rest.now c.args.count) (RunsParts c.args.rest.now c.args.count) c.args.from.items c.loop-at.now.items goes h u) c.parts.ensures.err
+    let goes = GoesOn-end c.args.steps.now c.loop-at.at c.args.count (RunsRest c.args.rest.now c.args.count) (RunsThen (sequence_tree c.args.steps.now) c.args.rest.now c.args.count) c.args.from.items c.loop-at.now.items (drop_all c.loop-at.at c.args.steps.now c.loop-at-test.false) c.loop-at.invariant.goes in
+    IfErr-weaker c.follow.result (λ h. Halts (RunsRest c.args.rest.now c.args.count) c.loop-at.now.items h) (λ h. Halts (RunsThen (sequence_tree c.args.steps.now) c.args.rest.now c.args.count) c.args.from.items h)
+    (λ h u. GoesOn-halts (RunsThen (sequence_tree c.args.steps.now) c.args.rest.now c.args.count) (RunsRest c.args.rest.now c.args.count) c.args.from.items c.loop-at.now.items goes h u) c.follow.ensures.err
+
+pub commands-returns-then-is_empty-clause-ok : goal.commands-returns-then-is_empty-clause-ok
+commands-returns-then-is_empty-clause-ok t c =
+    let none : c.loop-at.now.items ≡ [] = none_left c.loop-at.now.items (λ lt. let l : 0 < vec_len c.loop-at.now = search rules in not_empty (vec_len c.loop-at.now) c.is_empty.result c.is_empty.ensures c.if-is_empty.true l) in
+    c.loop-at.invariant.goes.covers (subst (Covers (RunsThen (sequence_tree (drop c.loop-at.at c.args.steps.now)) c.args.rest.now c.args.count)) (sym none) (Covers-none _))
+
+pub commands-each_tried-requires : goal.commands-each_tried-requires
+commands-each_tried-requires t c =
+    let same = same_rest c.args.steps.now (c.loop-at.at + 1) in
+    let steps = small_step c.args.count c.args.steps.now c.loop-at.at c.index-steps-at.result c.loop-at-test.true c.loop-at.invariant.small in
+    let behind : c.in_ok-behind.behind.now ≡ OfSteps (sequence_tree (drop (c.loop-at.at + 1) c.args.steps.now)) ∷ c.args.rest.now = c.in_ok-behind.ensures ∙ ap (λ (ss : List Step). OfSteps (sequence_tree ss) ∷ c.args.rest.now) same in
+    let is : command_tree (get_or c.args.steps.now c.loop-at.at c.index-steps-at.result).command ≡ TryEach (tried_branches c.in-Some.tried) = ap (λ (s : Step). command_tree s.command) (sym c.index-steps-at.is) ∙ c.in-Some.ensures.is in
+    let once : once_weight (command_tree (get_or c.args.steps.now c.loop-at.at c.index-steps-at.result).command) ≡ 4 + branches_weight (tried_branches c.in-Some.tried) = ap once_weight is in (
+      omega (arith, c.decreases, next_weight c.args.steps.now c.loop-at.at c.index-steps-at.result c.loop-at-test.true, ap rest_weight behind, once),
+      (subst AreFew c.deref.ensures.value c.in-Some.ensures.few, (subst (IsSmallCommand c.args.count) is steps.0, subst (IsSmallRest c.args.count) (sym behind) (steps.1, c.requires.rest))),
+    )
+
+pub commands-returns-in-Some-clause-ok : goal.commands-returns-in-Some-clause-ok
+commands-returns-in-Some-clause-ok t c =
+    let same = same_rest c.args.steps.now (c.loop-at.at + 1) in
+    let behind : c.in_ok-behind.behind.now ≡ OfSteps (sequence_tree (drop (c.loop-at.at + 1) c.args.steps.now)) ∷ c.args.rest.now = c.in_ok-behind.ensures ∙ ap (λ (ss : List Step). OfSteps (sequence_tree ss) ∷ c.args.rest.now) same in
+    let goes = GoesOn-tries c.args.steps.now c.loop-at.at c.args.count c.index-steps-at.result c.loop-at-test.true c.index-steps-at.is c.args.rest.now (RunsThen (sequence_tree c.args.steps.now) c.args.rest.now c.args.count) c.args.from.items c.loop-at.now.items c.loop-at.invariant.goes (tried_branches c.in-Some.tried) c.in-Some.tried.place c.in-Some.ensures.is c.in-Some.ensures.place in
+    on_ok_weaker c.each_tried.result goes.covers
+    (subst (λ (r : List Later). OnOk c.each_tried.result (Covers (TriesThen (tried_branches c.in-Some.tried) c.in-Some.tried.place r c.args.count) c.loop-at.now.items)) behind c.each_tried.ensures.ok)
+
+pub commands-returns-in-Some-clause-err : goal.commands-returns-in-Some-clause-err
+commands-returns-in-Some-clause-err t c =
+    let same = same_rest c.args.steps.now (c.loop-at.at + 1) in
+    let behind : c.in_ok-behind.behind.now ≡ OfSteps (sequence_tree (drop (c.loop-at.at + 1) c.args.steps.now)) ∷ c.args.rest.now = c.in_ok-behind.ensures ∙ ap (λ (ss : List Step). OfSteps (sequence_tree ss) ∷ c.args.rest.now) same in
+    let goes = GoesOn-tries c.args.steps.now c.loop-at.at c.args.count c.index-steps-at.result c.loop-at-test.true c.index-steps-at.is c.args.rest.now (RunsThen (sequence_tree c.args.steps.now) c.args.rest.now c.args.count) c.args.from.items c.loop-at.now.items c.loop-at.invariant.goes (tried_branches c.in-Some.tried) c.in-Some.tried.place c.in-Some.ensures.is c.in-Some.ensures.place in
+    let tries = TriesThen (tried_branches c.in-Some.tried) c.in-Some.tried.place (OfSteps (sequence_tree (drop (c.loop-at.at + 1) c.args.steps.now)) ∷ c.args.rest.now) c.args.count in
+    IfErr-weaker c.each_tried.result (λ h. Halts tries c.loop-at.now.items h) (λ h. Halts (RunsThen (sequence_tree c.args.steps.now) c.args.rest.now c.args.count) c.args.from.items h)
+    (λ h u. GoesOn-halts (RunsThen (sequence_tree c.args.steps.now) c.args.rest.now c.args.count) tries c.args.from.items c.loop-at.now.items goes h u)
+    (subst (λ (r : List Later). IfErr c.each_tried.result (λ h. Halts (TriesThen (tried_branches c.in-Some.tried) c.in-Some.tried.place r c.args.count) c.loop-at.now.items h)) behind c.each_tried.ensures.err)
 
 pub each_alone-loop-k-init : goal.each_alone-loop-k-init
 each_alone-loop-k-init t c = GoesOn-start (RunsThen (sequence_tree c.args.steps.now) c.args.rest.now c.args.count) c.args.from.items
@@ -116,38 +158,38 @@ alone-loop-step-preserved t c =
     record {
       within = omega (arith, c.in-Some.ensures.within);
       small = (small_step c.args.count c.args.steps.now c.loop-step.at c.in-Some.step.now c.in-Some.ensures.within c.loop-step.invariant.small).1;
-      goes = GoesOn-step c.args.steps.now c.loop-step.at c.args.count c.in-Some.step.now c.in-Some.ensures.within c.in-Some.ensures.is (RunsParts c.args.rest.now c.args.count) (RunsThen (sequence_tree c.args.steps.now) c.args.rest.now c.args.count) (c.args.from ∷ []) (c.loop-step.k ∷ []) c.loop-step.invariant.goes (c.straight_in.new.k ∷ []) passes;
+      goes = GoesOn-step c.args.steps.now c.loop-step.at c.args.count c.in-Some.step.now c.in-Some.ensures.within c.in-Some.ensures.is (RunsRest c.args.rest.now c.args.count) (RunsThen (sequence_tree c.args.steps.now) c.args.rest.now c.args.count) (c.args.from ∷ []) (c.loop-step.k ∷ []) c.loop-step.invariant.goes (c.straight_in.new.k ∷ []) passes;
     }
 
 pub alone-returns-in_err-goes_on-clause-err : goal.alone-returns-in_err-goes_on-clause-err
 alone-returns-in_err-goes_on-clause-err t c =
     let p = err_from_is_err_and c.from_residual.result c.from_residual.ensures.1 in
-    rw (p.1, p.2) (GoesOn-stops c.args.steps.now c.loop-step.at c.args.count c.in-Some.step.now c.in-Some.ensures.within c.in-Some.ensures.is (RunsParts c.args.rest.now c.args.count) (RunsThen (sequence_tree c.args.steps.now) c.args.rest.now c.args.count) (c.args.from ∷ []) (c.loop-step.k ∷ []) c.loop-step.invariant.goes c.in_err-goes_on.field-0.0 c.in_err-goes_on.ensures.err)
+    rw (p.1, p.2) (GoesOn-stops c.args.steps.now c.loop-step.at c.args.count c.in-Some.step.now c.in-Some.ensures.within c.in-Some.ensures.is (RunsRest c.args.rest.now c.args.count) (RunsThen (sequence_tree c.args.steps.now) c.args.rest.now c.args.count) (c.args.from ∷ []) (c.loop-step.k ∷ []) c.loop-step.invariant.goes c.in_err-goes_on.field-0.0 c.in_err-goes_on.ensures.err)
 
 pub alone-returns-else-goes_on-clause-ok : goal.alone-returns-else-goes_on-clause-ok
 alone-returns-else-goes_on-clause-ok t c =
     let passes = subst (λ b. Passes (does_course (command_tree c.in-Some.step.now.command) c.args.count c.in-Some.step.now.place) (c.loop-step.k ∷ []) (kept_if b c.straight_in.new.k)) c.if-goes_on.false c.in_ok-goes_on.ensures.ok in
-    let goes = GoesOn-step c.args.steps.now c.loop-step.at c.args.count c.in-Some.step.now c.in-Some.ensures.within c.in-Some.ensures.is (RunsParts c.args.rest.now c.args.count) (RunsThen (sequence_tree c.args.steps.now) c.args.rest.now c.args.count) (c.args.from ∷ []) (c.loop-step.k ∷ []) c.loop-step.invariant.goes [] passes in
+    let goes = GoesOn-step c.args.steps.now c.loop-step.at c.args.count c.in-Some.step.now c.in-Some.ensures.within c.in-Some.ensures.is (RunsRest c.args.rest.now c.args.count) (RunsThen (sequence_tree c.args.steps.now) c.args.rest.now c.args.count) (c.args.from ∷ []) (c.loop-step.k ∷ []) c.loop-step.invariant.goes [] passes in
     goes.covers (Covers-none _)
 
-pub alone-parts_alone-requires : goal.alone-parts_alone-requires
-alone-parts_alone-requires t c = (omega (arith, c.decreases), c.requires.rest)
+pub alone-follow_alone-requires : goal.alone-follow_alone-requires
+alone-follow_alone-requires t c = (omega (arith, c.decreases), c.requires.rest)
 
 pub alone-returns-then-at-steps-clause-ok : goal.alone-returns-then-at-steps-clause-ok
 alone-returns-then-at-steps-clause-ok t c =
-    let goes = GoesOn-end c.args.steps.now c.loop-step.at c.args.count (RunsParts c.args.rest.now c.args.count) (RunsThen (sequence_tree c.args.steps.now) c.args.rest.now c.args.count) (c.args.from ∷ []) (c.loop-step.k ∷ []) (drop_all c.loop-step.at c.args.steps.now (omega (arith, c.if-at-steps.true))) c.loop-step.invariant.goes in
-    on_ok_weaker c.parts_alone.result goes.covers c.parts_alone.ensures.ok
+    let goes = GoesOn-end c.args.steps.now c.loop-step.at c.args.count (RunsRest c.args.rest.now c.args.count) (RunsThen (sequence_tree c.args.steps.now) c.args.rest.now c.args.count) (c.args.from ∷ []) (c.loop-step.k ∷ []) (drop_all c.loop-step.at c.args.steps.now (omega (arith, c.if-at-steps.true))) c.loop-step.invariant.goes in
+    on_ok_weaker c.follow_alone.result goes.covers c.follow_alone.ensures.ok
 
 pub alone-returns-then-at-steps-clause-err : goal.alone-returns-then-at-steps-clause-err
 alone-returns-then-at-steps-clause-err t c =
-    let goes = GoesOn-end c.args.steps.now c.loop-step.at c.args.count (RunsParts c.args.rest.now c.args.count) (RunsThen (sequence_tree c.args.steps.now) c.args.rest.now c.args.count) (c.args.from ∷ []) (c.loop-step.k ∷ []) (drop_all c.loop-step.at c.args.steps.now (omega (arith, c.if-at-steps.true))) c.loop-step.invariant.goes in
-    IfErr-weaker c.parts_alone.result (λ h. Halts (RunsParts c.args.rest.now c.args.count) (c.loop-step.k ∷ []) h) (λ h. Halts (RunsThen (sequence_tree c.args.steps.now) c.args.rest.now c.args.count) (c.args.from ∷ []) h)
-    (λ h u. GoesOn-halts (RunsThen (sequence_tree c.args.steps.now) c.args.rest.now c.args.count) (RunsParts c.args.rest.now c.args.count) (c.args.from ∷ []) (c.loop-step.k ∷ []) goes h u) c.parts_alone.ensures.err
+    let goes = GoesOn-end c.args.steps.now c.loop-step.at c.args.count (RunsRest c.args.rest.now c.args.count) (RunsThen (sequence_tree c.args.steps.now) c.args.rest.now c.args.count) (c.args.from ∷ []) (c.loop-step.k ∷ []) (drop_all c.loop-step.at c.args.steps.now (omega (arith, c.if-at-steps.true))) c.loop-step.invariant.goes in
+    IfErr-weaker c.follow_alone.result (λ h. Halts (RunsRest c.args.rest.now c.args.count) (c.loop-step.k ∷ []) h) (λ h. Halts (RunsThen (sequence_tree c.args.steps.now) c.args.rest.now c.args.count) (c.args.from ∷ []) h)
+    (λ h u. GoesOn-halts (RunsThen (sequence_tree c.args.steps.now) c.args.rest.now c.args.count) (RunsRest c.args.rest.now c.args.count) (c.args.from ∷ []) (c.loop-step.k ∷ []) goes h u) c.follow_alone.ensures.err
 
 pub alone-commands-requires : goal.alone-commands-requires
 alone-commands-requires t c =
     let same = same_rest c.args.steps.now c.loop-step.at in (
-      omega (arith, c.decreases, length-drop c.loop-step.at c.args.steps.now, ap (λ (s : List Step). length s) same),
+      omega (arith, c.decreases, weight_after c.args.steps.now c.loop-step.at, ap (λ (s : List Step). weight (sequence_tree s)) same),
       (subst (λ (s : List Step). IsSmallSequence c.args.count (sequence_tree s)) (sym same) c.loop-step.invariant.small, c.requires.rest),
     )
 
@@ -165,48 +207,302 @@ alone-returns-clause-err t c =
     (λ h u. GoesOn-halts (RunsThen (sequence_tree c.args.steps.now) c.args.rest.now c.args.count) rest (c.args.from ∷ []) (c.loop-step.k ∷ []) c.loop-step.invariant.goes h u)
     (subst (λ (ks : List Kept). IfErr c.commands.result (λ h. Halts rest ks h)) one (subst (λ (s : List Step). IfErr c.commands.result (λ h. Halts (RunsThen (sequence_tree s) c.args.rest.now c.args.count) c.in_ok-one.one.items h)) (same_rest c.args.steps.now c.loop-step.at) c.commands.ensures.err))
 
-pub parts-returns-in_default-clause-ok : goal.parts-returns-in_default-clause-ok
-parts-returns-in_default-clause-ok t c =
-    let none = no_parts c.args.parts.now (λ lt. never_true (c.in_default.ensures.variant.1 lt)) in
-    subst (λ (ps : List (Option (Bor SequenceTree))). Covers (RunsParts ps c.args.count) c.args.from.items) (sym none) (Covers-no_part c.args.count c.args.from.items)
+-- ---- what follows
 
-pub parts-commands-requires : goal.parts-commands-requires
-parts-commands-requires t c =
-    let small : AreSmallParts c.args.count (c.in-Some.lent.now ∷ c.in-Some.rest.now) = subst (AreSmallParts c.args.count) c.in-Some.ensures.cases.0 c.requires.small in (
-      omega (arith, c.decreases, parts_length-is c.args.parts.now c.in-Some.rest.now c.in-Some.lent.now c.steps_of.result.now c.in-Some.ensures.cases.0 c.steps_of.ensures),
-      (subst (IsSmallSequence c.args.count) (sym c.steps_of.ensures) small.0, small.1),
+pub follow-loop-k-init : goal.follow-loop-k-init
+follow-loop-k-init t c = GoesOn-start (RunsRest c.args.rest.now c.args.count) c.args.from.items
+
+pub follow-follow_alone-requires : goal.follow-follow_alone-requires
+follow-follow_alone-requires t c = (omega (arith, c.decreases), c.requires.small)
+
+pub follow-returns-in_err-follow_alone-clause-err : goal.follow-returns-in_err-follow_alone-clause-err
+follow-returns-in_err-follow_alone-clause-err t c =
+    let p = err_from_is_err_and c.from_residual.result c.from_residual.ensures.1 in
+    rw (p.1, p.2) (GoesOn-halted (RunsRest c.args.rest.now c.args.count) c.args.from.items c.loop-k.now.items c.pop.new.self.items c.in-Some.k c.loop-k.invariant c.in-Some.ensures.items c.in_err-follow_alone.field-0.0 c.in_err-follow_alone.ensures.err)
+
+pub follow-loop-k-preserved : goal.follow-loop-k-preserved
+follow-loop-k-preserved t c = GoesOn-popped (RunsRest c.args.rest.now c.args.count) c.args.from.items c.loop-k.now.items c.pop.new.self.items c.in-Some.k c.loop-k.invariant c.in-Some.ensures.items c.in_ok-follow_alone.ensures.ok
+
+pub follow-returns-clause-ok : goal.follow-returns-clause-ok
+follow-returns-clause-ok t c =
+    GoesOn-covers (RunsRest c.args.rest.now c.args.count) c.args.from.items c.loop-k.now.items c.loop-k.invariant
+    (none_left c.loop-k.now.items (λ lt. let l : 0 < vec_len c.loop-k.now = search rules in never_true (c.in_default.ensures.variant.1 l)))
+
+pub follow_alone-returns-in-End-clause-ok : goal.follow_alone-returns-in-End-clause-ok
+follow_alone-returns-in-End-clause-ok t c =
+    let is : c.args.rest.now ≡ [] = sym c.rest.view_is ∙ ap all_of c.in-End.is in
+    subst (λ (r : List Later). Covers (RunsRest r c.args.count) (c.args.from ∷ [])) (sym is) (Covers-end c.args.count (c.args.from ∷ []))
+
+pub follow_alone-alone-requires : goal.follow_alone-alone-requires
+follow_alone-alone-requires t c =
+    let is : c.args.rest.now ≡ OfPart (sequence_tree c.in-Part.steps.now) ∷ c.in-Part.behind.now = sym c.rest.view_is ∙ ap all_of c.in-Part.is in
+    let small = subst (IsSmallRest c.args.count) is c.requires.small in
+    (omega (arith, c.decreases, ap rest_weight is), (small.0, small.1))
+
+pub follow_alone-returns-in-Part-clause-ok : goal.follow_alone-returns-in-Part-clause-ok
+follow_alone-returns-in-Part-clause-ok t c =
+    let is : c.args.rest.now ≡ OfPart (sequence_tree c.in-Part.steps.now) ∷ c.in-Part.behind.now = sym c.rest.view_is ∙ ap all_of c.in-Part.is in
+    let goes = GoesOn-part c.args.rest.now c.in-Part.behind.now c.args.count c.args.from (sequence_tree c.in-Part.steps.now) c.restart.result is c.restart.ensures in
+    on_ok_weaker c.alone.result goes.covers c.alone.ensures.ok
+
+pub follow_alone-returns-in-Part-clause-err : goal.follow_alone-returns-in-Part-clause-err
+follow_alone-returns-in-Part-clause-err t c =
+    let is : c.args.rest.now ≡ OfPart (sequence_tree c.in-Part.steps.now) ∷ c.in-Part.behind.now = sym c.rest.view_is ∙ ap all_of c.in-Part.is in
+    let goes = GoesOn-part c.args.rest.now c.in-Part.behind.now c.args.count c.args.from (sequence_tree c.in-Part.steps.now) c.restart.result is c.restart.ensures in
+    let then = RunsThen (sequence_tree c.in-Part.steps.now) c.in-Part.behind.now c.args.count in
+    IfErr-weaker c.alone.result (λ h. Halts then (c.restart.result ∷ []) h) (λ h. Halts (RunsRest c.args.rest.now c.args.count) (c.args.from ∷ []) h) (λ h u. GoesOn-halts (RunsRest c.args.rest.now c.args.count) then (c.args.from ∷ []) (c.restart.result ∷ []) goes h u) c.alone.ensures.err
+
+pub follow_alone-alone-requires-in-Steps : goal.follow_alone-alone-requires-in-Steps
+follow_alone-alone-requires-in-Steps t c =
+    let is : c.args.rest.now ≡ OfSteps (sequence_tree c.in-Steps.steps.now) ∷ c.in-Steps.behind.now = sym c.rest.view_is ∙ ap all_of c.in-Steps.is in
+    let small = subst (IsSmallRest c.args.count) is c.requires.small in
+    (omega (arith, c.decreases, ap rest_weight is), (small.0, small.1))
+
+pub follow_alone-returns-in-Steps-clause-ok : goal.follow_alone-returns-in-Steps-clause-ok
+follow_alone-returns-in-Steps-clause-ok t c =
+    let is : c.args.rest.now ≡ OfSteps (sequence_tree c.in-Steps.steps.now) ∷ c.in-Steps.behind.now = sym c.rest.view_is ∙ ap all_of c.in-Steps.is in
+    let goes = GoesOn-steps c.args.rest.now c.in-Steps.behind.now c.args.count c.args.from (sequence_tree c.in-Steps.steps.now) is in
+    on_ok_weaker c.alone-in-Steps.result goes.covers c.alone-in-Steps.ensures.ok
+
+pub follow_alone-returns-in-Steps-clause-err : goal.follow_alone-returns-in-Steps-clause-err
+follow_alone-returns-in-Steps-clause-err t c =
+    let is : c.args.rest.now ≡ OfSteps (sequence_tree c.in-Steps.steps.now) ∷ c.in-Steps.behind.now = sym c.rest.view_is ∙ ap all_of c.in-Steps.is in
+    let goes = GoesOn-steps c.args.rest.now c.in-Steps.behind.now c.args.count c.args.from (sequence_tree c.in-Steps.steps.now) is in
+    let then = RunsThen (sequence_tree c.in-Steps.steps.now) c.in-Steps.behind.now c.args.count in
+    IfErr-weaker c.alone-in-Steps.result (λ h. Halts then (c.args.from ∷ []) h) (λ h. Halts (RunsRest c.args.rest.now c.args.count) (c.args.from ∷ []) h) (λ h u. GoesOn-halts (RunsRest c.args.rest.now c.args.count) then (c.args.from ∷ []) (c.args.from ∷ []) goes h u) c.alone-in-Steps.ensures.err
+
+pub follow_alone-tries-requires : goal.follow_alone-tries-requires
+follow_alone-tries-requires t c =
+    let is : c.args.rest.now ≡ OfTries (tried_branches c.in-Tries.tried) c.in-Tries.tried.place (drop c.in-Tries.at c.in-Tries.selection) ∷ c.in-Tries.behind.now = sym c.rest.view_is ∙ ap all_of c.in-Tries.is in
+    let small = subst (IsSmallRest c.args.count) is c.requires.small in
+    (omega (arith, c.decreases, ap rest_weight is), (small.0, small.1))
+
+pub follow_alone-returns-in-Tries-clause-ok : goal.follow_alone-returns-in-Tries-clause-ok
+follow_alone-returns-in-Tries-clause-ok t c =
+    let is : c.args.rest.now ≡ OfTries (tried_branches c.in-Tries.tried) c.in-Tries.tried.place (drop c.in-Tries.at c.in-Tries.selection) ∷ c.in-Tries.behind.now = sym c.rest.view_is ∙ ap all_of c.in-Tries.is in
+    subst (λ (r : List Later). OnOk c.tries.result (Covers (RunsRest r c.args.count) (c.args.from ∷ []))) (sym is) c.tries.ensures.ok
+
+pub follow_alone-returns-in-Tries-clause-err : goal.follow_alone-returns-in-Tries-clause-err
+follow_alone-returns-in-Tries-clause-err t c =
+    let is : c.args.rest.now ≡ OfTries (tried_branches c.in-Tries.tried) c.in-Tries.tried.place (drop c.in-Tries.at c.in-Tries.selection) ∷ c.in-Tries.behind.now = sym c.rest.view_is ∙ ap all_of c.in-Tries.is in
+    subst (λ (r : List Later). IfErr c.tries.result (λ h. Halts (RunsRest r c.args.count) (c.args.from ∷ []) h)) (sym is) c.tries.ensures.err
+
+pub follow_alone-follow_alone-requires : goal.follow_alone-follow_alone-requires
+follow_alone-follow_alone-requires t c =
+    let is : c.args.rest.now ≡ OfLeave c.in-Leave.selection c.in-Leave.soft_failure ∷ c.in-Leave.behind.now = sym c.rest.view_is ∙ ap all_of c.in-Leave.is in
+    let small = subst (IsSmallRest c.args.count) is c.requires.small in
+    (omega (arith, c.decreases, ap rest_weight is), small.1)
+
+pub follow_alone-returns-clause-ok : goal.follow_alone-returns-clause-ok
+follow_alone-returns-clause-ok t c =
+    let is : c.args.rest.now ≡ OfLeave c.in-Leave.selection c.in-Leave.soft_failure ∷ c.in-Leave.behind.now = sym c.rest.view_is ∙ ap all_of c.in-Leave.is in
+    let goes = GoesOn-leave c.args.rest.now c.in-Leave.behind.now c.args.count c.args.from c.in-Leave.selection c.in-Leave.soft_failure c.leave_one-left.result is c.leave_one-left.ensures in
+    on_ok_weaker c.follow_alone.result goes.covers c.follow_alone.ensures.ok
+
+pub follow_alone-returns-clause-err : goal.follow_alone-returns-clause-err
+follow_alone-returns-clause-err t c =
+    let is : c.args.rest.now ≡ OfLeave c.in-Leave.selection c.in-Leave.soft_failure ∷ c.in-Leave.behind.now = sym c.rest.view_is ∙ ap all_of c.in-Leave.is in
+    let goes = GoesOn-leave c.args.rest.now c.in-Leave.behind.now c.args.count c.args.from c.in-Leave.selection c.in-Leave.soft_failure c.leave_one-left.result is c.leave_one-left.ensures in
+    IfErr-weaker c.follow_alone.result (λ h. Halts (RunsRest c.in-Leave.behind.now c.args.count) (c.leave_one-left.result ∷ []) h) (λ h. Halts (RunsRest c.args.rest.now c.args.count) (c.args.from ∷ []) h) (λ h u. GoesOn-halts (RunsRest c.args.rest.now c.args.count) (RunsRest c.in-Leave.behind.now c.args.count) (c.args.from ∷ []) (c.leave_one-left.result ∷ []) goes h u) c.follow_alone.ensures.err
+
+-- ---- a try each at each selected component
+
+pub each_tried-loop-k-init : goal.each_tried-loop-k-init
+each_tried-loop-k-init t c = record { few = c.requires.few; goes = GoesOn-start (TriesThen (tried_branches c.args.tried) c.args.tried.place c.args.behind.now c.args.count) c.args.from.items }
+
+pub each_tried-tries-requires : goal.each_tried-tries-requires
+each_tried-tries-requires t c =
+    let few = (few_popped c.loop-k.now.items c.pop.new.self.items c.in-Some.k c.in-Some.ensures.items c.loop-k.invariant.few).1.0 in
+    let same_selection : c.copy-selection.result ≡ c.in-Some.k.state.selection = c.copy-selection.ensures ∙ ap (λ (k : Kept). k.state.selection) c.k.view_is in
+    let le : length c.copy-selection.result ≤ 22 = subst (λ (cs : List ℕ). length cs ≤ 22) (sym same_selection) few in
+    (omega (arith, c.decreases, few_components (length c.copy-selection.result) 22 (4 + branches_weight (tried_branches c.args.tried)) le), (c.requires.small, c.requires.behind))
+
+pub each_tried-loop-k-preserved : goal.each_tried-loop-k-preserved
+each_tried-loop-k-preserved t c =
+    let whole = TriesThen (tried_branches c.args.tried) c.args.tried.place c.args.behind.now c.args.count in
+    let same_selection : c.copy-selection.result ≡ c.in-Some.k.state.selection = c.copy-selection.ensures ∙ ap (λ (k : Kept). k.state.selection) c.k.view_is in
+    let goes = GoesOn-each (tried_branches c.args.tried) c.args.tried.place c.copy-selection.result c.args.behind.now c.args.count c.in-Some.k same_selection in
+    record {
+      few = (few_popped c.loop-k.now.items c.pop.new.self.items c.in-Some.k c.in-Some.ensures.items c.loop-k.invariant.few).0;
+      goes = GoesOn-popped whole c.args.from.items c.loop-k.now.items c.pop.new.self.items c.in-Some.k c.loop-k.invariant.goes c.in-Some.ensures.items (goes.covers c.in_ok-tries.ensures.ok);
+    }
+
+pub each_tried-returns-in_err-tries-clause-err : goal.each_tried-returns-in_err-tries-clause-err
+each_tried-returns-in_err-tries-clause-err t c =
+    let whole = TriesThen (tried_branches c.args.tried) c.args.tried.place c.args.behind.now c.args.count in
+    let same_selection : c.copy-selection.result ≡ c.in-Some.k.state.selection = c.copy-selection.ensures ∙ ap (λ (k : Kept). k.state.selection) c.k.view_is in
+    let goes = GoesOn-each (tried_branches c.args.tried) c.args.tried.place c.copy-selection.result c.args.behind.now c.args.count c.in-Some.k same_selection in
+    let p = err_from_is_err_and c.from_residual.result c.from_residual.ensures.1 in
+    rw (p.1, p.2) (GoesOn-halted whole c.args.from.items c.loop-k.now.items c.pop.new.self.items c.in-Some.k c.loop-k.invariant.goes c.in-Some.ensures.items c.in_err-tries.field-0.0
+    (GoesOn-halts whole (RunsRest (OfTries (tried_branches c.args.tried) c.args.tried.place c.copy-selection.result ∷ c.args.behind.now) c.args.count) (c.in-Some.k ∷ []) (c.in-Some.k ∷ []) goes c.in_err-tries.field-0.0 c.in_err-tries.ensures.err))
+
+pub each_tried-returns-clause-ok : goal.each_tried-returns-clause-ok
+each_tried-returns-clause-ok t c =
+    GoesOn-covers (TriesThen (tried_branches c.args.tried) c.args.tried.place c.args.behind.now c.args.count) c.args.from.items c.loop-k.now.items c.loop-k.invariant.goes
+    (none_left c.loop-k.now.items (λ lt. let l : 0 < vec_len c.loop-k.now = search rules in never_true (c.in_default.ensures.variant.1 l)))
+
+-- ---- at one component after another
+
+pub tries-follow_alone-requires : goal.tries-follow_alone-requires
+tries-follow_alone-requires t c = (omega (arith, c.decreases), c.requires.behind)
+
+pub tries-returns-then-at-len-clause-ok : goal.tries-returns-then-at-len-clause-ok
+tries-returns-then-at-len-clause-ok t c =
+    let none = drop_all c.args.at c.args.selection.now (omega (arith, c.if-at-len.true, c.len.ensures)) in
+    let goes = GoesOn-at_none (tried_branches c.args.tried) c.args.tried.place (drop c.args.at c.args.selection.now) c.args.behind.now c.args.count c.args.k none in
+    on_ok_weaker c.follow_alone.result goes.covers c.follow_alone.ensures.ok
+
+pub tries-returns-then-at-len-clause-err : goal.tries-returns-then-at-len-clause-err
+tries-returns-then-at-len-clause-err t c =
+    let none = drop_all c.args.at c.args.selection.now (omega (arith, c.if-at-len.true, c.len.ensures)) in
+    let goes = GoesOn-at_none (tried_branches c.args.tried) c.args.tried.place (drop c.args.at c.args.selection.now) c.args.behind.now c.args.count c.args.k none in
+    let whole = RunsRest (OfTries (tried_branches c.args.tried) c.args.tried.place (drop c.args.at c.args.selection.now) ∷ c.args.behind.now) c.args.count in
+    IfErr-weaker c.follow_alone.result (λ h. Halts (RunsRest c.args.behind.now c.args.count) (c.args.k ∷ []) h) (λ h. Halts whole (c.args.k ∷ []) h) (λ h u. GoesOn-halts whole (RunsRest c.args.behind.now c.args.count) (c.args.k ∷ []) (c.args.k ∷ []) goes h u) c.follow_alone.ensures.err
+
+pub tries-tries_at-requires : goal.tries-tries_at-requires
+tries-tries_at-requires t c =
+    let lt : c.args.at < length c.args.selection.now = omega (arith, c.if-at-len.false, c.len.ensures) in
+    let is : drop c.args.at c.args.selection.now ≡ c.at.result ∷ drop (c.args.at + 1) c.args.selection.now = drop_next c.args.selection.now c.args.at c.at.result lt ∙ ap (λ (x : ℕ). x ∷ drop (c.args.at + 1) c.args.selection.now) (sym c.at.ensures.value) in
+    let later : c.in_ok-later.later.now ≡ OfTries (tried_branches c.args.tried) c.args.tried.place (drop (c.args.at + 1) c.args.selection.now) ∷ c.args.behind.now =
+    c.in_ok-later.ensures ∙ ap (λ (cs : List ℕ). OfTries (tried_branches c.args.tried) c.args.tried.place (drop (c.args.at + 1) cs) ∷ c.args.behind.now) c.copy.ensures
+    in (
+      omega (arith, c.decreases, tries_weight (tried_branches c.args.tried) c.args.tried.place c.at.result (drop c.args.at c.args.selection.now) (drop (c.args.at + 1) c.args.selection.now) c.args.behind.now c.in_ok-later.later.now is later),
+      (c.at.ensures.small, (c.requires.small, subst (IsSmallRest c.args.count) (sym later) (c.requires.small, c.requires.behind))),
     )
 
-pub parts-returns-clause-ok : goal.parts-returns-clause-ok
-parts-returns-clause-ok t c =
-    on_ok_weaker c.commands.result (Covers-part c.args.parts.now c.in-Some.rest.now c.in-Some.lent.now c.args.count c.args.from.items c.restart_all-started.result.items c.in-Some.ensures.cases.0 c.restart_all-started.ensures)
-    (subst (λ (s : SequenceTree). OnOk c.commands.result (Covers (RunsThen s c.in-Some.rest.now c.args.count) c.restart_all-started.result.items)) c.steps_of.ensures c.commands.ensures.ok)
+pub tries-returns-clause-ok : goal.tries-returns-clause-ok
+tries-returns-clause-ok t c =
+    let lt : c.args.at < length c.args.selection.now = omega (arith, c.if-at-len.false, c.len.ensures) in
+    let is : drop c.args.at c.args.selection.now ≡ c.at.result ∷ drop (c.args.at + 1) c.args.selection.now = drop_next c.args.selection.now c.args.at c.at.result lt ∙ ap (λ (x : ℕ). x ∷ drop (c.args.at + 1) c.args.selection.now) (sym c.at.ensures.value) in
+    let later : c.in_ok-later.later.now ≡ OfTries (tried_branches c.args.tried) c.args.tried.place (drop (c.args.at + 1) c.args.selection.now) ∷ c.args.behind.now =
+    c.in_ok-later.ensures ∙ ap (λ (cs : List ℕ). OfTries (tried_branches c.args.tried) c.args.tried.place (drop (c.args.at + 1) cs) ∷ c.args.behind.now) c.copy.ensures
+    in
+    let goes = GoesOn-first (tried_branches c.args.tried) c.args.tried.place (drop c.args.at c.args.selection.now) c.args.behind.now c.args.count c.at.result (drop (c.args.at + 1) c.args.selection.now) c.in_ok-later.later.now (c.args.k ∷ []) is later in
+    on_ok_weaker c.tries_at.result goes.covers c.tries_at.ensures.ok
 
-pub parts-returns-clause-err : goal.parts-returns-clause-err
-parts-returns-clause-err t c =
-    IfErr-weaker c.commands.result (λ h. Halts (RunsThen (lent_tree c.in-Some.lent.now) c.in-Some.rest.now c.args.count) c.restart_all-started.result.items h) (λ h. Halts (RunsParts c.args.parts.now c.args.count) c.args.from.items h)
-    (λ h u. Halts-part c.args.parts.now c.in-Some.rest.now c.in-Some.lent.now c.args.count c.args.from.items c.restart_all-started.result.items c.in-Some.ensures.cases.0 c.restart_all-started.ensures h u)
-    (subst (λ (s : SequenceTree). IfErr c.commands.result (λ h. Halts (RunsThen s c.in-Some.rest.now c.args.count) c.restart_all-started.result.items h)) c.steps_of.ensures c.commands.ensures.err)
+pub tries-returns-clause-err : goal.tries-returns-clause-err
+tries-returns-clause-err t c =
+    let lt : c.args.at < length c.args.selection.now = omega (arith, c.if-at-len.false, c.len.ensures) in
+    let is : drop c.args.at c.args.selection.now ≡ c.at.result ∷ drop (c.args.at + 1) c.args.selection.now = drop_next c.args.selection.now c.args.at c.at.result lt ∙ ap (λ (x : ℕ). x ∷ drop (c.args.at + 1) c.args.selection.now) (sym c.at.ensures.value) in
+    let later : c.in_ok-later.later.now ≡ OfTries (tried_branches c.args.tried) c.args.tried.place (drop (c.args.at + 1) c.args.selection.now) ∷ c.args.behind.now =
+    c.in_ok-later.ensures ∙ ap (λ (cs : List ℕ). OfTries (tried_branches c.args.tried) c.args.tried.place (drop (c.args.at + 1) cs) ∷ c.args.behind.now) c.copy.ensures
+    in
+    let goes = GoesOn-first (tried_branches c.args.tried) c.args.tried.place (drop c.args.at c.args.selection.now) c.args.behind.now c.args.count c.at.result (drop (c.args.at + 1) c.args.selection.now) c.in_ok-later.later.now (c.args.k ∷ []) is later in
+    let whole = RunsRest (OfTries (tried_branches c.args.tried) c.args.tried.place (drop c.args.at c.args.selection.now) ∷ c.args.behind.now) c.args.count in
+    let then = TriesAt (tried_branches c.args.tried) c.args.tried.place c.at.result c.in_ok-later.later.now c.args.count in
+    IfErr-weaker c.tries_at.result (λ h. Halts then (c.args.k ∷ []) h) (λ h. Halts whole (c.args.k ∷ []) h) (λ h u. GoesOn-halts whole then (c.args.k ∷ []) (c.args.k ∷ []) goes h u) c.tries_at.ensures.err
 
-pub parts_alone-returns-in_default-clause-ok : goal.parts_alone-returns-in_default-clause-ok
-parts_alone-returns-in_default-clause-ok t c =
-    let none = no_parts c.args.parts.now (λ lt. never_true (c.in_default.ensures.variant.1 lt)) in
-    subst (λ (ps : List (Option (Bor SequenceTree))). Covers (RunsParts ps c.args.count) (c.args.from ∷ [])) (sym none) (Covers-no_part c.args.count (c.args.from ∷ []))
+-- ---- at one component
 
-pub parts_alone-alone-requires : goal.parts_alone-alone-requires
-parts_alone-alone-requires t c =
-    let small : AreSmallParts c.args.count (c.in-Some.lent.now ∷ c.in-Some.rest.now) = subst (AreSmallParts c.args.count) c.in-Some.ensures.cases.0 c.requires.small in (
-      omega (arith, c.decreases, parts_length-is c.args.parts.now c.in-Some.rest.now c.in-Some.lent.now c.steps_of.result.now c.in-Some.ensures.cases.0 c.steps_of.ensures),
-      (subst (IsSmallSequence c.args.count) (sym c.steps_of.ensures) small.0, small.1),
+-- what is no sequence is null
+none_there : (branch : Option SequenceTree) → ((inner : SequenceTree) → branch ≡ Some inner → ⊥) → branch ≡ None
+none_there None never = refl
+none_there (Some inner) never = absurd (never inner refl)
+
+pub tries_at-loop-branch-init : goal.tries_at-loop-branch-init
+tries_at-loop-branch-init t c =
+    let one : c.in_ok-now.now.items ≡ c.args.k ∷ [] = c.in_ok-now.ensures ∙ ap (λ (x : Kept). x ∷ []) c.in_ok-shared.ensures in
+    record {
+      small = c.requires.small;
+      at = subst (AllAt c.in_ok-outer.outer) (sym one) (at-one c.args.k c.in_ok-outer.outer c.in_ok-outer.ensures);
+      both = GoesBoth-start (rest_course (tried_branches c.args.tried) c.args.count c.args.tried.place c.args.component) (RunsRest c.args.behind.now c.args.count) (c.args.k ∷ []) c.in_ok-now.now.items c.new-done.result.items one c.new-done.ensures.items;
+    }
+
+pub tries_at-loop-branch-preserved : goal.tries_at-loop-branch-preserved
+tries_at-loop-branch-preserved t c =
+    let tail : List (Option SequenceTree) = Some c.args.tried.last.now ∷ [] in
+    let bs = c.args.tried.before.now in
+    let is = sym c.branch-item.is ∙ c.in-Some.is in
+    let whole = TriesAt (tried_branches c.args.tried) c.args.tried.place c.args.component c.args.behind.now c.args.count in
+    let both = subst (λ (r : Course). GoesBoth whole (c.args.k ∷ []) r (RunsRest c.args.behind.now c.args.count) c.loop-branch.now.items c.loop-branch.done.items) (before_some bs tail c.loop-branch.branch-index c.branch-item.result c.loop-branch-test.true c.in-Some.inner c.args.count c.args.tried.place c.args.component is) c.loop-branch.invariant.both in
+    let next = GoesBoth-branch whole (runs_course c.in-Some.inner c.args.count) (rest_course (branches_tree (drop (c.loop-branch.branch-index + 1) bs ++ tail)) c.args.count c.args.tried.place) (RunsRest c.args.behind.now c.args.count) c.in_ok-outer.outer c.args.component (c.args.k ∷ []) c.loop-branch.now.items c.loop-branch.done.items c.loop-branch.invariant.at both
+    c.in_ok-inside.inside.items c.in_ok-now-2.now.items c.one_branch.new.next.items c.none_inside-stops.result c.loop-branch.ended c.one_branch.new.failed c.in_ok-inside.ensures c.none_inside-stops.ensures c.in_ok-now-2.ensures.ok in
+    record {
+      small = (small_before bs tail c.loop-branch.branch-index c.branch-item.result c.loop-branch-test.true c.in-Some.inner c.args.count is c.loop-branch.invariant.small).1;
+      at = next.1;
+      both = next.0;
+    }
+
+pub tries_at-one_branch-requires : goal.tries_at-one_branch-requires
+tries_at-one_branch-requires t c = record {
+  small = (small_before c.args.tried.before.now (Some c.args.tried.last.now ∷ []) c.loop-branch.branch-index c.branch-item.result c.loop-branch-test.true c.in-Some.inner c.args.count (sym c.branch-item.is ∙ c.in-Some.is) c.loop-branch.invariant.small).0;
+}
+
+pub tries_at-returns-in_err-now-2-clause-err : goal.tries_at-returns-in_err-now-2-clause-err
+tries_at-returns-in_err-now-2-clause-err t c =
+    let tail : List (Option SequenceTree) = Some c.args.tried.last.now ∷ [] in
+    let bs = c.args.tried.before.now in
+    let is = sym c.branch-item.is ∙ c.in-Some.is in
+    let whole = TriesAt (tried_branches c.args.tried) c.args.tried.place c.args.component c.args.behind.now c.args.count in
+    let both = subst (λ (r : Course). GoesBoth whole (c.args.k ∷ []) r (RunsRest c.args.behind.now c.args.count) c.loop-branch.now.items c.loop-branch.done.items) (before_some bs tail c.loop-branch.branch-index c.branch-item.result c.loop-branch-test.true c.in-Some.inner c.args.count c.args.tried.place c.args.component is) c.loop-branch.invariant.both in
+    let p = err_from_is_err_and c.from_residual-in_err-now-2.result c.from_residual-in_err-now-2.ensures.1 in
+    rw (p.1, p.2) (GoesBoth-halts whole (runs_course c.in-Some.inner c.args.count) (rest_course (branches_tree (drop (c.loop-branch.branch-index + 1) bs ++ tail)) c.args.count c.args.tried.place) (RunsRest c.args.behind.now c.args.count) c.in_ok-outer.outer c.args.component (c.args.k ∷ []) c.loop-branch.now.items c.loop-branch.done.items c.loop-branch.invariant.at both
+    c.in_ok-inside.inside.items c.in_ok-inside.ensures c.in_err-now-2.field-0.0 c.in_err-now-2.ensures.err)
+
+-- null
+
+pub tries_at-follow-requires : goal.tries_at-follow-requires
+tries_at-follow-requires t c = (omega (arith, c.decreases), c.requires.behind)
+
+pub tries_at-returns-in_default-clause-ok : goal.tries_at-returns-in_default-clause-ok
+tries_at-returns-in_default-clause-ok t c =
+    let whole = TriesAt (tried_branches c.args.tried) c.args.tried.place c.args.component c.args.behind.now c.args.count in
+    let both = subst (λ (r : Course). GoesBoth whole (c.args.k ∷ []) r (RunsRest c.args.behind.now c.args.count) c.loop-branch.now.items c.loop-branch.done.items) (before_none c.args.tried.before.now (Some c.args.tried.last.now ∷ []) c.loop-branch.branch-index c.branch-item.result c.loop-branch-test.true c.args.count c.args.tried.place c.args.component (sym c.branch-item.is ∙ none_there c.branch-item.result c.in_default.not-Some)) c.loop-branch.invariant.both in
+    let goes = GoesBoth-null whole (RunsRest c.args.behind.now c.args.count) (c.args.k ∷ []) c.loop-branch.now.items c.loop-branch.done.items c.append.new.self.items both c.in_ok-append.ensures.items in
+    on_ok_weaker c.follow.result goes.covers c.follow.ensures.ok
+
+pub tries_at-returns-in_default-clause-err : goal.tries_at-returns-in_default-clause-err
+tries_at-returns-in_default-clause-err t c =
+    let whole = TriesAt (tried_branches c.args.tried) c.args.tried.place c.args.component c.args.behind.now c.args.count in
+    let both = subst (λ (r : Course). GoesBoth whole (c.args.k ∷ []) r (RunsRest c.args.behind.now c.args.count) c.loop-branch.now.items c.loop-branch.done.items) (before_none c.args.tried.before.now (Some c.args.tried.last.now ∷ []) c.loop-branch.branch-index c.branch-item.result c.loop-branch-test.true c.args.count c.args.tried.place c.args.component (sym c.branch-item.is ∙ none_there c.branch-item.result c.in_default.not-Some)) c.loop-branch.invariant.both in
+    let goes = GoesBoth-null whole (RunsRest c.args.behind.now c.args.count) (c.args.k ∷ []) c.loop-branch.now.items c.loop-branch.done.items c.append.new.self.items both c.in_ok-append.ensures.items in
+    IfErr-weaker c.follow.result (λ h. Halts (RunsRest c.args.behind.now c.args.count) c.append.new.self.items h) (λ h. Halts whole (c.args.k ∷ []) h) (λ h u. GoesOn-halts whole (RunsRest c.args.behind.now c.args.count) (c.args.k ∷ []) c.append.new.self.items goes h u) c.follow.ensures.err
+
+-- the last branch
+
+pub tries_at-commands-requires : goal.tries_at-commands-requires
+tries_at-commands-requires t c =
+    let none : drop c.loop-branch.branch-index c.args.tried.before.now ≡ [] = drop_all c.loop-branch.branch-index c.args.tried.before.now c.loop-branch-test.false in
+    let small = subst (λ (bs : List (Option SequenceTree)). AreSmallBranches c.args.count (branches_tree (bs ++ Some c.args.tried.last.now ∷ []))) none c.loop-branch.invariant.small in (
+      omega (arith, c.decreases, last_weight c.args.tried.before.now c.args.tried.last.now, ap rest_weight c.in_ok-leave.ensures, ap weight c.as_slice.ensures),
+      (subst (IsSmallSequence c.args.count) (sym c.as_slice.ensures) small.0, subst (IsSmallRest c.args.count) (sym c.in_ok-leave.ensures) (tt, c.requires.behind)),
     )
 
-pub parts_alone-returns-clause-ok : goal.parts_alone-returns-clause-ok
-parts_alone-returns-clause-ok t c =
-    on_ok_weaker c.alone.result (Covers-part c.args.parts.now c.in-Some.rest.now c.in-Some.lent.now c.args.count (c.args.from ∷ []) (c.restart-started.result ∷ []) c.in-Some.ensures.cases.0 (ap (λ (k : Kept). k ∷ []) c.restart-started.ensures))
-    (subst (λ (s : SequenceTree). OnOk c.alone.result (Covers (RunsThen s c.in-Some.rest.now c.args.count) (c.restart-started.result ∷ []))) c.steps_of.ensures c.alone.ensures.ok)
+pub tries_at-follow-requires-2 : goal.tries_at-follow-requires-2
+tries_at-follow-requires-2 t c = (omega (arith, c.decreases), c.requires.behind)
 
-pub parts_alone-returns-clause-err : goal.parts_alone-returns-clause-err
-parts_alone-returns-clause-err t c =
-    IfErr-weaker c.alone.result (λ h. Halts (RunsThen (lent_tree c.in-Some.lent.now) c.in-Some.rest.now c.args.count) (c.restart-started.result ∷ []) h) (λ h. Halts (RunsParts c.args.parts.now c.args.count) (c.args.from ∷ []) h)
-    (λ h u. Halts-part c.args.parts.now c.in-Some.rest.now c.in-Some.lent.now c.args.count (c.args.from ∷ []) (c.restart-started.result ∷ []) c.in-Some.ensures.cases.0 (ap (λ (k : Kept). k ∷ []) c.restart-started.ensures) h u)
-    (subst (λ (s : SequenceTree). IfErr c.alone.result (λ h. Halts (RunsThen s c.in-Some.rest.now c.args.count) (c.restart-started.result ∷ []) h)) c.steps_of.ensures c.alone.ensures.err)
+pub tries_at-returns-in_err-commands-clause-err : goal.tries_at-returns-in_err-commands-clause-err
+tries_at-returns-in_err-commands-clause-err t c =
+    let none : drop c.loop-branch.branch-index c.args.tried.before.now ≡ [] = drop_all c.loop-branch.branch-index c.args.tried.before.now c.loop-branch-test.false in
+    let whole = TriesAt (tried_branches c.args.tried) c.args.tried.place c.args.component c.args.behind.now c.args.count in
+    let after = RunsRest c.args.behind.now c.args.count in
+    let both = subst (λ (bs : List (Option SequenceTree)). GoesBoth whole (c.args.k ∷ []) (rest_course (branches_tree (bs ++ Some c.args.tried.last.now ∷ [])) c.args.count c.args.tried.place c.args.component) after c.loop-branch.now.items c.loop-branch.done.items) none c.loop-branch.invariant.both in
+    let leave = c.in_ok-leave.ensures in
+    let stopped = subst (λ (s : SequenceTree). Halts (RunsThen s (OfLeave c.in_ok-outer.outer.selection c.in_ok-outer.outer.soft_failure ∷ c.args.behind.now) c.args.count) c.in_ok-inside-2.inside.items c.in_err-commands.field-0.0) c.as_slice.ensures
+    (subst (λ (r : List Later). Halts (RunsThen (sequence_tree c.as_slice.result.now) r c.args.count) c.in_ok-inside-2.inside.items c.in_err-commands.field-0.0) leave c.in_err-commands.ensures.err) in
+    let p = err_from_is_err_and c.from_residual-in_err-commands.result c.from_residual-in_err-commands.ensures.1 in
+    rw (p.1, p.2) (GoesBoth-stops whole (runs_course c.args.tried.last.now c.args.count) after c.in_ok-outer.outer c.args.component c.args.tried.place (c.args.k ∷ []) c.loop-branch.now.items c.in_ok-inside-2.inside.items c.loop-branch.done.items c.loop-branch.invariant.at both c.in_ok-inside-2.ensures c.in_err-commands.field-0.0 stopped)
+
+pub tries_at-returns-clause-ok : goal.tries_at-returns-clause-ok
+tries_at-returns-clause-ok t c =
+    let none : drop c.loop-branch.branch-index c.args.tried.before.now ≡ [] = drop_all c.loop-branch.branch-index c.args.tried.before.now c.loop-branch-test.false in
+    let whole = TriesAt (tried_branches c.args.tried) c.args.tried.place c.args.component c.args.behind.now c.args.count in
+    let after = RunsRest c.args.behind.now c.args.count in
+    let both = subst (λ (bs : List (Option SequenceTree)). GoesBoth whole (c.args.k ∷ []) (rest_course (branches_tree (bs ++ Some c.args.tried.last.now ∷ [])) c.args.count c.args.tried.place c.args.component) after c.loop-branch.now.items c.loop-branch.done.items) none c.loop-branch.invariant.both in
+    let leave = c.in_ok-leave.ensures in
+    let covered = subst (λ (s : SequenceTree). Covers (RunsThen s (OfLeave c.in_ok-outer.outer.selection c.in_ok-outer.outer.soft_failure ∷ c.args.behind.now) c.args.count) c.in_ok-inside-2.inside.items) c.as_slice.ensures
+    (subst (λ (r : List Later). Covers (RunsThen (sequence_tree c.as_slice.result.now) r c.args.count) c.in_ok-inside-2.inside.items) leave c.in_ok-commands.ensures.ok) in
+    let goes = GoesBoth-last whole (runs_course c.args.tried.last.now c.args.count) after c.in_ok-outer.outer c.args.component c.args.tried.place (c.args.k ∷ []) c.loop-branch.now.items c.in_ok-inside-2.inside.items c.loop-branch.done.items c.loop-branch.invariant.at both c.in_ok-inside-2.ensures covered in
+    on_ok_weaker c.follow-2.result goes.covers c.follow-2.ensures.ok
+
+pub tries_at-returns-clause-err : goal.tries_at-returns-clause-err
+tries_at-returns-clause-err t c =
+    let none : drop c.loop-branch.branch-index c.args.tried.before.now ≡ [] = drop_all c.loop-branch.branch-index c.args.tried.before.now c.loop-branch-test.false in
+    let whole = TriesAt (tried_branches c.args.tried) c.args.tried.place c.args.component c.args.behind.now c.args.count in
+    let after = RunsRest c.args.behind.now c.args.count in
+    let both = subst (λ (bs : List (Option SequenceTree)). GoesBoth whole (c.args.k ∷ []) (rest_course (branches_tree (bs ++ Some c.args.tried.last.now ∷ [])) c.args.count c.args.tried.place c.args.component) after c.loop-branch.now.items c.loop-branch.done.items) none c.loop-branch.invariant.both in
+    let leave = c.in_ok-leave.ensures in
+    let covered = subst (λ (s : SequenceTree). Covers (RunsThen s (OfLeave c.in_ok-outer.outer.selection c.in_ok-outer.outer.soft_failure ∷ c.args.behind.now) c.args.count) c.in_ok-inside-2.inside.items) c.as_slice.ensures
+    (subst (λ (r : List Later). Covers (RunsThen (sequence_tree c.as_slice.result.now) r c.args.count) c.in_ok-inside-2.inside.items) leave c.in_ok-commands.ensures.ok) in
+    let goes = GoesBoth-last whole (runs_course c.args.tried.last.now c.args.count) after c.in_ok-outer.outer c.args.component c.args.tried.place (c.args.k ∷ []) c.loop-branch.now.items c.in_ok-inside-2.inside.items c.loop-branch.done.items c.loop-branch.invariant.at both c.in_ok-inside-2.ensures covered in
+    IfErr-weaker c.follow-2.result (λ h. Halts after c.loop-branch.done.items h) (λ h. Halts whole (c.args.k ∷ []) h) (λ h u. GoesOn-halts whole after (c.args.k ∷ []) c.loop-branch.done.items goes h u) c.follow-2.ensures.err

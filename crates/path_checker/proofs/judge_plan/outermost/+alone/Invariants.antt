@@ -1,24 +1,44 @@
-use Rattle.std.proofs.Common.{◌-◌, ◌*◌, ◌+◌, ◌≤◌, [], ◌∷◌, drop, length}
-use Rattle.suit_commands.specs.View.{sequence_tree}
-use Rattle.path_checker.specs.Procedures.{RunsThen}
-use Rattle.path_checker.specs.Small.{IsSmallSequence}
-use Rattle.path_checker.proofs.Going.{GoesOn, parts_length}
+use Rattle.std.proofs.Common.{◌-◌, ◌*◌, ◌+◌, ◌≤◌, [], ◌∷◌, ◌++◌, Some, drop, length}
+use Rattle.suit_commands.specs.View.{sequence_tree, branches_tree}
+use Rattle.path_checker.specs.Rests.{RunsRest, RunsThen, TriesAt, TriesThen, AreFew}
+use Rattle.path_checker.specs.Inner.{AllAt}
+use Rattle.path_checker.specs.RestViews.{tried_branches}
+use Rattle.path_checker.specs.Small.{IsSmallSequence, AreSmallBranches}
+use Rattle.path_checker.proofs.Besides.{GoesBoth}
+use Rattle.path_checker.proofs.Branching.{rest_course}
+use Rattle.path_checker.proofs.Going.{GoesOn}
+use Rattle.path_checker.proofs.Weights.{weight, branches_weight, rest_weight}
 use Rattle.path_checker.proofs.judge_plan.outermost.+alone.Given as goal
 
-abbrev pub decreases-parts : goal.decreases-parts
-decreases-parts l = 4 * parts_length l.parts.now
+abbrev pub decreases-follow : goal.decreases-follow
+decreases-follow l = 5 * rest_weight l.rest.now + 2
+
+abbrev pub decreases-follow_alone : goal.decreases-follow_alone
+decreases-follow_alone l = 5 * rest_weight l.rest.now + 1
 
 abbrev pub decreases-commands : goal.decreases-commands
-decreases-commands l = 4 * (length l.steps.now + parts_length l.rest.now) + 1
-
-abbrev pub decreases-each_alone : goal.decreases-each_alone
-decreases-each_alone l = 4 * (length l.steps.now + parts_length l.rest.now) + 3
+decreases-commands l = 5 * (weight (sequence_tree l.steps.now) + rest_weight l.rest.now) + 3
 
 abbrev pub decreases-alone : goal.decreases-alone
-decreases-alone l = 4 * (length l.steps.now + parts_length l.rest.now) + 2
+decreases-alone l = 5 * (weight (sequence_tree l.steps.now) + rest_weight l.rest.now) + 4
 
-abbrev pub decreases-parts_alone : goal.decreases-parts_alone
-decreases-parts_alone l = 4 * parts_length l.parts.now
+abbrev pub decreases-each_alone : goal.decreases-each_alone
+decreases-each_alone l = 5 * (weight (sequence_tree l.steps.now) + rest_weight l.rest.now) + 5
+
+abbrev pub decreases-each_tried : goal.decreases-each_tried
+decreases-each_tried l = 5 * (3 + 22 * (4 + branches_weight (tried_branches l.tried)) + rest_weight l.behind.now)
+
+abbrev pub decreases-tries : goal.decreases-tries
+decreases-tries l = 5 * (2 + length (drop l.at l.selection.now) * (4 + branches_weight (tried_branches l.tried)) + rest_weight l.behind.now)
+
+abbrev pub decreases-tries_at : goal.decreases-tries_at
+decreases-tries_at l = 5 * (3 + branches_weight (tried_branches l.tried) + rest_weight l.behind.now)
+
+abbrev pub invariant-follow-loop-k : goal.invariant-follow-loop-k
+invariant-follow-loop-k l = GoesOn (RunsRest l.rest l.count) l.fn.from.items (RunsRest l.rest l.count) l.now.items
+
+abbrev pub decreases-follow-loop-k : goal.decreases-follow-loop-k
+decreases-follow-loop-k l = length l.now.items
 
 abbrev pub invariant-commands-loop-at : goal.invariant-commands-loop-at
 invariant-commands-loop-at l = record {
@@ -44,3 +64,20 @@ invariant-alone-loop-step l = record {
 
 abbrev pub decreases-alone-loop-step : goal.decreases-alone-loop-step
 decreases-alone-loop-step l = length l.steps - l.at
+
+abbrev pub invariant-each_tried-loop-k : goal.invariant-each_tried-loop-k
+invariant-each_tried-loop-k l = record {
+  few : AreFew l.now.items;
+  goes : GoesOn (TriesThen (tried_branches l.tried) l.tried.place l.behind l.count) l.fn.from.items (TriesThen (tried_branches l.tried) l.tried.place l.behind l.count) l.now.items;
+}
+
+abbrev pub decreases-each_tried-loop-k : goal.decreases-each_tried-loop-k
+decreases-each_tried-loop-k l = length l.now.items
+
+-- the branches that are left
+abbrev pub invariant-tries_at-loop-branch : goal.invariant-tries_at-loop-branch
+invariant-tries_at-loop-branch l = record {
+  small : AreSmallBranches l.count (branches_tree (drop l.branch-index l.tried.before.now ++ Some l.tried.last.now ∷ []));
+  at : AllAt l.outer l.now.items;
+  both : GoesBoth (TriesAt (tried_branches l.tried) l.tried.place l.component l.behind l.count) (l.fn.k ∷ []) (rest_course (branches_tree (drop l.branch-index l.tried.before.now ++ Some l.tried.last.now ∷ [])) l.count l.tried.place l.component) (RunsRest l.behind l.count) l.now.items l.done.items;
+}
