@@ -1,5 +1,6 @@
 pub mod Draws
 pub mod Shapes
+pub mod ShapeTexts
 pub mod Drawing
 pub mod Rounds
 pub mod ShapeLaws

@@ -4,8 +4,7 @@ ghost use Rattle.std.specs.Prelude.{◌≡◌, ◌*◌, ◌+◌, ◌^◌, IfOk, 
 ghost use Rattle.conformance.specs.Draws.{nth_draw, state_after};
 ghost use Rattle.conformance.specs.Drawing.{bytes_drawn, drawn_from, state_behind};
 
-use crate::Draw;
-use crate::shape::Shape;
+use crate::{Draw, Shape};
 use det_cbor::Bytes;
 use std::alloc::{AllocError, Global};
 
@@ -14,18 +13,19 @@ const LONGEST_PAYLOAD: u64 = 60_000;
 
 /// What is drawn for a round.
 #[derive(Debug, Drop)]
-pub(crate) struct Drawn {
-    pub(crate) shape: Shape,
+pub struct Drawn {
+    /// How the envelope installs and invokes its image.
+    pub shape: Shape,
     /// The described bytes.
-    pub(crate) payload: Bytes,
+    pub payload: Bytes,
     /// Whether other bytes come when they are fetched.
-    pub(crate) wrong_payload: bool,
+    pub wrong_payload: bool,
     /// Whether the power is to be lost during the update.
-    pub(crate) wants_cut: bool,
+    pub wants_cut: bool,
     /// The calls of the flash before that.
-    pub(crate) passes: u64,
+    pub passes: u64,
     /// Which of the pending writes the loss keeps.
-    pub(crate) choice: u64,
+    pub choice: u64,
 }
 
 // So many bytes.
@@ -51,7 +51,7 @@ fn draw_long(draw: &mut Draw) -> u64
 }
 
 /// Draws a round. Each draw is made always, so that the next round's do not depend on what this one's decide.
-pub(crate) fn draw_round(alloc: Global, draw: &mut Draw) -> Result<Drawn, AllocError>
+pub fn draw_round(alloc: Global, draw: &mut Draw) -> Result<Drawn, AllocError>
     ensures drawn { IfOk result (λ drawn. drawn ≡ drawn_from draw.old) }
     ensures state { OnOk result (draw.new ≡ state_behind draw.old) }
 {

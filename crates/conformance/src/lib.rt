@@ -9,12 +9,12 @@ mod law;
 mod making;
 mod rounds;
 mod shape;
-#[cfg(test)]
-mod tests;
 mod values;
 
 pub use byte_vectors::{VectorList, vectors};
 pub use draw::Draw;
+pub use drawing::{Drawn, draw_round};
 pub use law::shape_laws;
 pub use making::round;
 pub use rounds::Round;
+pub use shape::Shape;

@@ -7,11 +7,9 @@ ghost use Rattle.author.specs.Held.{value_of};
 ghost use Rattle.conformance.specs.Rounds.{round_of, said_by};
 ghost use Rattle.conformance.specs.Shapes.{shape_data};
 
-use crate::drawing::draw_round;
 use crate::files::files_of;
-use crate::shape::Shape;
 use crate::values::shape_value;
-use crate::{Draw, Round, shape_laws};
+use crate::{Draw, Round, Shape, draw_round, shape_laws};
 use author::{Description, DescriptionFault, description};
 use std::alloc::{AllocError, Global};
 

@@ -1,138 +1,94 @@
 //! The descriptions of the shapes, as values of JSON.
 
-ghost use Rattle.std.specs.Prelude.{◌≡◌, IfOk};
+ghost use Rattle.std.specs.Prelude.{◌≡◌, Some, IfOk, IsSome};
+ghost use Rattle.serde_json.specs.Read.{read};
 ghost use Rattle.serde_json.specs.View.{view};
-ghost use Rattle.conformance.specs.Shapes as shapes;
+ghost use Rattle.conformance.specs.Shapes.{shape_data};
+ghost use Rattle.conformance.specs.ShapeTexts.{with_sequence, IsTextOf};
 
-use crate::shape::Shape;
-use serde_json::{Value, json};
+use crate::Shape;
+use serde_json::Value;
 use std::alloc::{AllocError, Global};
 
-// A command that reports whatever comes of it.
-fn reported(alloc: Global, name: &str) -> Result<Value, AllocError>
-    ensures { IfOk result (λ v. view v ≡ shapes.reported name.now) }
+const FETCHED: &str = r#"{
+    "components": [["00"]],
+    "shared": [["set", {"digest": {"file": "img.bin"}, "size": {"file": "img.bin"}}]],
+    "install": [["set", {"uri": "img"}], ["fetch", 15]],
+    "validate": [["match", 15]],
+    "invoke": [["invoke", 15]]
+}"#;
+
+const INTEGRATED: &str = r##"{
+    "components": [["00"]],
+    "shared": [["set", {"digest": {"file": "img.bin"}, "size": {"file": "img.bin"}}]],
+    "install": [["set", {"uri": "#img"}], ["fetch", 15]],
+    "validate": [["match", 15]],
+    "invoke": [["invoke", 15]],
+    "payloads": {"#img": {"file": "got.bin"}}
+}"##;
+
+const LOADED: &str = r#"{
+    "components": [["00"], ["01"]],
+    "shared": [
+        ["index", true],
+        ["set", {"digest": {"file": "img.bin"}, "size": {"file": "img.bin"}}]
+    ],
+    "install": [["set", {"uri": "img"}], ["fetch", 15]],
+    "validate": [["match", 15]],
+    "load": [["index", 1], ["set", {"source": 0}], ["copy", 15], ["match", 15]],
+    "invoke": [["index", 1], ["invoke", 15]]
+}"#;
+
+const FETCHED_IF_OTHER: &str = r#"{
+    "components": [["00"]],
+    "shared": [["set", {"digest": {"file": "img.bin"}, "size": {"file": "img.bin"}}]],
+    "install": [["set", {"uri": "img"}], ["try", [[["match", 15]], [["fetch", 15]]]]],
+    "validate": [["match", 15]],
+    "invoke": [["invoke", 15]]
+}"#;
+
+// The value that a text spells.
+fn spelled(alloc: Global, text: &str) -> Result<Value, AllocError>
+    requires { IsSome (read text.now) }
+    ensures { IfOk result (λ v. read text.now ≡ Some (view v)) }
 {
-    json!(in alloc; [name, 15u64])
+    match Value::from_str(alloc, text) {
+        Ok(value) => Ok(value),
+        Err(error) if error.is_memory() => Err(AllocError),
+        Err(_) => unreachable!(),
+    }
 }
 
-// The command that sets the digest and the size of the image.
-fn set_image(alloc: Global) -> Result<Value, AllocError>
-    ensures { IfOk result (λ v. view v ≡ shapes.set_image) }
+// The value with this sequence number, where it is an object.
+fn with_sequence(alloc: Global, value: Value, sequence: u64) -> Result<Value, AllocError>
+    ensures { IfOk result (λ v. view v ≡ with_sequence sequence (view value)) }
 {
-    json!(in alloc; ["set", {"digest": {"file": "img.bin"}, "size": {"file": "img.bin"}}])
+    match value {
+        Value::Object(mut members) => {
+            let name = String::from_str(alloc, "sequence")?;
+            members.insert(name, Value::from(sequence))?;
+            Ok(Value::Object(members))
+        }
+        other => Ok(other),
+    }
 }
 
-// The command that sets the URI of the image.
-fn set_uri(alloc: Global, uri: &str) -> Result<Value, AllocError>
-    ensures { IfOk result (λ v. view v ≡ shapes.set_uri uri.now) }
+// The text of a shape's description, without its sequence number.
+fn text_of(shape: Shape) -> &'static str
+    ensures { IsTextOf shape result.now }
 {
-    json!(in alloc; ["set", {"uri": uri}])
-}
-
-fn fetch(alloc: Global, uri: &str) -> Result<Value, AllocError>
-    ensures { IfOk result (λ v. view v ≡ shapes.fetch uri.now) }
-{
-    json!(in alloc; [set_uri(alloc, uri)?, reported(alloc, "fetch")?])
-}
-
-// Fetches where the component's content is another one.
-fn fetch_if_other(alloc: Global) -> Result<Value, AllocError>
-    ensures { IfOk result (λ v. view v ≡ shapes.fetch_if_other) }
-{
-    json!(in alloc; [
-        set_uri(alloc, "img")?,
-        ["try", [[reported(alloc, "match")?], [reported(alloc, "fetch")?]]]
-    ])
-}
-
-fn fetched(alloc: Global, sequence: u64) -> Result<Value, AllocError>
-    ensures { IfOk result (λ v. view v ≡ shapes.fetched sequence) }
-{
-    json!(in alloc; {
-        "sequence": sequence,
-        "components": [["00"]],
-        "shared": [set_image(alloc)?],
-        "install": fetch(alloc, "img")?,
-        "validate": [reported(alloc, "match")?],
-        "invoke": [reported(alloc, "invoke")?]
-    })
-}
-
-fn integrated(alloc: Global, sequence: u64) -> Result<Value, AllocError>
-    ensures { IfOk result (λ v. view v ≡ shapes.integrated sequence) }
-{
-    json!(in alloc; {
-        "sequence": sequence,
-        "components": [["00"]],
-        "shared": [set_image(alloc)?],
-        "install": fetch(alloc, "#img")?,
-        "validate": [reported(alloc, "match")?],
-        "invoke": [reported(alloc, "invoke")?],
-        "payloads": {"#img": {"file": "got.bin"}}
-    })
-}
-
-// The commands of a boot that copies the image to component 1.
-fn load(alloc: Global) -> Result<Value, AllocError>
-    ensures { IfOk result (λ v. view v ≡ shapes.load) }
-{
-    json!(in alloc; [
-        ["index", 1u64],
-        ["set", {"source": 0u64}],
-        reported(alloc, "copy")?,
-        reported(alloc, "match")?
-    ])
-}
-
-// The commands that select both components and set the image of each.
-fn set_both(alloc: Global) -> Result<Value, AllocError>
-    ensures { IfOk result (λ v. view v ≡ shapes.set_both) }
-{
-    json!(in alloc; [["index", true], set_image(alloc)?])
-}
-
-// The commands of a boot that invokes what it copied.
-fn invoke_copy(alloc: Global) -> Result<Value, AllocError>
-    ensures { IfOk result (λ v. view v ≡ shapes.invoke_copy) }
-{
-    json!(in alloc; [["index", 1u64], reported(alloc, "invoke")?])
-}
-
-fn loaded(alloc: Global, sequence: u64) -> Result<Value, AllocError>
-    ensures { IfOk result (λ v. view v ≡ shapes.loaded sequence) }
-{
-    json!(in alloc; {
-        "sequence": sequence,
-        "components": [["00"], ["01"]],
-        "shared": set_both(alloc)?,
-        "install": fetch(alloc, "img")?,
-        "validate": [reported(alloc, "match")?],
-        "load": load(alloc)?,
-        "invoke": invoke_copy(alloc)?
-    })
-}
-
-fn fetched_if_other(alloc: Global, sequence: u64) -> Result<Value, AllocError>
-    ensures { IfOk result (λ v. view v ≡ shapes.fetched_if_other sequence) }
-{
-    json!(in alloc; {
-        "sequence": sequence,
-        "components": [["00"]],
-        "shared": [set_image(alloc)?],
-        "install": fetch_if_other(alloc)?,
-        "validate": [reported(alloc, "match")?],
-        "invoke": [reported(alloc, "invoke")?]
-    })
+    match shape {
+        Shape::Fetched => FETCHED,
+        Shape::Integrated => INTEGRATED,
+        Shape::Loaded => LOADED,
+        Shape::FetchedIfOther => FETCHED_IF_OTHER,
+    }
 }
 
 /// The description of a shape with this sequence number.
 pub(crate) fn shape_value(alloc: Global, shape: Shape, sequence: u64) -> Result<Value, AllocError>
-    ensures { IfOk result (λ v. view v ≡ shapes.shape_data shape sequence) }
+    ensures { IfOk result (λ v. view v ≡ shape_data shape sequence) }
 {
-    match shape {
-        Shape::Fetched => fetched(alloc, sequence),
-        Shape::Integrated => integrated(alloc, sequence),
-        Shape::Loaded => loaded(alloc, sequence),
-        Shape::FetchedIfOther => fetched_if_other(alloc, sequence),
-    }
+    let value = spelled(alloc, text_of(shape))?;
+    with_sequence(alloc, value, sequence)
 }

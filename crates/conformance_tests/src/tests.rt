@@ -1,8 +1,6 @@
-//! Tests by numbers that another program found.
+//! Draws, rounds and vectors.
 
-use crate::drawing::{Drawn, draw_round};
-use crate::shape::Shape;
-use crate::{Draw, round, vectors};
+use conformance::{Draw, Drawn, Shape, draw_round, round, vectors};
 use std::alloc::{AllocError, Global};
 
 /// Numbers, and what each draws first.
