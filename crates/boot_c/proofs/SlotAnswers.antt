@@ -2,13 +2,13 @@
 use Rattle.std.specs.Prelude.{◌≡◌, ◌⊎◌, ◌<◌, ◌≤◌, ℕ, ℤ, List, None, Some, length, slice_index_or}
 use Rattle.std.proofs.Common.{◌∙◌, ap, arith, inl, inr, subst, sym}
 use Rattle.boot_c.specs.BootAnswers.{HasNoConfig}
-use Rattle.boot_c.specs.SlotAnswers.{InUse, IsFaultAnswer, IsHeldAnswer, IsSlotAnswer, LacksComponent, NoComponent, NoConfig, NoRecord, StandsIn}
+use Rattle.boot_c.specs.SlotAnswers.{InUse, IsFaultAnswer, IsHeldAnswer, IsSlotAnswer, LacksComponent, LacksRecord, NoComponent, NoConfig, NoRecord, StandsIn}
 use Rattle.boot_c.specs.SlotsInUse.{IsInUse}
 use Rattle.boot_c.specs.declared.slot.SuitSlot.{SuitSlot}
 use Rattle.flash_layout.specs.ConfigLaws.{OneAnswer}
 use Rattle.flash_layout.specs.Configs.{Bad, Blank, Config, Configured}
 use Rattle.flash_layout.specs.Frames.{head_of}
-use Rattle.flash_layout.specs.declared.frame.TheConstants.{VERSION_1}
+use Rattle.flash_layout.specs.declared.frame.Frame.{Frame}
 use Rattle.flash_layout.specs.declared.key.Key.{Key}
 use Rattle.flash_layout.specs.declared.layout.Entry.{Entry}
 use Rattle.flash_layout.specs.declared.layout.Memory.{Memory}
@@ -27,19 +27,30 @@ layout_or other (Configured layout key frame) = layout
 layout_or other Blank = other
 layout_or other Bad = other
 
-one_layout : (law : OneAnswer) (flash : List ℕ) (layout others : List Entry) (key other : Key) → config_in (length flash) flash layout key → config_in (length flash) flash others other → layout ≡ others
-unfolding layout_or
-one_layout law flash layout others key other a b = ap (layout_or layout) (law (length flash) flash (Configured layout key VERSION_1) (Configured others other VERSION_1) a b)
+frame_or : Frame → Config → Frame
+frame_or other (Configured layout key frame) = frame
+frame_or other Blank = other
+frame_or other Bad = other
 
-blank_is_none : (layout : List Entry) (key : Key) → Blank ≡ Configured layout key VERSION_1 → ⊥
-blank_is_none layout key e = absurd cc
+module _ (law : OneAnswer) (flash : List ℕ) (layout others : List Entry) (key other : Key) (frame second : Frame) (a : config_in frame (length flash) flash layout key) (b : config_in second (length flash) flash others other) where
+  one_layout : layout ≡ others
+  unfolding layout_or
+  one_layout = ap (layout_or layout) (law (length flash) flash (Configured layout key frame) (Configured others other second) a b)
 
-bad_is_none : (layout : List Entry) (key : Key) → Bad ≡ Configured layout key VERSION_1 → ⊥
-bad_is_none layout key e = absurd cc
+  one_frame : frame ≡ second
+  unfolding frame_or
+  one_frame = ap (frame_or frame) (law (length flash) flash (Configured layout key frame) (Configured others other second) a b)
 
-never_both : (law : OneAnswer) (flash : List ℕ) (layout : List Entry) (key : Key) → HasNoConfig flash → config_in (length flash) flash layout key → ⊥
-never_both law flash layout key (inl blank) config = blank_is_none layout key (law (length flash) flash Blank (Configured layout key VERSION_1) blank config)
-never_both law flash layout key (inr bad) config = bad_is_none layout key (law (length flash) flash Bad (Configured layout key VERSION_1) bad config)
+module _ (layout : List Entry) (key : Key) (frame : Frame) where
+  blank_is_none : Blank ≡ Configured layout key frame → ⊥
+  blank_is_none e = absurd cc
+
+  bad_is_none : Bad ≡ Configured layout key frame → ⊥
+  bad_is_none e = absurd cc
+
+  never_both : (law : OneAnswer) (flash : List ℕ) → HasNoConfig flash → config_in frame (length flash) flash layout key → ⊥
+  never_both law flash (inl blank) config = blank_is_none (law (length flash) flash Blank (Configured layout key frame) blank config)
+  never_both law flash (inr bad) config = bad_is_none (law (length flash) flash Bad (Configured layout key frame) bad config)
 
 -- ---- a component stands in one memory
 
@@ -64,32 +75,35 @@ in_use_stands flash component slot is = record { within = is.within; entry = is.
 
 -- ---- the reasons exclude each other
 
-component_or_stands : (law : OneAnswer) (flash : List ℕ) (component : ℕ) (lacks : LacksComponent flash component) (layout : List Entry) (key : Key) → config_in (length flash) flash layout key → StandsIn layout component memory.Flash → ⊥
-component_or_stands law flash component lacks layout key config stands =
-    lacks_none lacks.layout component lacks.none (subst (λ (l : List Entry). StandsIn l component memory.Flash) (one_layout law flash layout lacks.layout key lacks.key config lacks.config) stands)
+component_or_stands : (law : OneAnswer) (flash : List ℕ) (component : ℕ) (lacks : LacksComponent flash component) (layout : List Entry) (key : Key) (frame : Frame) → config_in frame (length flash) flash layout key → StandsIn layout component memory.Flash → ⊥
+component_or_stands law flash component lacks layout key frame config stands =
+    lacks_none lacks.layout component lacks.none (subst (λ (l : List Entry). StandsIn l component memory.Flash) (one_layout law flash layout lacks.layout key lacks.key frame lacks.frame config lacks.config) stands)
 
 some_or_none : (r : Record) → Some r ≡ None → ⊥
 some_or_none r e = absurd cc
 
-record_or_none : (law : records.OneAnswer) (flash : List ℕ) (r : Record) → record_in flash (Some r) → record_in flash None → ⊥
-record_or_none law flash r some none = some_or_none r (law VERSION_1 (head_of VERSION_1 flash) (Some r) None some none)
+record_or_none : (law : OneAnswer) (one_record : records.OneAnswer) (flash : List ℕ) (component : ℕ) (slot : SuitSlot) → IsInUse flash component slot → LacksRecord flash component → ⊥
+record_or_none law one_record flash component slot is lacks =
+    let frame = one_frame law flash is.layout lacks.layout is.key lacks.key is.frame lacks.frame is.config lacks.config in
+    let recorded = subst (λ (f : Frame). record_in f flash (Some is.installed)) frame is.recorded in
+    some_or_none is.installed (one_record lacks.frame (head_of lacks.frame flash) (Some is.installed) None recorded lacks.none)
 
 pub one_held : (law : OneAnswer) (one_record : records.OneAnswer) (flash : List ℕ) (component : ℕ) (a b : Answer) → IsHeldAnswer flash component a → IsHeldAnswer flash component b → a ≡ b
 one_held law one_record flash component a b (InUse slot is x) (InUse other also y) = x ∙ sym y
-one_held law one_record flash component a b (InUse slot is x) (NoConfig none y) = absurd (never_both law flash is.layout is.key none is.config)
-one_held law one_record flash component a b (InUse slot is x) (NoComponent lacks y) = absurd (component_or_stands law flash component lacks is.layout is.key is.config (in_use_stands flash component slot is))
-one_held law one_record flash component a b (InUse slot is x) (NoRecord lacks y) = absurd (record_or_none one_record flash is.installed is.recorded lacks.none)
-one_held law one_record flash component a b (NoConfig none x) (InUse slot is y) = absurd (never_both law flash is.layout is.key none is.config)
+one_held law one_record flash component a b (InUse slot is x) (NoConfig none y) = absurd (never_both is.layout is.key is.frame law flash none is.config)
+one_held law one_record flash component a b (InUse slot is x) (NoComponent lacks y) = absurd (component_or_stands law flash component lacks is.layout is.key is.frame is.config (in_use_stands flash component slot is))
+one_held law one_record flash component a b (InUse slot is x) (NoRecord lacks y) = absurd (record_or_none law one_record flash component slot is lacks)
+one_held law one_record flash component a b (NoConfig none x) (InUse slot is y) = absurd (never_both is.layout is.key is.frame law flash none is.config)
 one_held law one_record flash component a b (NoConfig none x) (NoConfig also y) = x ∙ sym y
-one_held law one_record flash component a b (NoConfig none x) (NoComponent lacks y) = absurd (never_both law flash lacks.layout lacks.key none lacks.config)
-one_held law one_record flash component a b (NoConfig none x) (NoRecord lacks y) = absurd (never_both law flash lacks.layout lacks.key none lacks.config)
-one_held law one_record flash component a b (NoComponent lacks x) (InUse slot is y) = absurd (component_or_stands law flash component lacks is.layout is.key is.config (in_use_stands flash component slot is))
-one_held law one_record flash component a b (NoComponent lacks x) (NoConfig none y) = absurd (never_both law flash lacks.layout lacks.key none lacks.config)
+one_held law one_record flash component a b (NoConfig none x) (NoComponent lacks y) = absurd (never_both lacks.layout lacks.key lacks.frame law flash none lacks.config)
+one_held law one_record flash component a b (NoConfig none x) (NoRecord lacks y) = absurd (never_both lacks.layout lacks.key lacks.frame law flash none lacks.config)
+one_held law one_record flash component a b (NoComponent lacks x) (InUse slot is y) = absurd (component_or_stands law flash component lacks is.layout is.key is.frame is.config (in_use_stands flash component slot is))
+one_held law one_record flash component a b (NoComponent lacks x) (NoConfig none y) = absurd (never_both lacks.layout lacks.key lacks.frame law flash none lacks.config)
 one_held law one_record flash component a b (NoComponent lacks x) (NoComponent also y) = x ∙ sym y
-one_held law one_record flash component a b (NoComponent lacks x) (NoRecord none y) = absurd (component_or_stands law flash component lacks none.layout none.key none.config none.stands)
-one_held law one_record flash component a b (NoRecord lacks x) (InUse slot is y) = absurd (record_or_none one_record flash is.installed is.recorded lacks.none)
-one_held law one_record flash component a b (NoRecord lacks x) (NoConfig none y) = absurd (never_both law flash lacks.layout lacks.key none lacks.config)
-one_held law one_record flash component a b (NoRecord none x) (NoComponent lacks y) = absurd (component_or_stands law flash component lacks none.layout none.key none.config none.stands)
+one_held law one_record flash component a b (NoComponent lacks x) (NoRecord none y) = absurd (component_or_stands law flash component lacks none.layout none.key none.frame none.config none.stands)
+one_held law one_record flash component a b (NoRecord lacks x) (InUse slot is y) = absurd (record_or_none law one_record flash component slot is lacks)
+one_held law one_record flash component a b (NoRecord lacks x) (NoConfig none y) = absurd (never_both lacks.layout lacks.key lacks.frame law flash none lacks.config)
+one_held law one_record flash component a b (NoRecord none x) (NoComponent lacks y) = absurd (component_or_stands law flash component lacks none.layout none.key none.frame none.config none.stands)
 one_held law one_record flash component a b (NoRecord lacks x) (NoRecord also y) = x ∙ sym y
 
 pub told_held : (law : OneAnswer) (one_record : records.OneAnswer) (flash : List ℕ) (component : ℕ) (a b : Answer) → IsSlotAnswer flash component a → IsHeldAnswer flash component b → (a ≡ b) ⊎ IsFaultAnswer a

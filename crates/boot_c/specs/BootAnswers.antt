@@ -1,5 +1,6 @@
 -- What a boot answers.
 use Rattle.std.specs.Prelude.{◌≡◌, ◌⊎◌, ℕ, List, length}
+use Rattle.flash_layout.specs.declared.frame.Frame.{Frame}
 use Rattle.flash_layout.specs.Configs.{Bad, Blank, ConfigOf}
 use Rattle.flash_layout.specs.declared.key.Key.{Key}
 use Rattle.flash_layout.specs.declared.layout.Entry.{Entry}
@@ -33,9 +34,10 @@ boot_answer ends.FlashFault = answers.FlashFault
 pub record Ends (flash : List ℕ) (answer : Answer) : Type 0 where
   pub layout : List Entry
   pub key : Key
-  pub config : config_in (length flash) flash layout key
+  pub frame : Frame
+  pub config : config_in frame (length flash) flash layout key
   pub end : BootEnd
-  pub ended : Answers layout key flash end
+  pub ended : Answers frame layout key flash end
   pub told : (answer ≡ boot_answer end) ⊎ ((end ≡ ends.Ended) × (answer ≡ answers.LaunchFault))
 
 abbrev pub HasNoConfig : List ℕ → Type 0

@@ -1,6 +1,7 @@
 -- The image that a boot starts (draft-ietf-suit-manifest-25, section 6.2; what is noted of it is this project's own).
 use Rattle.std.specs.Prelude.{◌≡◌, ◌≤◌, ◌+◌, ◌∷◌, ℕ, List, [], Some, None, length, take, slice_range}
 use Rattle.boot_c.specs.declared.image.SuitImage.{SuitImage}
+use Rattle.flash_layout.specs.declared.frame.Frame.{Frame}
 use Rattle.flash_layout.specs.declared.key.Key.{Key}
 use Rattle.flash_layout.specs.declared.layout.Entry.{Entry}
 use Rattle.flash_view.specs.Noting.{items_in}
@@ -43,17 +44,19 @@ pub record IsLaunched (flash : List ℕ) (image : SuitImage) (launch : Launch) :
 pub record Starts (flash : List ℕ) (image : SuitImage) : Type 0 where
   pub layout : List Entry
   pub key : Key
-  pub config : config_in (length flash) flash layout key
+  pub frame : Frame
+  pub config : config_in frame (length flash) flash layout key
   pub launch : Launch
   pub launched : IsLaunched flash image launch
   pub after : List ℕ
-  pub plays : PlaysBoot layout key (λ _. None) flash after [] (launch ∷ []) plays.Done
+  pub plays : PlaysBoot frame layout key (λ _. None) flash after [] (launch ∷ []) plays.Done
   pub safe : Sound flash → HasItsDigest (launched_as launch)
 
 -- it was, and launched nothing
 pub record StartsNone (flash : List ℕ) : Type 0 where
   pub layout : List Entry
   pub key : Key
-  pub config : config_in (length flash) flash layout key
+  pub frame : Frame
+  pub config : config_in frame (length flash) flash layout key
   pub after : List ℕ
-  pub plays : PlaysBoot layout key (λ _. None) flash after [] [] plays.Done
+  pub plays : PlaysBoot frame layout key (λ _. None) flash after [] [] plays.Done

@@ -3,6 +3,7 @@ use Rattle.std.specs.Prelude.{◌≡◌, ◌⊎◌, ◌<◌, ◌≤◌, ℕ, Lis
 use Rattle.boot_c.specs.BootAnswers.{HasNoConfig}
 use Rattle.boot_c.specs.SlotsInUse.{IsInUse}
 use Rattle.boot_c.specs.declared.slot.SuitSlot.{SuitSlot}
+use Rattle.flash_layout.specs.declared.frame.Frame.{Frame}
 use Rattle.flash_layout.specs.declared.key.Key.{Key}
 use Rattle.flash_layout.specs.declared.layout.Entry.{Entry}
 use Rattle.flash_layout.specs.declared.layout.Memory.{Memory}
@@ -22,16 +23,18 @@ pub record StandsIn (layout : List Entry) (component : ℕ) (where_it_is : Memor
 pub record LacksComponent (flash : List ℕ) (component : ℕ) : Type 0 where
   pub layout : List Entry
   pub key : Key
-  pub config : config_in (length flash) flash layout key
+  pub frame : Frame
+  pub config : config_in frame (length flash) flash layout key
   pub none : (length layout ≤ component) ⊎ StandsIn layout component memory.Ram
 
 -- it has one in flash, and the flash has no record
 pub record LacksRecord (flash : List ℕ) (component : ℕ) : Type 0 where
   pub layout : List Entry
   pub key : Key
-  pub config : config_in (length flash) flash layout key
+  pub frame : Frame
+  pub config : config_in frame (length flash) flash layout key
   pub stands : StandsIn layout component memory.Flash
-  pub none : record_in flash None
+  pub none : record_in frame flash None
 
 -- the answer to what the flash holds
 pub data IsHeldAnswer (flash : List ℕ) (component : ℕ) (answer : Answer) : Type 0 where

@@ -1,6 +1,7 @@
 -- The slot of a component that is in use (this project's own).
 use Rattle.std.specs.Prelude.{◌≡◌, ◌<◌, ◌≤◌, ◌+◌, ℕ, List, Some, length, slice_index, slice_index_or}
 use Rattle.boot_c.specs.declared.slot.SuitSlot.{SuitSlot}
+use Rattle.flash_layout.specs.declared.frame.Frame.{Frame}
 use Rattle.flash_layout.specs.Slots.{slot_at, slot_content}
 use Rattle.flash_layout.specs.Layouts.{slot_starts}
 use Rattle.flash_layout.specs.declared.frame.TheConstants.{LENGTH_SIZE}
@@ -31,9 +32,10 @@ SlotLiesIn flash slot = (slot.length ≤ slot.capacity) × (slot.place + slot.ca
 pub record IsInUse (flash : List ℕ) (component : ℕ) (slot : SuitSlot) : Type 0 where
   pub layout : List Entry
   pub key : Key
-  pub config : config_in (length flash) flash layout key
+  pub frame : Frame
+  pub config : config_in frame (length flash) flash layout key
   pub installed : Record
-  pub recorded : record_in flash (Some installed)
+  pub recorded : record_in frame flash (Some installed)
   pub entry : Entry
   pub within : component < length layout
   pub is : (d : Entry) → entry ≡ slice_index_or layout component d

@@ -8,7 +8,6 @@ use Rattle.suit_manifest.specs.Procedures.{invocation_tree}
 use Rattle.path_model.specs.declared.cause.Cause.{Cause}
 use Rattle.path_model.specs.declared.cause.Cause.TheVariants as causes
 use Rattle.flash_layout.specs.declared.frame.Frame.{Frame}
-use Rattle.flash_layout.specs.declared.frame.TheConstants.{VERSION_1}
 use Rattle.flash_layout.specs.declared.key.Key.{Key}
 use Rattle.flash_layout.specs.declared.layout.Entry.{Entry}
 use Rattle.flash_layout.specs.declared.slot.Record.{Record}
@@ -44,6 +43,7 @@ use Rattle.suit_cli.specs.Stages.{Declines, Ending, Ends, FaultOf, Goes, NoMemor
 use Rattle.suit_cli.specs.Statuses.{ending_status}
 use Rattle.suit_cli.specs.Words.{RunBoot, RunUpdate, task_of}
 use Rattle.suit_cli.proofs.Running.{Declining, holds_none_declines, status_done}
+use Rattle.suit_cli.proofs.OneAnswers.{one_config}
 use Rattle.suit_cli.proofs.TaskAnswers.{does_of}
 use Rattle.suit_cli.proofs.UpdateEnds.{cause_not_low}
 use Rattle.completeness.specs.Outcomes.{AreTold, IsFaultless, LeavesFlash}
@@ -53,7 +53,7 @@ use Rattle.completeness.proofs.Begun.{never_fault, two_faults}
 use Rattle.completeness.proofs.Leaving.{completes, leaves, never_condition, never_stops, starved_leaves}
 use Rattle.completeness.proofs.SamePlaces.{no_entry, one_standing, same_places, stand_there, turned}
 use Rattle.completeness.proofs.UpdatePlayed.{SeesSame}
-use Rattle.completeness.proofs.UpdateProofs.{configured_once, inside_there}
+use Rattle.completeness.proofs.UpdateProofs.{inside_there}
 
 -- ---- the active slots are determined
 
@@ -95,15 +95,15 @@ Is_reply (Says reply) = Unit {0}
 Is_reply _ = ⊥
 
 -- and none comes where there is a configuration
-never_reply : OneConfigAnswer → (layout : List Entry) (key : Key) (b a : Outside) → IsTrue b.flash.told → ConfigOf b.flash.size b.flash.reads (Configured layout key VERSION_1)
+never_reply : OneConfigAnswer → (layout : List Entry) (key : Key) (frame : Frame) (b a : Outside) → IsTrue b.flash.told → ConfigOf b.flash.size b.flash.reads (Configured layout key frame)
     → (e : Ending) → Is_reply e → begins_boot b a e → ⊥
-never_reply configs layout key b a told held _ is (Declines reply (looks, IsBlank blank says)) =
-    let never = configs b.flash.size b.flash.reads (Configured layout key VERSION_1) Blank held (blank told) in cc
-never_reply configs layout key b a told held _ is (Declines reply (looks, IsBad bad says)) =
-    let never = configs b.flash.size b.flash.reads (Configured layout key VERSION_1) Bad held (bad told) in cc
-never_reply configs layout key b a told held _ is (Goes config m _ given (Ends reply same says)) = says
-never_reply configs layout key b a told held (FaultOf object) is begun = is
-never_reply configs layout key b a told held NoMemory is begun = is
+never_reply configs layout key frame b a told held _ is (Declines reply (looks, IsBlank blank says)) =
+    let never = configs b.flash.size b.flash.reads (Configured layout key frame) Blank held (blank told) in cc
+never_reply configs layout key frame b a told held _ is (Declines reply (looks, IsBad bad says)) =
+    let never = configs b.flash.size b.flash.reads (Configured layout key frame) Bad held (bad told) in cc
+never_reply configs layout key frame b a told held _ is (Goes config m _ given (Ends reply same says)) = says
+never_reply configs layout key frame b a told held (FaultOf object) is begun = is
+never_reply configs layout key frame b a told held NoMemory is begun = is
 
 -- ---- done, where it is ready
 
@@ -113,10 +113,10 @@ module _ (configs : OneConfigAnswer) (records : OneAnswer) (laws : BootLaws) whe
     R = ready.records
 
     abbrev Bank : List ℕ
-    Bank = bank_in b.flash.reads R.installed
+    Bank = bank_in R.frame b.flash.reads R.installed
 
-    same_record : (r : Record) → RecordOf VERSION_1 (head_of VERSION_1 b.flash.reads) (Some r) → r ≡ R.installed
-    same_record r recorded = same_Some r R.installed (records VERSION_1 (head_of VERSION_1 b.flash.reads) (Some r) (Some R.installed) recorded R.recorded)
+    same_record : (r : Record) → RecordOf R.frame (head_of R.frame b.flash.reads) (Some r) → r ≡ R.installed
+    same_record r recorded = same_Some r R.installed (records R.frame (head_of R.frame b.flash.reads) (Some r) (Some R.installed) recorded R.recorded)
 
     -- the play on the active slots
     record Replayed (play : PlanEnd) : Type 0 where
@@ -124,15 +124,15 @@ module _ (configs : OneConfigAnswer) (records : OneAnswer) (laws : BootLaws) whe
       pub plays_so : PlaysPlan (invocation_tree R.is.said) (setting_of ready.on.standings [] [] (steady b.files)) play
           (contents_of ready.on.standings (empty_ram R.layout) b.flash.reads) (contents_of ready.on.standings ram a.flash.reads) l.launches n.launches
 
-    replayed : (play : PlanEnd) → PlaysBoot R.layout R.key b.files b.flash.reads a.flash.reads l.launches n.launches play → Replayed play
+    replayed : (play : PlanEnd) → PlaysBoot R.frame R.layout R.key b.files b.flash.reads a.flash.reads l.launches n.launches play → Replayed play
     replayed play p =
         let record_is = same_record p.installed p.starts.recorded in
         let start = laws.installed R.layout R.key Bank R.installed R.is in
-        let started = subst (λ (z : Record). IsStarted R.layout (key_bytes R.key) (bank_in b.flash.reads z) p.starts.said p.manifest) record_is p.starts.started in
+        let started = subst (λ (z : Record). IsStarted R.layout (key_bytes R.key) (bank_in R.frame b.flash.reads z) p.starts.said p.manifest) record_is p.starts.started in
         let manifest = (laws.same R.layout (key_bytes R.key) Bank p.starts.said start.0 p.manifest R.is.said R.is.are_bytes started start.1).1 in
         let on = subst (λ (z : Record). PlaysOn R.layout R.is.said z.active b.files b.flash.reads a.flash.reads l.launches n.launches play) record_is
         (subst (λ (z : Manifest). PlaysOn R.layout z p.installed.active b.files b.flash.reads a.flash.reads l.launches n.launches play) manifest p.on) in
-        let standings = one_active VERSION_1 b.flash.size R.layout (R.configured ready.told.flash).page.allowed R.is.said.components R.installed.active ready.on.standings on.standings
+        let standings = one_active R.frame b.flash.size R.layout (R.configured ready.told.flash).page.allowed R.is.said.components R.installed.active ready.on.standings on.standings
         ready.on.stand on.stand in
         record {
           ram = on.ram;
@@ -140,29 +140,29 @@ module _ (configs : OneConfigAnswer) (records : OneAnswer) (laws : BootLaws) whe
               (contents_of t (empty_ram R.layout) b.flash.reads) (contents_of t on.ram a.flash.reads) l.launches n.launches) standings on.plays;
         }
 
-    never_declined : (r : Record) → RecordOf VERSION_1 (head_of VERSION_1 b.flash.reads) (Some r) → (end : BootEnd) → IsDeclined R.layout (key_bytes R.key) (bank_in b.flash.reads r) end → ⊥
+    never_declined : (r : Record) → RecordOf R.frame (head_of R.frame b.flash.reads) (Some r) → (end : BootEnd) → IsDeclined R.layout (key_bytes R.key) (bank_in R.frame b.flash.reads r) end → ⊥
     never_declined r recorded end declined =
         let start = laws.installed R.layout R.key Bank R.installed R.is in
         laws.none R.layout (key_bytes R.key) Bank start.0 R.is.said end R.is.are_bytes start.1
-        (subst (λ (z : Record). IsDeclined R.layout (key_bytes R.key) (bank_in b.flash.reads z) end) (same_record r recorded) declined)
+        (subst (λ (z : Record). IsDeclined R.layout (key_bytes R.key) (bank_in R.frame b.flash.reads z) end) (same_record r recorded) declined)
 
     module _ (mid : Outside) (sees : SeesSame b mid) (faultless : IsFaultless l n b a) where
       mid_flash_told : IsTrue mid.flash.told
       mid_flash_told = subst IsTrue (sym sees.flash_told) ready.told.flash
 
-      plays_there : (play : PlanEnd) → PlaysBoot R.layout R.key mid.files mid.flash.reads a.flash.reads l.launches n.launches play → Replayed play
+      plays_there : (play : PlanEnd) → PlaysBoot R.frame R.layout R.key mid.files mid.flash.reads a.flash.reads l.launches n.launches play → Replayed play
       plays_there play p = replayed play
-          (subst (λ (z : List ℕ → Option (List ℕ)). PlaysBoot R.layout R.key z b.flash.reads a.flash.reads l.launches n.launches play) sees.files
-          (subst (λ (z : List ℕ). PlaysBoot R.layout R.key mid.files z a.flash.reads l.launches n.launches play) sees.reads p))
+          (subst (λ (z : List ℕ → Option (List ℕ)). PlaysBoot R.frame R.layout R.key z b.flash.reads a.flash.reads l.launches n.launches play) sees.files
+          (subst (λ (z : List ℕ). PlaysBoot R.frame R.layout R.key mid.files z a.flash.reads l.launches n.launches play) sees.reads p))
 
-      recorded_there : (r : Option Record) → RecordOf VERSION_1 (head_of VERSION_1 mid.flash.reads) r → RecordOf VERSION_1 (head_of VERSION_1 b.flash.reads) r
-      recorded_there r recorded = subst (λ (z : List ℕ). RecordOf VERSION_1 (head_of VERSION_1 z) r) sees.reads recorded
+      recorded_there : (r : Option Record) → RecordOf R.frame (head_of R.frame mid.flash.reads) r → RecordOf R.frame (head_of R.frame b.flash.reads) r
+      recorded_there r recorded = subst (λ (z : List ℕ). RecordOf R.frame (head_of R.frame z) r) sees.reads recorded
 
-      declined_there : (r : Record) → RecordOf VERSION_1 (head_of VERSION_1 mid.flash.reads) (Some r) → (end : BootEnd) → IsDeclined R.layout (key_bytes R.key) (bank_in mid.flash.reads r) end → ⊥
+      declined_there : (r : Record) → RecordOf R.frame (head_of R.frame mid.flash.reads) (Some r) → (end : BootEnd) → IsDeclined R.layout (key_bytes R.key) (bank_in R.frame mid.flash.reads r) end → ⊥
       declined_there r recorded end declined = never_declined r (recorded_there (Some r) recorded) end
-          (subst (λ (z : List ℕ). IsDeclined R.layout (key_bytes R.key) (bank_in z r) end) sees.reads declined)
+          (subst (λ (z : List ℕ). IsDeclined R.layout (key_bytes R.key) (bank_in R.frame z r) end) sees.reads declined)
 
-      never_stopped : (place : ℕ) (cause : Cause) → PlaysBoot R.layout R.key mid.files mid.flash.reads a.flash.reads l.launches n.launches (plays.DirectiveFailed place cause)
+      never_stopped : (place : ℕ) (cause : Cause) → PlaysBoot R.frame R.layout R.key mid.files mid.flash.reads a.flash.reads l.launches n.launches (plays.DirectiveFailed place cause)
           → CountsFor cause (counts_of mid.faults mid.flash.faults l.faults) (counts_of a.faults a.flash.faults n.faults) → ⊥
       never_stopped place causes.Missing p c = never_stops _ place causes.Missing _ ready.completes (plays_there (plays.DirectiveFailed place causes.Missing) p).plays_so.ends
       never_stopped place causes.SelfCopy p c = never_stops _ place causes.SelfCopy _ ready.completes (plays_there (plays.DirectiveFailed place causes.SelfCopy) p).plays_so.ends
@@ -175,12 +175,12 @@ module _ (configs : OneConfigAnswer) (records : OneAnswer) (laws : BootLaws) whe
       data Way : BootEnd → Type 0 where
         Whole : LeavesPlay ready.on.standings (boot_play R.layout R.is.said R.installed b ready.on) l.launches n.launches a.flash.reads → Way ends.Ended
 
-      way : (end : BootEnd) → IsBoot R.layout R.key l n mid a end → Way end
+      way : (end : BootEnd) → IsBoot (R.layout, R.key, R.frame) l n mid a end → Way end
       way ends.Ended u =
           let p = plays_there plays.Done (u.plays mid_flash_told ready.told.launcher) in
           Whole (leaves (invocation_tree R.is.said) _ _ _ _ _ ready.on.standings p.ram a.flash.reads refl p.plays_so)
       way ends.NothingInstalled u =
-          let never = records VERSION_1 (head_of VERSION_1 b.flash.reads) None (Some R.installed) (recorded_there None (u.answers mid_flash_told)) R.recorded in absurd cc
+          let never = records R.frame (head_of R.frame b.flash.reads) None (Some R.installed) (recorded_there None (u.answers mid_flash_told)) R.recorded in absurd cc
       way (ends.BadBank refusal) u = let x = u.answers mid_flash_told in absurd (declined_there x.0 x.1 (ends.BadBank refusal) x.2)
       way (ends.NotAuthentic lacking) u = let x = u.answers mid_flash_told in absurd (declined_there x.0 x.1 (ends.NotAuthentic lacking) x.2)
       way (ends.UnknownComponent component) u = let x = u.answers mid_flash_told in absurd (declined_there x.0 x.1 (ends.UnknownComponent component) x.2)
@@ -194,15 +194,14 @@ module _ (configs : OneConfigAnswer) (records : OneAnswer) (laws : BootLaws) whe
         → BootsWhole words l b ready n a (Booted end lines)
     of_way _ lines u faultless (Whole left) = record { ended_is = ap (λ (z : List ℕ). Booted ends.Ended z) u.lines_are; left = left; files = boot_files l n b a ends.Ended lines u ready.told }
 
-    boot_there : (end : BootEnd) (lines : List ℕ) (u : Boots l n b a end lines) → IsBoot R.layout R.key l n u.middle a end
+    boot_there : (end : BootEnd) (lines : List ℕ) (u : Boots l n b a end lines) → IsBoot (R.layout, R.key, R.frame) l n u.middle a end
     boot_there end lines u =
-        let config = configured_once u.layout R.layout u.key R.key (configs b.flash.size b.flash.reads (Configured u.layout u.key VERSION_1) (Configured R.layout R.key VERSION_1)
-        (u.held.1 ready.told.flash) (R.configured ready.told.flash)) in
-        subst (λ (z : Key). IsBoot R.layout z l n u.middle a end) config.1 (subst (λ (z : List Entry). IsBoot z u.key l n u.middle a end) config.0 u.boot)
+        let same = (one_config configs b.flash ready.told.flash).value (R.layout, R.key, R.frame) (u.layout, u.key, u.frame) R.configured u.held.1 in
+        subst (λ (config : List Entry × Key × Frame). IsBoot config l n u.middle a end) same u.boot
 
     of_stages : (e : Ending) → answers words b a e → n ≡ l → IsFaultless l n b a → BootsWhole words l b ready n a (Answered e) ⊎ LeavesFlash l n b a (Answered e)
     of_stages (Says reply) answer same faultless =
-        absurd (never_reply configs R.layout R.key b a ready.told.flash (R.configured ready.told.flash) (Says reply) tt (does_of words b a reply RunBoot ready.asks answer))
+        absurd (never_reply configs R.layout R.key R.frame b a ready.told.flash (R.configured ready.told.flash) (Says reply) tt (does_of words b a reply RunBoot ready.asks answer))
     of_stages (FaultOf object) answer same faultless = absurd (never_fault words l n b a (FaultOf object) answer tt faultless)
     of_stages NoMemory answer same faultless = inr (starved_leaves words l n b a ready.told answer same)
 
@@ -220,29 +219,29 @@ module _ (configs : OneConfigAnswer) (records : OneAnswer) (laws : BootLaws) whe
       seen : SeesSame b u.middle
       seen = boot_sees l n b a ends.Ended lines u told
 
-      play : PlaysBoot u.layout u.key b.files b.flash.reads a.flash.reads l.launches n.launches plays.Done
+      play : PlaysBoot u.frame u.layout u.key b.files b.flash.reads a.flash.reads l.launches n.launches plays.Done
       play =
-          subst (λ (z : List ℕ → Option (List ℕ)). PlaysBoot u.layout u.key z b.flash.reads a.flash.reads l.launches n.launches plays.Done) seen.files
-          (subst (λ (z : List ℕ). PlaysBoot u.layout u.key u.middle.files z a.flash.reads l.launches n.launches plays.Done) seen.reads
+          subst (λ (z : List ℕ → Option (List ℕ)). PlaysBoot u.frame u.layout u.key z b.flash.reads a.flash.reads l.launches n.launches plays.Done) seen.files
+          (subst (λ (z : List ℕ). PlaysBoot u.frame u.layout u.key u.middle.files z a.flash.reads l.launches n.launches plays.Done) seen.reads
           (u.boot.plays (subst IsTrue (sym seen.flash_told) told.flash) told.launcher))
 
-      has_recorded : HasRecorded VERSION_1 u.layout u.key play.installed b.flash.reads
+      has_recorded : HasRecorded u.frame u.layout u.key play.installed b.flash.reads
       has_recorded = record {
-        config = subst (λ (z : ℕ). ConfigOf z b.flash.reads (Configured u.layout u.key VERSION_1)) size (u.held.1 told.flash);
+        config = subst (λ (z : ℕ). ConfigOf z b.flash.reads (Configured u.layout u.key u.frame)) size (u.held.1 told.flash);
         record_is = play.starts.recorded;
       }
 
-      is_installed : IsInstalled u.layout u.key (bank_in b.flash.reads play.installed) play.installed
-      is_installed = soundness.installed VERSION_1 u.layout u.key play.installed b.flash.reads has_recorded sound
+      is_installed : IsInstalled u.layout u.key (bank_in u.frame b.flash.reads play.installed) play.installed
+      is_installed = soundness.installed u.frame u.layout u.key play.installed b.flash.reads has_recorded sound
 
       records_there : Records b
-      records_there = record { layout = u.layout; key = u.key; configured = u.held.1; installed = play.installed; recorded = play.starts.recorded; is = is_installed }
+      records_there = record { layout = u.layout; key = u.key; frame = u.frame; configured = u.held.1; installed = play.installed; recorded = play.starts.recorded; is = is_installed }
 
       on_there : PlaysOn u.layout is_installed.said play.installed.active b.files b.flash.reads a.flash.reads l.launches n.launches plays.Done
       on_there =
-          let start = laws.installed u.layout u.key (bank_in b.flash.reads play.installed) play.installed is_installed in
+          let start = laws.installed u.layout u.key (bank_in u.frame b.flash.reads play.installed) play.installed is_installed in
           subst (λ (z : Manifest). PlaysOn u.layout z play.installed.active b.files b.flash.reads a.flash.reads l.launches n.launches plays.Done)
-          (laws.same u.layout (key_bytes u.key) (bank_in b.flash.reads play.installed) play.starts.said start.0 play.manifest is_installed.said is_installed.are_bytes play.starts.started start.1).1
+          (laws.same u.layout (key_bytes u.key) (bank_in u.frame b.flash.reads play.installed) play.starts.said start.0 play.manifest is_installed.said is_installed.are_bytes play.starts.started start.1).1
           play.on
 
       activates : Activates u.layout play.installed is_installed.said

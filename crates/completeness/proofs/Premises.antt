@@ -1,5 +1,5 @@
 -- What an offer or a record needs besides is there: places, slots and payloads.
-use Rattle.std.proofs.Common.{◌≡◌, ◌⊎◌, inl, inr, ◌<◌, ◌≤◌, ◌-◌, ℕ, List, [], length, get_or, map, Option, Some, None, refl, sym, ◌∙◌, ap, IsTrue, arith}
+use Rattle.std.proofs.Common.{◌≡◌, ◌⊎◌, inl, inr, ◌<◌, ◌≤◌, ◌-◌, ℕ, List, [], length, get_or, map, Option, Some, None, refl, sym, ◌∙◌, ap, subst, IsTrue, arith}
 use Rattle.std.specs.List.{range_with_len}
 use Rattle.std.proofs.lemmas.List.{get_or_default, get_or_past, length-replicate}
 use Rattle.std.proofs.lemmas.List.FromFn.{length-map-range_with_len, get_or-map-range_with_len}
@@ -8,11 +8,12 @@ use Rattle.suit_commands.specs.Targets.{IsTarget}
 use Rattle.suit_envelope.specs.Envelopes.{EnvelopeSays, map_entries}
 use Rattle.suit_envelope.specs.Payloads.{HasPayloads, integrated_payloads}
 use Rattle.suit_envelope.specs.Said.{EnvelopeOf}
+use Rattle.flash_layout.specs.declared.frame.Frame.{Frame}
 use Rattle.flash_layout.specs.declared.frame.TheConstants.{VERSION_1}
 use Rattle.flash_layout.specs.declared.layout.Entry.{Entry}
 use Rattle.flash_layout.specs.declared.place.Places.{Places}
 use Rattle.flash_layout.specs.declared.slot.Record.{Record}
-use Rattle.flash_layout.specs.Frames.{head_of}
+use Rattle.flash_layout.specs.Frames.{head_of, most}
 use Rattle.flash_layout.specs.Placement.{ArePlaces}
 use Rattle.rollback_record.specs.HeadRecord.{RecordOf}
 use Rattle.step_machine.specs.declared.spot.Standing.{Standing}
@@ -184,7 +185,7 @@ can_set name before told o =
 
 pub can_activate : (before : Outside) → IsTrue before.flash.told → (r : Records before) → Activates r.layout r.installed r.is.said
 can_activate before told r =
-    let few : length r.layout ≤ 8 = (r.configured told).page.allowed.few in
+    let few : length r.layout ≤ 8 = subst (λ (f : Frame). length r.layout ≤ most f) (r.configured told).version (r.configured told).page.allowed.few in
     let p = placed r.layout r.is.said.components r.is.components in
     let u = in_use r.layout r.installed.active few in
     let s = standings r.layout r.is.said.components p.0 p.1 (record { number = u.0 }) in

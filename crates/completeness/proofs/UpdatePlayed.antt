@@ -94,7 +94,7 @@ module _ (layout : List Entry) (bytes : List ℕ) (s : EnvelopeSays) (m : Manife
 
   -- its record, where the flash read so before and these slots are in use
   abbrev new_on : List ℕ → List ℕ → Record
-  new_on image numbers = new_of Offered held image digest numbers
+  new_on image numbers = new_of VERSION_1 Offered held image digest numbers
 
   module _ (sets : Sets layout bytes Offered held) where
     -- the play on the chosen slots
@@ -135,7 +135,7 @@ module _ (layout : List Entry) (bytes : List ℕ) (s : EnvelopeSays) (m : Manife
       pub left : LeavesPlay sets.standings (play_of layout bytes Offered held sets uris b) l.launches n.launches a.flash.reads
       pub others : KeepsContents layout p Tree sets.numbers b.flash.reads a.flash.reads
 
-    pub installed_so : (r : Record) → IsUpdate (offer layout bytes Found uris) l n mid a (ends.Installed r) → InstalledSo (ends.Installed r)
+    pub installed_so : (r : Record) → IsUpdate (offer VERSION_1 layout bytes Found uris) l n mid a (ends.Installed r) → InstalledSo (ends.Installed r)
     installed_so r u =
         let played = u.plays mid_flash_told told.launcher held digest blocks mid_recorded states sets.payloads sets.has in
         let again = replayed played.made plays.Done played.plays in
@@ -178,7 +178,7 @@ module _ (layout : List Entry) (bytes : List ℕ) (s : EnvelopeSays) (m : Manife
       never_by_itself place causes.FlashFault st c = faultless.flash (subst (λ (z : ℕ). Faulted z a.flash.faults) sees.flash_faults c.1)
       never_by_itself place causes.LaunchFault st c = faultless.launcher c.2
 
-      pub way : (end : UpdateEnd) → IsUpdate (offer layout bytes Found uris) l n mid a end → InstalledSo end ⊎ StarvedSo end
+      pub way : (end : UpdateEnd) → IsUpdate (offer VERSION_1 layout bytes Found uris) l n mid a end → InstalledSo end ⊎ StarvedSo end
       way (ends.Installed r) u = inl (installed_so r u)
       way ends.NoMemory u = inr (record {
         is = refl;

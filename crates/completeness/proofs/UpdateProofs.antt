@@ -130,7 +130,7 @@ module _ (configs : OneAnswer) (envelopes : EnvelopeLaws) (manifests : ManifestL
       manifest_is = same_manifest envelopes manifests members O.layout O.key O.bytes b ready.told.host O.accepted u.accepted f g
 
       abbrev Update : Accepted → Type 0
-      Update z = IsUpdate (offer O.layout O.bytes z ready.uris) l n u.middle a end
+      Update z = IsUpdate (offer VERSION_1 O.layout O.bytes z ready.uris) l n u.middle a end
 
       update_there : Update (record { said = O.accepted.said; manifest = O.accepted.manifest; places = u.accepted.places; members = O.accepted.members })
       update_there =
@@ -141,8 +141,8 @@ module _ (configs : OneAnswer) (envelopes : EnvelopeLaws) (manifests : ManifestL
           (subst (λ (z : Manifest). Update (record { said = o.said; manifest = z; places = v.places; members = v.members })) manifest_is
           (subst (λ (z : EnvelopeSays). Update (record { said = z; manifest = v.manifest; places = v.places; members = v.members }))
           (same_said envelopes manifests members O.layout O.key O.bytes b ready.told.host o v f g)
-          (subst (λ (z : List ℕ). IsUpdate (offer O.layout z v ready.uris) l n u.middle a end) same_bytes
-          (subst (λ (z : List Entry). IsUpdate (offer z u.bytes v ready.uris) l n u.middle a end) config.0 u.update))))
+          (subst (λ (z : List ℕ). IsUpdate (offer VERSION_1 O.layout z v ready.uris) l n u.middle a end) same_bytes
+          (subst (λ (z : List Entry). IsUpdate (offer VERSION_1 z u.bytes v ready.uris) l n u.middle a end) config.0 u.update))))
 
       layout_is : IsLayout VERSION_1 b.flash.size O.layout
       layout_is = (O.configured ready.told.flash).page.allowed

@@ -5,7 +5,7 @@ use Rattle.suit_manifest.specs.Procedures.{invocation_tree}
 use Rattle.path_model.specs.DevicePlays.{Device, played}
 use Rattle.path_model.specs.Plays.{Outcome}
 use Rattle.path_model.specs.Settings.{steady}
-use Rattle.flash_layout.specs.declared.frame.TheConstants.{VERSION_1}
+use Rattle.flash_layout.specs.declared.frame.Frame.{Frame}
 use Rattle.flash_layout.specs.declared.key.Key.{Key}
 use Rattle.flash_layout.specs.declared.layout.Entry.{Entry}
 use Rattle.flash_layout.specs.declared.slot.Record.{Record}
@@ -33,10 +33,11 @@ use Rattle.completeness.specs.Plays.{Completes, LeavesPlay}
 pub record Records (before : Outside) : Type 0 where
   pub layout : List Entry
   pub key : Key
-  pub configured : Holds before.flash (layout, key, VERSION_1)
+  pub frame : Frame
+  pub configured : Holds before.flash (layout, key, frame)
   pub installed : Record
-  pub recorded : RecordOf VERSION_1 (head_of VERSION_1 before.flash.reads) (Some installed)
-  pub is : IsInstalled layout key (bank_in before.flash.reads installed) installed
+  pub recorded : RecordOf frame (head_of frame before.flash.reads) (Some installed)
+  pub is : IsInstalled layout key (bank_in frame before.flash.reads installed) installed
 
 -- ---- the play
 

@@ -64,7 +64,7 @@ pub record Offers (name : List ℕ) (before : Outside) : Type 0 where
 -- its record beside the held one, with these slots in use
 abbrev pub record_for : (name : List ℕ) (before : Outside) → Offers name before → List ℕ → Record
 record_for name before o numbers =
-    new_of o.accepted o.held before.flash.reads o.digest numbers
+    new_of VERSION_1 o.accepted o.held before.flash.reads o.digest numbers
 
 -- ---- the play
 

@@ -48,7 +48,7 @@ module _ (size : ℕ) (frame : Frame) (is : IsFrame size frame) (layout : List E
         (first.opening size layout key large layout_is sound typed start law b c law_b)
 
 -- the page and its gate are the bytes that are read
-pub page_fewer : (frame : Frame) (body : List ℕ) → length body ≡ 1203 → (i : ℕ) → Outside frame.base (page_bytes frame) i → OutsideEach (page_at frame.base (frame.base + 1) (length body)) i
+pub page_fewer : (frame : Frame) (body : List ℕ) → length body + 1 ≡ page_bytes frame → (i : ℕ) → Outside frame.base (page_bytes frame) i → OutsideEach (page_at frame.base (frame.base + 1) (length body)) i
 page_fewer frame body long i out = ⊎_elim
     (λ low. (inl low, (inl (omega (arith, low)), tt)))
     (λ high. (inr (omega (arith, high)), (inr (omega (arith, high, long)), tt)))

@@ -3,18 +3,18 @@ use Rattle.std.proofs.Common.{◌≡◌, inl, ℕ, ◌+◌, ◌≤◌, List, [],
 use Rattle.suit_edge.specs.Ranges.{written}
 use Rattle.suit_edge.specs.RangeLaws.{written_outside, written_one}
 use Rattle.flash_layout.specs.declared.frame.Frame.{Frame}
-use Rattle.flash_layout.specs.Frames.{IsFrame, record_place}
-use Rattle.flash_layout.specs.FirstFrame.{inside}
+use Rattle.flash_layout.specs.Frames.{head_size, record_place}
+use Rattle.flash_layout.specs.FrameFacts.{FrameFacts}
 use Rattle.flash_layout.specs.Formats.{AreClosed}
 
-pub both_closed : (size : ℕ) (frame : Frame) → IsFrame size frame → (old once twice : List ℕ) → length old ≡ size → once ≡ written old (record_place frame 0) (0 ∷ [])
+pub both_closed : (size : ℕ) (frame : Frame) → FrameFacts size frame → (old once twice : List ℕ) → length old ≡ size → once ≡ written old (record_place frame 0) (0 ∷ [])
     → twice ≡ written once (record_place frame 1) (0 ∷ []) → AreClosed frame twice
 both_closed size frame is old once twice long first second =
     let p = record_place frame 0 in
     let q = record_place frame 1 in
-    let room : frame.base + 49152 ≤ length old = omega (arith, inside size frame is, long) in
-    let out = written_outside old p (0 ∷ []) (omega (arith, room)) in
-    let fits : q + 1 ≤ length once = omega (arith, ap length first, out.size, room) in (
-      ap (λ (l : List ℕ). get_or l p 0) second ∙ (written_outside once q (0 ∷ []) fits).same p (inl (omega arith)) ∙ ap (λ (l : List ℕ). get_or l p 0) first ∙ written_one old p 0 (omega (arith, room)),
+    let room : frame.base + head_size frame ≤ length old = omega (arith, is.inside, long) in
+    let out = written_outside old p (0 ∷ []) (omega (arith, room, is.head)) in
+    let fits : q + 1 ≤ length once = omega (arith, ap length first, out.size, room, is.head) in (
+      ap (λ (l : List ℕ). get_or l p 0) second ∙ (written_outside once q (0 ∷ []) fits).same p (inl (omega arith)) ∙ ap (λ (l : List ℕ). get_or l p 0) first ∙ written_one old p 0 (omega (arith, room, is.head)),
       ap (λ (l : List ℕ). get_or l q 0) second ∙ written_one once q 0 fits,
     )

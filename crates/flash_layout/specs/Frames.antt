@@ -1,32 +1,37 @@
 -- Where the parts of a flash stand. The head is so many bytes from the frame's base on; its parts are told by their
 -- places in it.
-use Rattle.std.specs.Prelude.{◌≡◌, ◌≤◌, ◌+◌, ◌*◌, ℕ, List, slice_range}
+use Rattle.std.specs.Prelude.{◌≡◌, ◌≤◌, ◌+◌, ◌*◌, ℕ, ◌==◌, if◌then◌else◌, List, slice_range}
 use Rattle.suit_edge.specs.Gate.{IsOpen}
 use Rattle.flash_layout.specs.declared.frame.Frame.{Frame}
 use Rattle.flash_layout.specs.declared.frame.TheConstants.{ENTRY_SIZE, FRONT_SIZE}
 
--- ---- sizes: those of version 1, which is the one version that there is
+-- ---- sizes
+
+-- by the version of the layout
+abbrev pub by_version : Frame → ℕ → ℕ → ℕ
+by_version frame first second = if frame.version == 1 then first else second
 
 abbrev pub head_size : Frame → ℕ
-head_size frame = 49152
+head_size frame = by_version frame 49152 147456
 
 abbrev pub config_size : Frame → ℕ
-config_size frame = 4096
+config_size frame = by_version frame 4096 8192
 
+-- of each version
 abbrev pub record_size : Frame → ℕ
 record_size frame = 4096
 
 abbrev pub bank_size : Frame → ℕ
-bank_size frame = 16384
+bank_size frame = by_version frame 16384 65536
 
 -- how many components a layout has, at most
 abbrev pub most : Frame → ℕ
-most frame = 8
+most frame = by_version frame 8 32
 
 -- ---- the frames of a flash of this size
 
 pub data IsFrame (size : ℕ) (frame : Frame) : Type 0 where
-  First : frame.version ≡ 1 → frame.base ≡ 0 → head_size frame ≤ size → IsFrame size frame
+  First : frame.version ≡ 1 → frame.base ≡ 0 → 49152 ≤ size → IsFrame size frame
 
 -- ---- the head
 
@@ -66,7 +71,7 @@ HasNoRecord frame head = (HasOpenRecord frame head 0 → ⊥) × (HasOpenRecord 
 -- ---- the banks
 
 abbrev pub bank_from : Frame → ℕ → ℕ
-bank_from frame which = record_from frame 2 + which * bank_size frame
+bank_from frame which = record_from frame 2 + by_version frame (which * 16384) (which * 65536)
 
 abbrev pub bank_place : Frame → ℕ → ℕ
 bank_place frame which = frame.base + bank_from frame which

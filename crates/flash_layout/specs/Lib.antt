@@ -1,4 +1,5 @@
 pub mod Frames
+pub mod FrameFacts
 pub mod FirstFrame
 pub mod FrameLaws
 pub mod Layouts

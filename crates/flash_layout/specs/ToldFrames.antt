@@ -8,7 +8,7 @@ use Rattle.flash_layout.specs.declared.key.Key.{Key}
 use Rattle.flash_layout.specs.declared.layout.Entry.{Entry}
 use Rattle.flash_layout.specs.ConfigPage.{IsConfigPage}
 use Rattle.flash_layout.specs.Configs.{Config, ConfigOf, Blank, Bad, Configured, IsAllowed}
-use Rattle.flash_layout.specs.Frames.{config_page_of, head_of}
+use Rattle.flash_layout.specs.Frames.{IsFrame, config_page_of, head_of}
 use Rattle.flash_layout.specs.FirstFrame.{is_first}
 
 -- no other frame is told
@@ -17,6 +17,10 @@ IsTold size image frame = (layout : List Entry) (key : Key) (other : Frame) → 
 
 pub told_version_1 : (size : ℕ) (image : List ℕ) → IsTold size image VERSION_1
 told_version_1 size image layout key other is = is.version
+
+-- each image of a flash tells its frame, as there is one version
+pub told_by : (size : ℕ) (frame : Frame) → IsFrame size frame → (n : ℕ) (image : List ℕ) → IsTold n image frame
+told_by size frame is n image = subst (λ (f : Frame). IsTold n image f) (sym (is_first size frame is)) (told_version_1 n image)
 
 -- an image is configured by the frame that it tells
 pub by_told : (size : ℕ) (image : List ℕ) (frame : Frame) → IsTold size image frame → (layout : List Entry) (key : Key) (other : Frame)

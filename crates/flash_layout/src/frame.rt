@@ -1,7 +1,7 @@
 //! Where the parts of a flash stand, and how large they are.
 
-ghost use Rattle.std.specs.Prelude.{◌≡◌, ◌<◌, ◌+◌, ◌^◌};
-ghost use Rattle.flash_layout.specs.Frames.{bank_place, head_size, record_place};
+ghost use Rattle.std.specs.Prelude.{◌≡◌, ◌<◌, ◌≤◌, ◌+◌, ◌*◌, ◌^◌};
+ghost use Rattle.flash_layout.specs.Frames.{bank_place, bank_size, by_version, config_size, head_size, record_place};
 
 /// Where the head of a flash is, and which version its layout has. The head is a configuration page, two record pages and
 /// two banks, one behind another.
@@ -52,13 +52,56 @@ pub const PAGE_BYTES: usize = FRONT_SIZE + ENTRIES_SIZE;
 /// Where the gate of the configuration page is.
 pub const CONFIG_GATE: u64 = VERSION_1.base;
 
+/// How many bytes the head has.
+pub fn head_size(frame: Frame) -> u64
+    ensures { result ≡ head_size frame }
+{
+    if frame.version == 1 {
+        HEAD_SIZE
+    } else {
+        147_456
+    }
+}
+
+// How many bytes the configuration page has.
+fn config_size(frame: Frame) -> u64
+    ensures is { result ≡ config_size frame }
+    ensures room { result + 2 * PAGE_SIZE ≤ head_size frame }
+{
+    if frame.version == 1 { PAGE_SIZE } else { 8_192 }
+}
+
+/// How many bytes a bank has.
+pub fn bank_size(frame: Frame) -> u64
+    ensures { result ≡ bank_size frame }
+{
+    if frame.version == 1 {
+        BANK_SIZE
+    } else {
+        65_536
+    }
+}
+
 /// Where a record page starts, with its gate: the first one for 0, the second for 1.
 pub fn record_page(frame: Frame, which: u64) -> u64
     requires room { frame.base + head_size frame < 2 ^ 64 }
     requires which { which < 2 }
     ensures { result ≡ record_place frame which }
 {
-    frame.base + PAGE_SIZE + which * PAGE_SIZE
+    frame.base + config_size(frame) + which * PAGE_SIZE
+}
+
+// How many bytes of banks stand before that one.
+fn bank_offset(frame: Frame, which: u64) -> u64
+    requires { which < 2 }
+    ensures is { result ≡ by_version frame (which * 16384) (which * 65536) }
+    ensures room { config_size frame + 2 * PAGE_SIZE + result ≤ head_size frame }
+{
+    if frame.version == 1 {
+        which * BANK_SIZE
+    } else {
+        which * 65_536
+    }
 }
 
 /// Where a bank starts: the first one for 0, the second for 1.
@@ -67,5 +110,5 @@ pub fn bank(frame: Frame, which: u64) -> u64
     requires which { which < 2 }
     ensures { result ≡ bank_place frame which }
 {
-    record_page(frame, 0) + 2 * PAGE_SIZE + which * BANK_SIZE
+    record_page(frame, 0) + 2 * PAGE_SIZE + bank_offset(frame, which)
 }

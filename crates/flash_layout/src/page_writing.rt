@@ -2,9 +2,10 @@
 
 ghost use Rattle.std.specs.Prelude.{◌≡◌, ◌≤◌, ◌+◌, ◌*◌, ◌∷◌, ◌++◌, All, length, slice_index};
 ghost use Rattle.suit_params.specs.Identifiers.{spelled_id};
+ghost use Rattle.flash_layout.specs.Frames.{most, page_bytes};
 ghost use Rattle.flash_layout.specs.ConfigPage.{config_page, entries_bytes, entry_bytes, identifier_field, ids_field, memory_byte, numbers_field, optional_id, padded, page_front};
 
-use crate::frame::{ENTRIES_SIZE, ENTRY_SIZE, FRONT_SIZE, MAX_ENTRIES, PAGE_BYTES};
+use crate::frame::{ENTRIES_SIZE, ENTRY_SIZE, FRONT_SIZE, PAGE_BYTES};
 use crate::page::Page;
 use crate::spelling::spell_id;
 use crate::{Entry, Frame, Key, Layout, Memory};
@@ -127,13 +128,14 @@ fn put_front(page: &mut Page<PAGE_BYTES>, version: u8, count: u8, key: &Key)
     page.put(&key.bytes);
 }
 
-/// The page of a layout and a key on a flash with this frame, with its gate open. Takes no memory.
+/// The page of a layout and a key on a flash with this frame, with its gate open: that of layout version 1. Takes no memory.
 #[tactic(auto, unfolding(crate::specs::ConfigPage::config_page))]
 pub(crate) fn write_page(layout: &Layout, key: &Key, frame: Frame) -> Page<PAGE_BYTES>
-    requires few { length layout.now ≤ MAX_ENTRIES }
+    requires version { frame.version ≡ 1 }
+    requires few { length layout.now ≤ most frame }
     requires short { All (λ e. length (spelled_id e.identifier) ≤ 64) layout.now }
     ensures bytes { result ≡ config_page frame layout.now key.now }
-    ensures long { length result ≡ PAGE_BYTES }
+    ensures long { length result ≡ page_bytes frame }
 {
     let entries = layout.as_slice();
     let mut page = Page::new();

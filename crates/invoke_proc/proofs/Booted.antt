@@ -10,6 +10,7 @@ use Rattle.suit_manifest.specs.declared.manifest.Manifest.{Manifest}
 use Rattle.manifest_view.specs.Views.{manifest_of}
 use Rattle.suit_manifest.specs.Procedures.{invocation_tree}
 use Rattle.path_model.specs.declared.cause.Cause.TheVariants as causes
+use Rattle.flash_layout.specs.declared.frame.Frame.{Frame}
 use Rattle.flash_layout.specs.declared.key.Key.{Key}
 use Rattle.flash_layout.specs.declared.layout.Entry.{Entry}
 use Rattle.flash_layout.specs.declared.slot.Record.{Record}
@@ -31,9 +32,9 @@ use Rattle.invoke_proc.proofs.BankSays.{declined}
 
 -- ---- where no envelope is read
 
-pub none_answers : (layout : List Entry) (key : Key) (reads : List ℕ) (fault : NoBank) → IsNoBank reads fault → Answers layout key reads (without_bank fault)
-none_answers layout key reads banks.NothingInstalled is = is
-none_answers layout key reads banks.FlashFault is = is
+pub none_answers : (frame : Frame) (layout : List Entry) (key : Key) (reads : List ℕ) (fault : NoBank) → IsNoBank frame reads fault → Answers frame layout key reads (without_bank fault)
+none_answers frame layout key reads banks.NothingInstalled is = is
+none_answers frame layout key reads banks.FlashFault is = is
 
 pub none_plays : (P : PlanEnd → Type 0) (Same : Type 0) (launches : List Launch) (fault : NoBank) → Same → PlayedSo P Same launches launches (without_bank fault)
 none_plays P Same launches banks.NothingInstalled same = refl
@@ -69,25 +70,25 @@ kept_as P Q R S ends.FlashFault to also p = ⊎_elim (λ same. inl (also same)) 
 
 -- ---- where it is declined
 
-module _ (layout : List Entry) (key : Key) (reads : List ℕ) (r : Record) (recorded : record_in reads (Some r)) where
-  declined_answers : (end : BootEnd) → IsDeclined layout (key_bytes key) (bank_in reads r) end → Answers layout key reads end
+module _ (frame : Frame) (layout : List Entry) (key : Key) (reads : List ℕ) (r : Record) (recorded : record_in frame reads (Some r)) where
+  declined_answers : (end : BootEnd) → IsDeclined layout (key_bytes key) (bank_in frame reads r) end → Answers frame layout key reads end
   declined_answers (ends.BadBank refusal) is = (r, recorded, is)
   declined_answers (ends.NotAuthentic l) is = (r, recorded, is)
   declined_answers (ends.UnknownComponent i) is = (r, recorded, is)
   declined_answers _ is = absurd is
 
-  pub refused_answers : (word bytes : List ℕ) (refusal : NotStartable) (end : BootEnd) → word ≡ key_bytes key → bytes ≡ bank_in reads r → end ≡ declined_as refusal
-      → IsNotStartable layout word bytes refusal → Answers layout key reads end
+  pub refused_answers : (word bytes : List ℕ) (refusal : NotStartable) (end : BootEnd) → word ≡ key_bytes key → bytes ≡ bank_in frame reads r → end ≡ declined_as refusal
+      → IsNotStartable layout word bytes refusal → Answers frame layout key reads end
   refused_answers word bytes refusal end key_is bytes_is end_is refused =
-      subst (λ (e : BootEnd). Answers layout key reads e) (sym end_is)
+      subst (λ (e : BootEnd). Answers frame layout key reads e) (sym end_is)
       (declined_answers (declined_as refusal)
       (subst (λ (b : List ℕ). IsDeclined layout (key_bytes key) b (declined_as refusal)) bytes_is
       (subst (λ (k : List ℕ). IsDeclined layout k bytes (declined_as refusal)) key_is (declined layout word bytes refusal refused))))
 
   -- ---- where something is started
 
-  module _ (m : Manifest) (starts : Starts layout key reads r m) where
-    pub start_answers : (end : BootEnd) → IsStartEnd end → Answers layout key reads end
+  module _ (m : Manifest) (starts : Starts frame layout key reads r m) where
+    pub start_answers : (end : BootEnd) → IsStartEnd end → Answers frame layout key reads end
     start_answers ends.Ended is = (r, m, starts)
     start_answers (ends.Condition place) is = (r, m, starts)
     start_answers (ends.Stopped place cause) is = (r, m, starts)
@@ -96,9 +97,9 @@ module _ (layout : List Entry) (key : Key) (reads : List ℕ) (r : Record) (reco
 
 -- ---- from the moment before the bank was read
 
-pub started_from : (layout : List Entry) (key : Key) (reads word bytes : List ℕ) (r : Record) (start : Start) → record_in reads (Some r) → word ≡ key_bytes key
-    → bytes ≡ bank_in reads r → IsStartable layout word bytes (said_by start.envelope) (manifest_of start.manifest) start.places → Starts layout key reads r (manifest_of start.manifest)
-started_from layout key reads word bytes r start recorded key_is bytes_is is = record {
+pub started_from : (frame : Frame) (layout : List Entry) (key : Key) (reads word bytes : List ℕ) (r : Record) (start : Start) → record_in frame reads (Some r) → word ≡ key_bytes key
+    → bytes ≡ bank_in frame reads r → IsStartable layout word bytes (said_by start.envelope) (manifest_of start.manifest) start.places → Starts frame layout key reads r (manifest_of start.manifest)
+started_from frame layout key reads word bytes r start recorded key_is bytes_is is = record {
   recorded = recorded;
   said = said_by start.envelope;
   started = subst (λ (l : List ℕ). IsStarted layout (key_bytes key) l (said_by start.envelope) (manifest_of start.manifest)) bytes_is
@@ -108,19 +109,19 @@ started_from layout key reads word bytes r start recorded key_is bytes_is is = r
 pub payloads_in : (bytes : List ℕ) (said : EnvelopeSays) → EnvelopeOf bytes said → (payloads : List (List ℕ × List ℕ)) × HasPayloads bytes payloads
 payloads_in bytes said envelope = (integrated_payloads (map_entries envelope.says_so.map), record { said = said; envelope = envelope; are = refl })
 
-pub plays_boot : (layout : List Entry) (key : Key) (files : List ℕ → Option (List ℕ)) (reads before after : List ℕ) (launched now : List Launch) (r : Record) (m : Manifest)
-    → Starts layout key reads r m → before ≡ reads
-    → (end : PlanEnd) → PlaysOn layout m r.active files before after launched now end → PlaysBoot layout key files reads after launched now end
-plays_boot layout key files reads before after launched now r m starts read end on = record {
+pub plays_boot : (frame : Frame) (layout : List Entry) (key : Key) (files : List ℕ → Option (List ℕ)) (reads before after : List ℕ) (launched now : List Launch) (r : Record) (m : Manifest)
+    → Starts frame layout key reads r m → before ≡ reads
+    → (end : PlanEnd) → PlaysOn layout m r.active files before after launched now end → PlaysBoot frame layout key files reads after launched now end
+plays_boot frame layout key files reads before after launched now r m starts read end on = record {
   installed = r;
   manifest = m;
   starts = starts;
   on = subst (λ (l : List ℕ). PlaysOn layout m r.active files l after launched now end) read on;
 }
 
-pub keeps_boot : (layout : List Entry) (key : Key) (r : Record) (m : Manifest) (a b c : Flash) (size : ℕ) → IsFlash b size → IsSame a b
-    → Starts layout key a.reads r m → KeepsOthers layout m r.active b c → KeepsBoot layout key a c
-keeps_boot layout key r m a b c size law same starts others = record {
+pub keeps_boot : (frame : Frame) (layout : List Entry) (key : Key) (r : Record) (m : Manifest) (a b c : Flash) (size : ℕ) → IsFlash b size → IsSame a b
+    → Starts frame layout key a.reads r m → KeepsOthers layout m r.active b c → KeepsBoot frame layout key a c
+keeps_boot frame layout key r m a b c size law same starts others = record {
   installed = r;
   manifest = m;
   starts = starts;

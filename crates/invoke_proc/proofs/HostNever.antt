@@ -6,6 +6,7 @@ use Rattle.path_model.specs.declared.cause.Cause.{Cause}
 use Rattle.path_model.specs.declared.cause.Cause.TheVariants as causes
 use Rattle.path_model.specs.PlayLaws.{FaultedEnds, IsFaultIn}
 use Rattle.path_model.specs.Settings.{NamesFile, Setting}
+use Rattle.flash_layout.specs.declared.frame.Frame.{Frame}
 use Rattle.flash_layout.specs.declared.key.Key.{Key}
 use Rattle.flash_layout.specs.declared.layout.Entry.{Entry}
 use Rattle.step_machine.specs.declared.plan_end.PlanEnd.TheVariants as plays
@@ -35,8 +36,8 @@ never_stopped laws plan setting place before after launched now empty played =
     let named = caused setting by.why cut.outcome.cause by.fault by.named cut.stops.named in
     none_named named.0 (subst (λ (words : List (List ℕ × List ℕ)). NamesFile words named.0) empty named.1)
 
-module _ (laws : FaultedEnds) (layout : List Entry) (key : Key) (files : List ℕ → Option (List ℕ)) (before after : List ℕ) (launched now : List Launch) where
-  pub never_host : (Same : Type 0) (answer : BootEnd) → PlayedSo (PlaysBoot layout key files before after launched now) Same launched now answer → NeverHost answer
+module _ (laws : FaultedEnds) (frame : Frame) (layout : List Entry) (key : Key) (files : List ℕ → Option (List ℕ)) (before after : List ℕ) (launched now : List Launch) where
+  pub never_host : (Same : Type 0) (answer : BootEnd) → PlayedSo (PlaysBoot frame layout key files before after launched now) Same launched now answer → NeverHost answer
   never_host Same (ends.Stopped place causes.HostFault) p = never_stopped laws _ _ place _ _ launched now refl p.on.plays
   never_host Same (ends.Stopped place causes.Missing) p = tt
   never_host Same (ends.Stopped place causes.SelfCopy) p = tt

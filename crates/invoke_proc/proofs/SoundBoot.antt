@@ -16,6 +16,7 @@ use Rattle.path_model.specs.Path.{AreIdentities}
 use Rattle.path_model.specs.PlayLaws.{FaultedSafeLaunches, HasItsDigest, SafeLaunches}
 use Rattle.path_model.specs.Safe.{Safe}
 use Rattle.path_model.specs.Settings.{Setting}
+use Rattle.flash_layout.specs.declared.frame.Frame.{Frame}
 use Rattle.flash_layout.specs.declared.frame.TheConstants.{VERSION_1}
 use Rattle.flash_layout.specs.declared.key.Key.{Key}
 use Rattle.flash_layout.specs.declared.layout.Entry.{Entry}
@@ -24,11 +25,12 @@ use Rattle.flash_layout.specs.ConfigLaws.{OneAnswer as OneConfigAnswer}
 use Rattle.flash_layout.specs.Configs.{Blank, ConfigOf, Configured}
 use Rattle.flash_layout.specs.Frames.{head_of}
 use Rattle.flash_layout.specs.Layouts.{IsLayout, IsTypedEntry}
+use Rattle.flash_layout.specs.ToldFrames.{IsTold}
 use Rattle.rollback_record.specs.Committing.{InHead}
 use Rattle.rollback_record.specs.RecordLaws.{OneAnswer}
 use Rattle.rollback_record.specs.SettledLaws.{settled_still, settles}
 use Rattle.rollback_record.specs.SoundFlash.{IsInstalled, Settled, Sound, key_bytes}
-use Rattle.rollback_record.proofs.SoundBy.{SoundBy, BlankBy, EmptyBy, InstalledBy, sound_by_version_1}
+use Rattle.rollback_record.proofs.SoundBy.{SoundBy, BlankBy, EmptyBy, InstalledBy, sound_by}
 use Rattle.step_machine.specs.declared.plan_end.PlanEnd.{PlanEnd}
 use Rattle.step_machine.specs.declared.plan_end.PlanEnd.TheVariants as plays
 use Rattle.step_machine.specs.Devices.{contents_of}
@@ -48,11 +50,11 @@ use Rattle.invoke_proc.proofs.Places.{head_stays, identities_there}
 
 -- ---- the installed envelope
 
-the_layout : (a b : List Entry) (k l : Key) → Configured a k VERSION_1 ≡ Configured b l VERSION_1 → (a ≡ b) × (k ≡ l)
-the_layout a b k l same = grind (arith, same)
+the_layout : (frame : Frame) (a b : List Entry) (k l : Key) → Configured a k frame ≡ Configured b l frame → (a ≡ b) × (k ≡ l)
+the_layout frame a b k l same = grind (arith, same)
 
-not_blank : (layout : List Entry) (key : Key) → Blank ≡ Configured layout key VERSION_1 → ⊥
-not_blank layout key same = grind (arith, same)
+not_blank : (frame : Frame) (layout : List Entry) (key : Key) → Blank ≡ Configured layout key frame → ⊥
+not_blank frame layout key same = grind (arith, same)
 
 the_record : (a b : Record) → Some a ≡ Some b → a ≡ b
 the_record a b same = grind (arith, same)
@@ -60,40 +62,40 @@ the_record a b same = grind (arith, same)
 not_none : (r : Record) → None ≡ Some r → ⊥
 not_none r same = grind (arith, same)
 
-module _ (configs : OneConfigAnswer) (records : OneAnswer) (laws : BootLaws) (layout : List Entry) (key : Key) (reads : List ℕ)
-    (config : ConfigOf (length reads) reads (Configured layout key VERSION_1)) where
+module _ (configs : OneConfigAnswer) (records : OneAnswer) (laws : BootLaws) (frame : Frame) (layout : List Entry) (key : Key) (reads : List ℕ)
+    (told : IsTold (length reads) reads frame) (config : ConfigOf (length reads) reads (Configured layout key frame)) where
   abbrev head : List ℕ
-  head = head_of VERSION_1 reads
+  head = head_of frame reads
 
-  installed_of : (r : Record) → SoundBy VERSION_1 reads → record_in reads (Some r) → IsInstalled layout key (bank_in reads r) r
-  installed_of r (BlankBy is) recorded = absurd (not_blank layout key (configs (length reads) reads Blank (Configured layout key VERSION_1) is config))
-  installed_of r (EmptyBy other k is none) recorded = absurd (not_none r (records VERSION_1 head None (Some r) none recorded))
+  installed_of : (r : Record) → SoundBy frame reads → record_in frame reads (Some r) → IsInstalled layout key (bank_in frame reads r) r
+  installed_of r (BlankBy is) recorded = absurd (not_blank frame layout key (configs (length reads) reads Blank (Configured layout key frame) is config))
+  installed_of r (EmptyBy other k is none) recorded = absurd (not_none r (records frame head None (Some r) none recorded))
   installed_of r (InstalledBy other k s is held installed) recorded =
-      let same = the_layout other layout k key (configs (length reads) reads (Configured other k VERSION_1) (Configured layout key VERSION_1) is config) in
-      let one = the_record s r (records VERSION_1 head (Some s) (Some r) held recorded) in
-      subst (λ (t : Record). IsInstalled layout key (bank_in reads t) t) one
-      (subst (λ (l : Key). IsInstalled layout l (bank_in reads s) s) same.1
-      (subst (λ (l : List Entry). IsInstalled l k (bank_in reads s) s) same.0 installed))
+      let same = the_layout frame other layout k key (configs (length reads) reads (Configured other k frame) (Configured layout key frame) is config) in
+      let one = the_record s r (records frame head (Some s) (Some r) held recorded) in
+      subst (λ (t : Record). IsInstalled layout key (bank_in frame reads t) t) one
+      (subst (λ (l : Key). IsInstalled layout l (bank_in frame reads s) s) same.1
+      (subst (λ (l : List Entry). IsInstalled l k (bank_in frame reads s) s) same.0 installed))
 
   -- so its bank is not declined
-  declined : (answer : BootEnd) (r : Record) → Sound reads → record_in reads (Some r) → IsDeclined layout (key_bytes key) (bank_in reads r) answer → IsUnrefused answer
+  declined : (answer : BootEnd) (r : Record) → Sound reads → record_in frame reads (Some r) → IsDeclined layout (key_bytes key) (bank_in frame reads r) answer → IsUnrefused answer
   declined answer r sound recorded is =
-      let installed = installed_of r (sound_by_version_1 reads sound) recorded in
-      let start = laws.installed layout key (bank_in reads r) r installed in
-      absurd (laws.none layout (key_bytes key) (bank_in reads r) start.0 installed.said answer installed.are_bytes start.1 is)
+      let installed = installed_of r (sound_by frame reads told sound) recorded in
+      let start = laws.installed layout key (bank_in frame reads r) r installed in
+      absurd (laws.none layout (key_bytes key) (bank_in frame reads r) start.0 installed.said answer installed.are_bytes start.1 is)
 
-  pub unrefused : (answer : BootEnd) → Sound reads → Answers layout key reads answer → IsUnrefused answer
+  pub unrefused : (answer : BootEnd) → Sound reads → Answers frame layout key reads answer → IsUnrefused answer
   unrefused (ends.BadBank refusal) sound is = declined (ends.BadBank refusal) is.0 sound is.1 is.2
   unrefused (ends.NotAuthentic lacking) sound is = declined (ends.NotAuthentic lacking) is.0 sound is.1 is.2
   unrefused (ends.UnknownComponent component) sound is = declined (ends.UnknownComponent component) is.0 sound is.1 is.2
   unrefused _ sound is = tt
 
   -- a started manifest is one judged safe
-  pub safe_start : (r : Record) (m : Manifest) → Sound reads → Starts layout key reads r m → Safe (invocation_tree m)
+  pub safe_start : (r : Record) (m : Manifest) → Sound reads → Starts frame layout key reads r m → Safe (invocation_tree m)
   safe_start r m sound starts =
-      let installed = installed_of r (sound_by_version_1 reads sound) starts.recorded in
-      let start = laws.installed layout key (bank_in reads r) r installed in
-      let same = laws.same layout (key_bytes key) (bank_in reads r) start.0 starts.said installed.said m installed.are_bytes start.1 starts.started in
+      let installed = installed_of r (sound_by frame reads told sound) starts.recorded in
+      let start = laws.installed layout key (bank_in frame reads r) r installed in
+      let same = laws.same layout (key_bytes key) (bank_in frame reads r) start.0 starts.said installed.said m installed.are_bytes start.1 starts.started in
       subst (λ (n : Manifest). Safe (invocation_tree n)) same.1 installed.safe
 
 -- ---- launches
@@ -121,8 +123,8 @@ module _ (safe : SafeLaunches) (faulted : FaultedSafeLaunches) (plan : PlanTree)
   have_digests (plays.DirectiveFailed place cause) end = of_stop place cause end
 
 module _ (safe : SafeLaunches) (faulted : FaultedSafeLaunches) (manifests : ManifestLaws) (size : ℕ) (layout : List Entry) (is : IsLayout VERSION_1 size layout)
-    (typed : All HasIdentifiers layout) (key : Key) (files : List ℕ → Option (List ℕ)) (before after : List ℕ) (launched now : List Launch) where
-  pub gains : (end : PlanEnd) → (p : PlaysBoot layout key files before after launched now end) → Safe (invocation_tree p.manifest) → GainsSafe launched now
+    (typed : All HasIdentifiers layout) (frame : Frame) (key : Key) (files : List ℕ → Option (List ℕ)) (before after : List ℕ) (launched now : List Launch) where
+  pub gains : (end : PlanEnd) → (p : PlaysBoot frame layout key files before after launched now end) → Safe (invocation_tree p.manifest) → GainsSafe launched now
   gains end p safe_plan =
       let holds = p.starts.started.1.spell.says in
       let grammar = manifests.grammatical p.starts.said.manifest_place holds.item p.manifest holds.says_so in
@@ -150,8 +152,8 @@ module _ (safe : SafeLaunches) (faulted : FaultedSafeLaunches) (manifests : Mani
 
 -- ---- the head
 
-module _ (manifests : ManifestLaws) (size : ℕ) (layout : List Entry) (is : IsLayout VERSION_1 size layout) (typed : All IsTypedEntry layout) (key : Key) (a b : Flash) where
-  boot_kept : KeepsBoot layout key a b → Keeps (InHead VERSION_1) a b
+module _ (manifests : ManifestLaws) (size : ℕ) (layout : List Entry) (is : IsLayout VERSION_1 size layout) (typed : All IsTypedEntry layout) (frame : Frame) (key : Key) (a b : Flash) where
+  boot_kept : KeepsBoot frame layout key a b → Keeps (InHead VERSION_1) a b
   boot_kept kept =
       let holds = kept.starts.started.1.spell.says in
       let grammar = manifests.grammatical kept.starts.said.manifest_place holds.item kept.manifest holds.says_so in
@@ -160,7 +162,7 @@ module _ (manifests : ManifestLaws) (size : ℕ) (layout : List Entry) (is : IsL
       (head_stays size layout is kept.manifest.components kept.installed.active kept.others.standings grammar.few grammar.apart kept.others.stand plan typed)
       a b kept.others.keeps
 
-  pub head_kept : (answer : BootEnd) → KeptSo (KeepsBoot layout key a b) (IsSame a b) answer → Keeps (InHead VERSION_1) a b
+  pub head_kept : (answer : BootEnd) → KeptSo (KeepsBoot frame layout key a b) (IsSame a b) answer → Keeps (InHead VERSION_1) a b
   head_kept ends.Ended k = boot_kept k
   head_kept (ends.Condition place) k = boot_kept k
   head_kept (ends.Stopped place cause) k = boot_kept k

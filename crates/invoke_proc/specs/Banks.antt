@@ -1,7 +1,7 @@
 -- The flash's configuration, its record, and the record's bank, as they are read.
 use Rattle.std.specs.Prelude.{◌≡◌, ℕ, List, Option, None, Result, Err}
 use Rattle.suit_edge.specs.Faults.{Faulted}
-use Rattle.flash_layout.specs.declared.frame.TheConstants.{VERSION_1}
+use Rattle.flash_layout.specs.declared.frame.Frame.{Frame}
 use Rattle.flash_layout.specs.declared.key.Key.{Key}
 use Rattle.flash_layout.specs.declared.layout.Entry.{Entry}
 use Rattle.flash_layout.specs.declared.slot.Record.{Record}
@@ -15,21 +15,21 @@ use Rattle.invoke_proc.specs.declared.bank.NoBank.{NoBank}
 use Rattle.invoke_proc.specs.declared.bank.NoBank.TheVariants as banks
 
 -- a flash of this size has the layout and the key
-abbrev pub config_in : ℕ → List ℕ → List Entry → Key → Type 0
-config_in size reads layout key =
-    ConfigOf size reads (Configured layout key VERSION_1)
+abbrev pub config_in : Frame → ℕ → List ℕ → List Entry → Key → Type 0
+config_in frame size reads layout key =
+    ConfigOf size reads (Configured layout key frame)
 
-abbrev pub record_in : List ℕ → Option Record → Type 0
-record_in reads held = RecordOf VERSION_1 (head_of VERSION_1 reads) held
+abbrev pub record_in : Frame → List ℕ → Option Record → Type 0
+record_in frame reads held = RecordOf frame (head_of frame reads) held
 
 -- the bank of that record, as far as its envelope goes
-abbrev pub bank_in : List ℕ → Record → List ℕ
-bank_in reads r = recorded_bank VERSION_1 (head_of VERSION_1 reads) r
+abbrev pub bank_in : Frame → List ℕ → Record → List ℕ
+bank_in frame reads r = recorded_bank frame (head_of frame reads) r
 
 -- no record is there
-abbrev pub IsNoBank : List ℕ → NoBank → Type 0
-IsNoBank reads banks.NothingInstalled = record_in reads None
-IsNoBank reads banks.FlashFault = Unit {0}
+abbrev pub IsNoBank : Frame → List ℕ → NoBank → Type 0
+IsNoBank frame reads banks.NothingInstalled = record_in frame reads None
+IsNoBank frame reads banks.FlashFault = Unit {0}
 
 -- the flash's count rose for its fault, and stayed otherwise
 abbrev pub BankCounts : {A : Type 0} → Result A NoBank → ℕ → ℕ → Type 0

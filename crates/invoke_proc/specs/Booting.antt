@@ -11,6 +11,7 @@ use Rattle.suit_manifest.specs.declared.manifest.Manifest.{Manifest}
 use Rattle.suit_manifest.specs.Procedures.{invocation_tree}
 use Rattle.path_model.specs.declared.cause.Cause.TheVariants as causes
 use Rattle.path_model.specs.PlayLaws.{HasItsDigest}
+use Rattle.flash_layout.specs.declared.frame.Frame.{Frame}
 use Rattle.flash_layout.specs.declared.key.Key.{Key}
 use Rattle.flash_layout.specs.declared.layout.Entry.{Entry}
 use Rattle.flash_layout.specs.declared.place.Places.{Places}
@@ -45,32 +46,33 @@ pub record StandActive (layout : List Entry) (ids : List (List (List ℕ))) (act
   pub stand : StandAs layout places slots standings
 
 -- the flash has a record, whose bank starts a manifest
-pub record Starts (layout : List Entry) (key : Key) (reads : List ℕ) (r : Record)
+pub record Starts (frame : Frame) (layout : List Entry) (key : Key) (reads : List ℕ) (r : Record)
     (manifest : Manifest) : Type 0 where
-  pub recorded : record_in reads (Some r)
+  pub recorded : record_in frame reads (Some r)
   pub said : EnvelopeSays
-  pub started : IsStarted layout (key_bytes key) (bank_in reads r) said manifest
+  pub started : IsStarted layout (key_bytes key) (bank_in frame reads r) said manifest
 
 -- ---- answers
 
 -- before anything is started; or something is
-abbrev pub Answers : List Entry → Key → List ℕ → BootEnd → Type 0
-Answers layout key reads ends.NothingInstalled = record_in reads None
-Answers layout key reads (ends.BadBank refusal) =
-    (r : Record) × record_in reads (Some r)
-    × IsDeclined layout (key_bytes key) (bank_in reads r) (ends.BadBank refusal)
-Answers layout key reads (ends.NotAuthentic lacking) =
-    (r : Record) × record_in reads (Some r)
-    × IsDeclined layout (key_bytes key) (bank_in reads r) (ends.NotAuthentic lacking)
-Answers layout key reads (ends.UnknownComponent component) =
-    (r : Record) × record_in reads (Some r)
-    × IsDeclined layout (key_bytes key) (bank_in reads r) (ends.UnknownComponent component)
-Answers layout key reads ends.Ended = (r : Record) × (m : Manifest) × Starts layout key reads r m
-Answers layout key reads (ends.Condition place) =
-    (r : Record) × (m : Manifest) × Starts layout key reads r m
-Answers layout key reads (ends.Stopped place cause) =
-    (r : Record) × (m : Manifest) × Starts layout key reads r m
-Answers layout key reads ends.FlashFault = Unit {0}
+abbrev pub Answers : Frame → List Entry → Key → List ℕ → BootEnd → Type 0
+Answers frame layout key reads ends.NothingInstalled = record_in frame reads None
+Answers frame layout key reads (ends.BadBank refusal) =
+    (r : Record) × record_in frame reads (Some r)
+    × IsDeclined layout (key_bytes key) (bank_in frame reads r) (ends.BadBank refusal)
+Answers frame layout key reads (ends.NotAuthentic lacking) =
+    (r : Record) × record_in frame reads (Some r)
+    × IsDeclined layout (key_bytes key) (bank_in frame reads r) (ends.NotAuthentic lacking)
+Answers frame layout key reads (ends.UnknownComponent component) =
+    (r : Record) × record_in frame reads (Some r)
+    × IsDeclined layout (key_bytes key) (bank_in frame reads r) (ends.UnknownComponent component)
+Answers frame layout key reads ends.Ended =
+    (r : Record) × (m : Manifest) × Starts frame layout key reads r m
+Answers frame layout key reads (ends.Condition place) =
+    (r : Record) × (m : Manifest) × Starts frame layout key reads r m
+Answers frame layout key reads (ends.Stopped place cause) =
+    (r : Record) × (m : Manifest) × Starts frame layout key reads r m
+Answers frame layout key reads ends.FlashFault = Unit {0}
 
 -- ---- the play
 
@@ -86,12 +88,12 @@ pub record PlaysOn (layout : List Entry) (manifest : Manifest) (active : List �
       now
 
 -- that of what the flash has
-pub record PlaysBoot (layout : List Entry) (key : Key) (files : List ℕ → Option (List ℕ))
-    (before after : List ℕ) (launched now : List Launch) (end : PlanEnd)
+pub record PlaysBoot (frame : Frame) (layout : List Entry) (key : Key)
+    (files : List ℕ → Option (List ℕ)) (before after : List ℕ) (launched now : List Launch) (end : PlanEnd)
     : Type 0 where
   pub installed : Record
   pub manifest : Manifest
-  pub starts : Starts layout key before installed manifest
+  pub starts : Starts frame layout key before installed manifest
   pub on : PlaysOn layout manifest installed.active files before after launched now end
 
 -- no directive of the procedure was stopped by a fault of the flash
@@ -135,10 +137,11 @@ pub record KeepsOthers (layout : List Entry) (manifest : Manifest) (active : Lis
   pub stand : StandActive layout manifest.components active standings
   pub keeps : Keeps (OutsideTargets (invocation_tree manifest) standings) old new
 
-pub record KeepsBoot (layout : List Entry) (key : Key) (old new : Flash) : Type 0 where
+pub record KeepsBoot (frame : Frame) (layout : List Entry) (key : Key) (old new : Flash)
+    : Type 0 where
   pub installed : Record
   pub manifest : Manifest
-  pub starts : Starts layout key old.reads installed manifest
+  pub starts : Starts frame layout key old.reads installed manifest
   pub others : KeepsOthers layout manifest installed.active old new
 
 -- where the procedure was played, that was kept, and otherwise nothing changed

@@ -9,6 +9,7 @@ ghost use Rattle.suit_edge.specs.Edge.{IfDone};
 ghost use Rattle.suit_edge.specs.Faults.{EdgeCounts};
 ghost use Rattle.suit_edge.specs.Flash.{Grows, IsSame};
 
+use crate::buffer::BANK_ROOM;
 use flash_layout::{FlashFault, Frame, Layout, Record, bank};
 use rollback_record::load_record_by;
 use suit_edge::{Disk, Edge};
@@ -29,7 +30,7 @@ fn read_into<D: Disk>(disk: &mut D, frame: Frame, installed: &Record, room: &mut
     ensures size { D.extent disk.new ≡ D.extent disk.old }
     ensures counts { EdgeCounts result (D.faults disk.old) (D.faults disk.new) }
     ensures bytes { IsTrue D.told
-        → IfDone result (room.new ≡ bank_in (D.flash disk.old).reads installed.now) }
+        → IfDone result (room.new ≡ bank_in frame (D.flash disk.old).reads installed.now) }
     ensures same { IsTrue D.told → IsSame (D.flash disk.old) (D.flash disk.new) }
     ensures grows { IsTrue D.told → Grows (D.flash disk.old) (D.flash disk.new) }
 {
@@ -41,12 +42,14 @@ fn read_bank<D: Disk>(disk: &mut D, frame: Frame, installed: &Record, room: &mut
     requires frame { IsFrame (D.extent disk.old) frame }
     requires bank { installed.now.bank < 2 }
     requires length { installed.now.length ≤ bank_size frame }
-    requires room { length room.old ≡ bank_size frame }
+    requires fits { bank_size frame ≤ BANK_ROOM }
+    requires room { length room.old ≡ BANK_ROOM }
     ensures size { D.extent disk.new ≡ D.extent disk.old }
     ensures counts { EdgeCounts result (D.faults disk.old) (D.faults disk.new) }
     ensures room { length room.new ≡ length room.old }
     ensures bytes { IsTrue D.told → IfDone result
-        (take installed.now.length room.new ≡ bank_in (D.flash disk.old).reads installed.now) }
+        (take installed.now.length room.new
+        ≡ bank_in frame (D.flash disk.old).reads installed.now) }
     ensures same { IsTrue D.told → IsSame (D.flash disk.old) (D.flash disk.new) }
     ensures grows { IsTrue D.told → Grows (D.flash disk.old) (D.flash disk.new) }
 {
@@ -70,15 +73,16 @@ pub(crate) fn find_bank<D: Disk>(
     requires config { IsTrue D.told
         → (key : Key) × ConfigOf (D.extent disk.old) (D.flash disk.old).reads
         (Configured layout.now key frame) }
-    requires room { length room.old ≡ bank_size frame }
+    requires fits { bank_size frame ≤ BANK_ROOM }
+    requires room { length room.old ≡ BANK_ROOM }
     ensures size { D.extent disk.new ≡ D.extent disk.old }
     ensures counts { BankCounts result (D.faults disk.old) (D.faults disk.new) }
     ensures recorded { IsTrue D.told
-        → IfOk result (λ r. record_in (D.flash disk.old).reads (Some r)) }
+        → IfOk result (λ r. record_in frame (D.flash disk.old).reads (Some r)) }
     ensures length { IfOk result (λ r. r.length ≤ length room.new) }
     ensures bytes { IsTrue D.told
-        → IfOk result (λ r. take r.length room.new ≡ bank_in (D.flash disk.old).reads r) }
-    ensures none { IsTrue D.told → IfErr result (IsNoBank (D.flash disk.old).reads) }
+        → IfOk result (λ r. take r.length room.new ≡ bank_in frame (D.flash disk.old).reads r) }
+    ensures none { IsTrue D.told → IfErr result (IsNoBank frame (D.flash disk.old).reads) }
     ensures same { IsTrue D.told → IsSame (D.flash disk.old) (D.flash disk.new) }
     ensures grows { IsTrue D.told → Grows (D.flash disk.old) (D.flash disk.new) }
 {

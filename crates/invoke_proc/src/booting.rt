@@ -48,7 +48,8 @@ fn start_installed<H: Host, D: Disk, L: Launcher>(
     requires held { IsTrue D.told
         → ConfigOf (D.extent disk.old) (D.flash disk.old).reads
         (Configured layout.now key.now frame) }
-    ensures answers { IsTrue D.told → Answers layout.now key.now (D.flash disk.old).reads result }
+    ensures answers { IsTrue D.told
+        → Answers frame layout.now key.now (D.flash disk.old).reads result }
     ensures size { D.extent disk.new ≡ D.extent disk.old }
     ensures settled { IsTrue D.told → IfUnfaulted result
         (IsSame (D.flash disk.old) (D.flash disk.new) ⊎ IsSettled (D.flash disk.new)) }
@@ -57,7 +58,7 @@ fn start_installed<H: Host, D: Disk, L: Launcher>(
         (counts_of (H.faults host.new) (D.faults disk.new) (L.faults launcher.new)) }
     ensures files { IsTrue H.told → H.file host.new ≡ H.file host.old }
     ensures plays { IsTrue D.told → IsTrue L.told
-        → PlayedSo (PlaysBoot layout.now key.now (H.file host.old) (D.flash disk.old).reads
+        → PlayedSo (PlaysBoot frame layout.now key.now (H.file host.old) (D.flash disk.old).reads
         (D.flash disk.new).reads
         (L.launches launcher.old) (L.launches launcher.new))
         ((D.flash disk.new).reads ≡ (D.flash disk.old).reads)
@@ -65,7 +66,7 @@ fn start_installed<H: Host, D: Disk, L: Launcher>(
     ensures unasked { host.new ≡ host.old }
     ensures grows { IsTrue D.told → Grows (D.flash disk.old) (D.flash disk.new) }
     ensures keeps { IsTrue D.told
-        → KeptSo (KeepsBoot layout.now key.now (D.flash disk.old) (D.flash disk.new))
+        → KeptSo (KeepsBoot frame layout.now key.now (D.flash disk.old) (D.flash disk.new))
         (IsSame (D.flash disk.old) (D.flash disk.new)) result }
 {
     manifest_laws();
@@ -110,11 +111,12 @@ pub fn boot<H: Host, D: Disk, L: Launcher>(
         (counts_of (H.faults host.new) (D.faults disk.new) (L.faults launcher.new)) }
     ensures files { IsTrue H.told → H.file host.new ≡ H.file host.old }
     ensures unasked { host.new ≡ host.old }
-    ensures answers { IsTrue D.told → Answers layout.now key.now (D.flash disk.old).reads result }
+    ensures answers { IsTrue D.told
+        → Answers frame layout.now key.now (D.flash disk.old).reads result }
     ensures unrefused { IsTrue D.told → Sound (D.flash disk.old).reads
         → IsUnrefused result }
     ensures plays { IsTrue D.told → IsTrue L.told
-        → PlayedSo (PlaysBoot layout.now key.now (H.file host.old) (D.flash disk.old).reads
+        → PlayedSo (PlaysBoot frame layout.now key.now (H.file host.old) (D.flash disk.old).reads
         (D.flash disk.new).reads
         (L.launches launcher.old) (L.launches launcher.new))
         ((D.flash disk.new).reads ≡ (D.flash disk.old).reads)
@@ -124,7 +126,7 @@ pub fn boot<H: Host, D: Disk, L: Launcher>(
         → Sound (D.flash disk.old).reads
         → GainsSafe (L.launches launcher.old) (L.launches launcher.new) }
     ensures keeps { IsTrue D.told
-        → KeptSo (KeepsBoot layout.now key.now (D.flash disk.old) (D.flash disk.new))
+        → KeptSo (KeepsBoot frame layout.now key.now (D.flash disk.old) (D.flash disk.new))
         (IsSame (D.flash disk.old) (D.flash disk.new)) result }
     ensures sound { IsTrue D.told → Settled (D.flash disk.old)
         → Passes (D.flash disk.old) (D.flash disk.new) Sound }

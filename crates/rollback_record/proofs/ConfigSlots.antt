@@ -4,9 +4,10 @@ use Rattle.std.specs.Prelude.{IfSome}
 use Rattle.std.specs.List.{All}
 use Rattle.std.proofs.lemmas.List.{get_or-append_right, length-replicate}
 use Rattle.std.proofs.lemmas.List.Elements.{All-head, All-tail}
-use Rattle.flash_layout.specs.declared.frame.TheConstants.{VERSION_1}
+use Rattle.flash_layout.specs.declared.frame.Frame.{Frame}
 use Rattle.flash_layout.specs.declared.key.Key.{Key}
 use Rattle.flash_layout.specs.declared.layout.Entry.{Entry}
+use Rattle.flash_layout.specs.Frames.{most}
 use Rattle.flash_layout.specs.ConfigPage.{IsConfigPage, config_page, entries_bytes, entry_bytes, number_bytes, optional_id, padded, page_front}
 use Rattle.suit_params.specs.Identifiers.{spelled_id}
 use Rattle.flash_layout.specs.Layouts.{IsEntry, IsTypedEntry, IsUuid}
@@ -72,7 +73,7 @@ slots_at size (e ∷ layout) rest typed each (suc i) d lt =
 
 -- ---- the page
 
-module _ (size : ℕ) (page : List ℕ) (layout : List Entry) (key : Key) (is : IsConfigPage VERSION_1 size page layout key) (typed : All IsTypedEntry layout) (room : length key.bytes ≡ 64) where
+module _ (frame : Frame) (size : ℕ) (page : List ℕ) (layout : List Entry) (key : Key) (is : IsConfigPage frame size page layout key) (typed : All IsTypedEntry layout) (room : length key.bytes ≡ 64) where
   count_at : get_or page 3 0 ≡ length layout
   unfolding config_page
   count_at = ap (λ (l : List ℕ). get_or l 3 0) is.is
@@ -80,12 +81,12 @@ module _ (size : ℕ) (page : List ℕ) (layout : List Entry) (key : Key) (is : 
   slots_in : (i : ℕ) (d : Entry) → i < length layout → get_or page (142 * i + 69) 0 ≡ (get_or layout i d).slots
   unfolding config_page
   slots_in i d lt =
-      let front : length (page_front VERSION_1 layout key) ≡ 68 = omega (arith, room) in
+      let front : length (page_front frame layout key) ≡ 68 = omega (arith, room) in
       let back : 142 * i + 69 - 68 ≡ 142 * i + 1 = omega arith in
       ap (λ (l : List ℕ). get_or l (142 * i + 69) 0) is.is
-      ∙ get_or-append_right (page_front VERSION_1 layout key) (padded 1136 (entries_bytes layout)) 68 (142 * i + 69) 0 front (omega arith)
-      ∙ ap (λ (k : ℕ). get_or (padded 1136 (entries_bytes layout)) k 0) back
-      ∙ slots_at size layout (replicate (1136 - length (entries_bytes layout)) 0) typed is.allowed.each i d lt
+      ∙ get_or-append_right (page_front frame layout key) (padded (142 * most frame) (entries_bytes layout)) 68 (142 * i + 69) 0 front (omega arith)
+      ∙ ap (λ (k : ℕ). get_or (padded (142 * most frame) (entries_bytes layout)) k 0) back
+      ∙ slots_at size layout (replicate (142 * most frame - length (entries_bytes layout)) 0) typed is.allowed.each i d lt
 
   -- a component of the layout that has two slots has a second one
   pub second_slot : (i : ℕ) (d : Entry) → i < length layout → (get_or layout i d).slots ≡ 2 → HasSecondSlot page i

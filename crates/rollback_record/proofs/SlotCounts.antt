@@ -2,7 +2,7 @@
 use Rattle.std.proofs.Common.{◌≡◌, inl, inr, ⊎_elim, ◌<◌, ◌+◌, ◌↔◌, ℕ, List, [], get_or, set, length, Option, Some, None, sym, ◌∙◌, subst, arith, get_or-set_other, get_or-set_same}
 use Rattle.std.proofs.lemmas.Bool.{cases_eq}
 use Rattle.std.specs.Prelude.{IfSome}
-use Rattle.flash_layout.specs.declared.frame.TheConstants.{VERSION_1}
+use Rattle.flash_layout.specs.declared.frame.Frame.{Frame}
 use Rattle.flash_layout.specs.declared.key.Key.{Key}
 use Rattle.flash_layout.specs.declared.layout.Entry.{Entry}
 use Rattle.flash_layout.specs.declared.layout.Memory.TheVariants as memory
@@ -12,7 +12,7 @@ use Rattle.flash_layout.specs.Frames.{config_page_of, head_of}
 use Rattle.rollback_record.specs.RecordPage.{CountSlots, HasSlot, IsActiveSlot, IsPageBeside, IsRecordPage}
 use Rattle.rollback_record.proofs.ConfigSlots.{has_two, second_slot}
 
-module _ (config slots : List ℕ) (counts : CountSlots config slots) where
+module _ (frame : Frame) (config slots : List ℕ) (counts : CountSlots config slots) where
   to_active : (i slot : ℕ) → i < 8 → HasSlot (get_or slots i 0) slot → IsActiveSlot config i slot
   to_active i slot low (inl first) = inl first
   to_active i slot low (inr (second, two)) = inr (second, (counts i low).0 two)
@@ -21,25 +21,25 @@ module _ (config slots : List ℕ) (counts : CountSlots config slots) where
   from_active i slot low (inl first) = inl first
   from_active i slot low (inr (second, two)) = inr (second, (counts i low).1 two)
 
-  to_page : (page : List ℕ) (r : Record) → IsPageBeside VERSION_1 slots page r → IsRecordPage VERSION_1 config page r
+  to_page : (page : List ℕ) (r : Record) → IsPageBeside frame slots page r → IsRecordPage frame config page r
   to_page page r is = record {
     typed = is.typed;
     fields = record { bank = is.fields.bank; size = is.fields.size; active = λ i low. to_active i (get_or r.active i 0) low (is.fields.active i low) };
     bytes = is.bytes;
   }
 
-  from_page : (page : List ℕ) (r : Record) → IsRecordPage VERSION_1 config page r → IsPageBeside VERSION_1 slots page r
+  from_page : (page : List ℕ) (r : Record) → IsRecordPage frame config page r → IsPageBeside frame slots page r
   from_page page r is = record {
     typed = is.typed;
     fields = record { bank = is.fields.bank; size = is.fields.size; active = λ i low. from_active i (get_or r.active i 0) low (is.fields.active i low) };
     bytes = is.bytes;
   }
 
-  pub some_page : (page : List ℕ) (o : Option Record) → IfSome o (λ r. IsPageBeside VERSION_1 slots page r) → IfSome o (IsRecordPage VERSION_1 config page)
+  pub some_page : (page : List ℕ) (o : Option Record) → IfSome o (λ r. IsPageBeside frame slots page r) → IfSome o (IsRecordPage frame config page)
   some_page page None is = is
   some_page page (Some r) is = to_page page r is
 
-  pub every_page : (page : List ℕ) (o : Option Record) → ((r : Record) → IsPageBeside VERSION_1 slots page r → o ≡ Some r) → (r : Record) → IsRecordPage VERSION_1 config page r → o ≡ Some r
+  pub every_page : (page : List ℕ) (o : Option Record) → ((r : Record) → IsPageBeside frame slots page r → o ≡ Some r) → (r : Record) → IsRecordPage frame config page r → o ≡ Some r
   every_page page o every r is = every r (from_page page r is)
 
 -- some component, where any serves
@@ -47,11 +47,11 @@ some_entry : Entry
 some_entry = record { identifier = []; memory = memory.Ram; slots = 0; starts = []; capacity = 0; vendor = None; class = None; device = None }
 
 -- the slots of a layout are those of its configuration page
-pub of_layout : (size : ℕ) (image : List ℕ) (layout : List Entry) (key : Key) (slots : List ℕ) → ConfigOf size image (Configured layout key VERSION_1)
-    → ((i : ℕ) → i < 8 → (get_or slots i 0 ≡ 2) ↔ ((i < length layout) × ((d : Entry) → (get_or layout i d).slots ≡ 2))) → CountSlots (config_page_of VERSION_1 (head_of VERSION_1 image)) slots
-of_layout size image layout key slots is counts = λ i low. (
-  λ two. let has = (counts i low).0 two in second_slot size (config_page_of VERSION_1 (head_of VERSION_1 image)) layout key is.page is.typed.entries is.typed.room i some_entry has.0 (has.1 some_entry),
-  λ second. (counts i low).1 (has_two size (config_page_of VERSION_1 (head_of VERSION_1 image)) layout key is.page is.typed.entries is.typed.room i second),
+pub of_layout : (frame : Frame) (size : ℕ) (image : List ℕ) (layout : List Entry) (key : Key) (slots : List ℕ) → ConfigOf size image (Configured layout key frame)
+    → ((i : ℕ) → i < 8 → (get_or slots i 0 ≡ 2) ↔ ((i < length layout) × ((d : Entry) → (get_or layout i d).slots ≡ 2))) → CountSlots (config_page_of frame (head_of frame image)) slots
+of_layout frame size image layout key slots is counts = λ i low. (
+  λ two. let has = (counts i low).0 two in second_slot frame size (config_page_of frame (head_of frame image)) layout key is.page is.typed.entries is.typed.room i some_entry has.0 (has.1 some_entry),
+  λ second. (counts i low).1 (has_two frame size (config_page_of frame (head_of frame image)) layout key is.page is.typed.entries is.typed.room i second),
 )
 
 -- ---- one slot after another

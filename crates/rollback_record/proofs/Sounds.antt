@@ -1,11 +1,10 @@
 -- Sound flashes: what a commit and a formatting leave.
-use Rattle.std.proofs.Common.{◌≡◌, ◌≢◌, ◌⊎◌, inl, inr, ⊎_elim, ◌<◌, ◌≤◌, ℕ, ◌+◌, ◌*◌, List, length, get_or, Option, Some, None, IfSome, refl, sym, ◌∙◌, ap, subst, arith}
+use Rattle.std.proofs.Common.{◌≡◌, ◌≢◌, ◌⊎◌, inl, inr, ⊎_elim, ◌<◌, ◌≤◌, ℕ, ◌+◌, List, length, get_or, Option, Some, None, IfSome, refl, sym, ◌∙◌, ap, subst, arith}
 use Rattle.std.proofs.lemmas.Bool.{cases_eq}
 use Rattle.std.proofs.lemmas.List.Edits.{get_or-between}
 use Rattle.suit_edge.specs.Ranges.{Outside}
 use Rattle.suit_edge.specs.RangeLaws.{same_range}
 use Rattle.flash_layout.specs.declared.frame.Frame.{Frame}
-use Rattle.flash_layout.specs.declared.frame.TheConstants.{VERSION_1}
 use Rattle.flash_layout.specs.declared.key.Key.{Key}
 use Rattle.flash_layout.specs.declared.layout.Entry.{Entry}
 use Rattle.flash_layout.specs.declared.slot.Record.{Record}
@@ -13,13 +12,15 @@ use Rattle.flash_layout.specs.ConfigLaws.{OneAnswer}
 use Rattle.flash_layout.specs.ConfigPage.{IsConfigPage}
 use Rattle.flash_layout.specs.Configs.{Config, ConfigOf, Blank, Configured}
 use Rattle.flash_layout.specs.Formats.{IsFormatted}
-use Rattle.flash_layout.specs.Frames.{HasNoRecord, bank_of, config_page_of, head_of, record_from}
+use Rattle.flash_layout.specs.FrameFacts.{FrameFacts, bank_high, bank_there, facts}
+use Rattle.flash_layout.specs.Frames.{HasNoRecord, bank_of, bank_place, bank_size, config_page_of, head_of, head_size, record_from, record_place}
+use Rattle.rollback_record.specs.Committing.{InHead}
 use Rattle.rollback_record.specs.HeadRecord.{Counts, RecordOf}
 use Rattle.rollback_record.specs.SoundFlash.{Follows, FollowsBlank, FollowsOn, IsInstalled, IsNoEarlier, Sound, SoundBlank, SoundEmpty, SoundInstalled, recorded_bank}
 use Rattle.rollback_record.specs.SoundLaws.{HasNewInRange, IsCommitted, IsInstalledFor}
 use Rattle.rollback_record.proofs.OneAnswers.{one_answer}
-use Rattle.rollback_record.proofs.Pages.{config_same, inner_range}
-use Rattle.rollback_record.proofs.SoundBy.{SoundBy, BlankBy, EmptyBy, InstalledBy, sound_by_version_1}
+use Rattle.rollback_record.proofs.Pages.{config_same}
+use Rattle.rollback_record.proofs.SoundBy.{SoundBy, BlankBy, EmptyBy, InstalledBy, sound_by}
 
 -- ---- no record
 
@@ -94,104 +95,110 @@ onward law a b c (FollowsOn first) (FollowsOn second) =
 
 -- ---- heads that agree on the configuration page
 
-module _ (a c : List ℕ) (large : 49152 ≤ length a) (size : length c ≡ length a) (page : config_page_of VERSION_1 (head_of VERSION_1 a) ≡ config_page_of VERSION_1 (head_of VERSION_1 c))
-    (gate : get_or c 0 0 ≡ get_or a 0 0) where
-  long_c : 49152 ≤ length c
-  long_c = omega (arith, size, large)
+module _ (size : ℕ) (frame : Frame) (placed : FrameFacts size frame) (a c : List ℕ) (large : frame.base + head_size frame ≤ length a) (long : length c ≡ length a)
+    (page : config_page_of frame (head_of frame a) ≡ config_page_of frame (head_of frame c)) (gate : get_or c 0 0 ≡ get_or a 0 0) where
+  long_c : frame.base + head_size frame ≤ length c
+  long_c = omega (arith, long, large)
 
-  pub same_config : (layout : List Entry) (key : Key) → ConfigOf (length a) a (Configured layout key VERSION_1) → ConfigOf (length c) c (Configured layout key VERSION_1)
+  pub same_config : (layout : List Entry) (key : Key) → ConfigOf (length a) a (Configured layout key frame) → ConfigOf (length c) c (Configured layout key frame)
   same_config layout key is = record {
-    version = refl;
-    whole = omega (arith, long_c);
+    version = is.version;
+    whole = long_c;
     typed = is.typed;
-    page = subst (λ (n : ℕ). IsConfigPage VERSION_1 n (config_page_of VERSION_1 (head_of VERSION_1 c)) layout key) (sym size) (subst (λ (l : List ℕ). IsConfigPage VERSION_1 (length a) l layout key) page is.page);
+    page = subst (λ (n : ℕ). IsConfigPage frame n (config_page_of frame (head_of frame c)) layout key) (sym long) (subst (λ (l : List ℕ). IsConfigPage frame (length a) l layout key) page is.page);
   }
 
   pub same_blank : ConfigOf (length a) a Blank → ConfigOf (length c) c Blank
-  same_blank is = ⊎_elim (λ short. absurd (none short)) (λ closed. inr (λ opened. closed (sym gate ∙ opened))) is
-    where
-      none : length a < 49152 → ⊥
-      none short = omega (arith, short, large)
+  same_blank is = ⊎_elim (λ short. inl (omega (arith, short, long))) (λ closed. inr (λ opened. closed (sym gate ∙ opened))) is
 
   -- and on a bank
-  pub same_bank : (b n : ℕ) → b < 2 → n ≤ 16384 → ((i : ℕ) → 12288 + b * 16384 ≤ i → i < 12288 + b * 16384 + n → get_or c i 0 ≡ get_or a i 0)
-      → bank_of VERSION_1 (head_of VERSION_1 a) b n ≡ bank_of VERSION_1 (head_of VERSION_1 c) b n
+  pub same_bank : (b n : ℕ) → b < 2 → n ≤ bank_size frame → ((i : ℕ) → bank_place frame b ≤ i → i < bank_place frame b + n → get_or c i 0 ≡ get_or a i 0)
+      → bank_of frame (head_of frame a) b n ≡ bank_of frame (head_of frame c) b n
   same_bank b n few short same =
-      inner_range a 49152 (12288 + b * 16384) (12288 + b * 16384 + n) (omega arith) (omega (arith, few, short))
-      ∙ sym (same_range c a (12288 + b * 16384) (12288 + b * 16384 + n) size (omega (arith, long_c, few, short)) same)
-      ∙ sym (inner_range c 49152 (12288 + b * 16384) (12288 + b * 16384 + n) (omega arith) (omega (arith, few, short)))
+      bank_there size frame placed a b n few short
+      ∙ sym (same_range c a (bank_place frame b) (bank_place frame b + n) long (omega (arith, long_c, short, bank_high size frame placed b few)) same)
+      ∙ sym (bank_there size frame placed c b n few short)
 
 -- ---- a commit
 
-module _ (a c : List ℕ) (w : ℕ) (large : 49152 ≤ length a) (size : length c ≡ length a) (two : w < 2)
-    (apart : (i : ℕ) → i < 49152 → Outside (4096 + w * 4096) 99 i → get_or c i 0 ≡ get_or a i 0) where
-  page_same : config_page_of VERSION_1 (head_of VERSION_1 a) ≡ config_page_of VERSION_1 (head_of VERSION_1 c)
-  page_same = config_same a c w large size two apart
+module _ (size : ℕ) (frame : Frame) (placed : FrameFacts size frame) (a c : List ℕ) (w : ℕ) (large : frame.base + head_size frame ≤ length a) (long : length c ≡ length a) (two : w < 2)
+    (apart : (i : ℕ) → InHead frame i → Outside (record_place frame w) 99 i → get_or c i 0 ≡ get_or a i 0) where
+  page_same : config_page_of frame (head_of frame a) ≡ config_page_of frame (head_of frame c)
+  page_same = config_same size frame placed a c w large long two apart
 
   gate_same : get_or c 0 0 ≡ get_or a 0 0
-  gate_same = apart 0 (omega arith) (inl (omega arith))
+  gate_same = apart 0 (placed.gate.0, omega (arith, placed.gate.1, placed.head)) (inl (omega (arith, placed.gate.1)))
 
-  configured : (layout : List Entry) (key : Key) → ConfigOf (length a) a (Configured layout key VERSION_1) → ConfigOf (length c) c (Configured layout key VERSION_1)
-  configured = same_config a c large size page_same gate_same
+  configured : (layout : List Entry) (key : Key) → ConfigOf (length a) a (Configured layout key frame) → ConfigOf (length c) c (Configured layout key frame)
+  configured = same_config size frame placed a c large long page_same gate_same
 
   blank : ConfigOf (length a) a Blank → ConfigOf (length c) c Blank
-  blank = same_blank a c large size page_same gate_same
+  blank = same_blank size frame placed a c large long page_same gate_same
 
-  bank_same : (b n : ℕ) → b < 2 → n ≤ 16384 → bank_of VERSION_1 (head_of VERSION_1 a) b n ≡ bank_of VERSION_1 (head_of VERSION_1 c) b n
-  bank_same b n few short = same_bank a c large size page_same gate_same b n few short (λ i low high. apart i (omega (arith, high, few, short)) (inr (omega (arith, low, two))))
+  bank_same : (b n : ℕ) → b < 2 → n ≤ bank_size frame → bank_of frame (head_of frame a) b n ≡ bank_of frame (head_of frame c) b n
+  bank_same b n few short =
+      same_bank size frame placed a c large long page_same gate_same b n few short
+      (λ i low high. apart i (omega (arith, low), omega (arith, high, short, bank_high size frame placed b few)) (inr (omega (arith, low, two))))
 
-  installed_same : (layout : List Entry) (key : Key) (r : Record) → r.bank < 2 → r.length ≤ 16384 → IsInstalled layout key (recorded_bank VERSION_1 (head_of VERSION_1 a) r) r
-      → IsInstalled layout key (recorded_bank VERSION_1 (head_of VERSION_1 c) r) r
+  installed_same : (layout : List Entry) (key : Key) (r : Record) → r.bank < 2 → r.length ≤ bank_size frame → IsInstalled layout key (recorded_bank frame (head_of frame a) r) r
+      → IsInstalled layout key (recorded_bank frame (head_of frame c) r) r
   installed_same layout key r few short is = subst (λ (l : List ℕ). IsInstalled layout key l r) (bank_same r.bank r.length few short) is
 
-  module _ (held : Option Record) (new : Record) (was : RecordOf VERSION_1 (head_of VERSION_1 a) held) where
+  module _ (held : Option Record) (new : Record) (was : RecordOf frame (head_of frame a) held) where
     -- the new record
-    new_sound : HasNewInRange a new → IsInstalledFor a new → RecordOf VERSION_1 (head_of VERSION_1 c) (Some new) → (layout : List Entry) (key : Key)
-        → ConfigOf (length a) a (Configured layout key VERSION_1) → Sound c
+    new_sound : HasNewInRange frame a new → IsInstalledFor a new → RecordOf frame (head_of frame c) (Some new) → (layout : List Entry) (key : Key)
+        → ConfigOf (length a) a (Configured layout key frame) → Sound c
     new_sound fields installed is layout key config =
-        SoundInstalled layout key VERSION_1 new (configured layout key config) is (installed_same layout key new fields.bank fields.size (installed layout key VERSION_1 config))
+        SoundInstalled layout key frame new (configured layout key config) is (installed_same layout key new fields.bank fields.size (installed layout key frame config))
 
     -- the one that it held
-    still_sound : SoundBy VERSION_1 a → RecordOf VERSION_1 (head_of VERSION_1 c) held → Sound c
+    still_sound : SoundBy frame a → RecordOf frame (head_of frame c) held → Sound c
     still_sound (BlankBy is) held_is = SoundBlank (blank is)
     still_sound (EmptyBy layout key config none) held_is =
-        SoundEmpty layout key VERSION_1 (configured layout key config) (subst (λ (o : Option Record). RecordOf VERSION_1 (head_of VERSION_1 c) o) (one_answer VERSION_1 (head_of VERSION_1 a) held None was none) held_is)
+        SoundEmpty layout key frame (configured layout key config) (subst (λ (o : Option Record). RecordOf frame (head_of frame c) o) (one_answer frame (head_of frame a) held None was none) held_is)
     still_sound (InstalledBy layout key r config is installed) held_is =
-        SoundInstalled layout key VERSION_1 r (configured layout key config) (subst (λ (o : Option Record). RecordOf VERSION_1 (head_of VERSION_1 c) o) (one_answer VERSION_1 (head_of VERSION_1 a) held (Some r) was is) held_is)
+        SoundInstalled layout key frame r (configured layout key config) (subst (λ (o : Option Record). RecordOf frame (head_of frame c) o) (one_answer frame (head_of frame a) held (Some r) was is) held_is)
         (installed_same layout key r is.counts.page.fields.bank is.counts.page.fields.size installed)
 
-    now_sound : HasNewInRange a new → IsInstalledFor a new → SoundBy VERSION_1 a → RecordOf VERSION_1 (head_of VERSION_1 c) (Some new) → Sound c
+    now_sound : HasNewInRange frame a new → IsInstalledFor a new → SoundBy frame a → RecordOf frame (head_of frame c) (Some new) → Sound c
     now_sound fields installed (BlankBy is) new_is = SoundBlank (blank is)
     now_sound fields installed (EmptyBy layout key config none) new_is = new_sound fields installed new_is layout key config
     now_sound fields installed (InstalledBy layout key r config is was_installed) new_is = new_sound fields installed new_is layout key config
 
     -- and what goes on
-    goes_on : ((r : Record) → held ≡ Some r → (s : Record) × RecordOf VERSION_1 (head_of VERSION_1 c) (Some s) × IsNoEarlier r s) → (layout : List Entry) (key : Key)
-        → ConfigOf (length a) a (Configured layout key VERSION_1) → Follows a c
+    goes_on : ((r : Record) → held ≡ Some r → (s : Record) × RecordOf frame (head_of frame c) (Some s) × IsNoEarlier r s) → (layout : List Entry) (key : Key)
+        → ConfigOf (length a) a (Configured layout key frame) → Follows a c
     goes_on later layout key config =
-        FollowsOn (record { layout = layout; key = key; before = VERSION_1; now = VERSION_1; was = config; is = configured layout key config; later = λ r is. later r (one_answer VERSION_1 (head_of VERSION_1 a) held (Some r) was is) })
+        FollowsOn (record { layout = layout; key = key; before = frame; now = frame; was = config; is = configured layout key config; later = λ r is. later r (one_answer frame (head_of frame a) held (Some r) was is) })
 
-    on_from : ((r : Record) → held ≡ Some r → (s : Record) × RecordOf VERSION_1 (head_of VERSION_1 c) (Some s) × IsNoEarlier r s) → SoundBy VERSION_1 a → Follows a c
+    on_from : ((r : Record) → held ≡ Some r → (s : Record) × RecordOf frame (head_of frame c) (Some s) × IsNoEarlier r s) → SoundBy frame a → Follows a c
     on_from later (BlankBy is) = FollowsBlank is
     on_from later (EmptyBy layout key config none) = goes_on later layout key config
     on_from later (InstalledBy layout key r config is installed) = goes_on later layout key config
 
-later_of : (head : List ℕ) (held : Option Record) (new : Record) → IfSome held (λ r. IsNoEarlier r new) → RecordOf VERSION_1 head held ⊎ RecordOf VERSION_1 head (Some new) → (r : Record) → held ≡ Some r
-    → (s : Record) × RecordOf VERSION_1 head (Some s) × IsNoEarlier r s
-later_of head held new sure is r e = ⊎_elim
-    (λ old. (r, subst (λ (o : Option Record). RecordOf VERSION_1 head o) e old, record { number = omega arith; same = λ _. refl }))
+later_of : (frame : Frame) (head : List ℕ) (held : Option Record) (new : Record) → IfSome held (λ r. IsNoEarlier r new) → RecordOf frame head held ⊎ RecordOf frame head (Some new) → (r : Record) → held ≡ Some r
+    → (s : Record) × RecordOf frame head (Some s) × IsNoEarlier r s
+later_of frame head held new sure is r e = ⊎_elim
+    (λ old. (r, subst (λ (o : Option Record). RecordOf frame head o) e old, record { number = omega arith; same = λ _. refl }))
     (λ now. (new, now, subst (λ (o : Option Record). IfSome o (λ r. IsNoEarlier r new)) e sure))
     is
 
-module _ (held : Option Record) (new : Record) (before image : List ℕ) (is : IsCommitted held new before image) where
-  beside : (i : ℕ) → i < 49152 → Outside (4096 + is.which * 4096) 99 i → get_or image i 0 ≡ get_or before i 0
-  beside i few out = is.beside.same i ((omega arith, omega (arith, few)), ⊎_elim (λ h. inl (omega (arith, h))) (λ h. inr (omega (arith, h))) out)
+module _ (frame : Frame) (held : Option Record) (new : Record) (before image : List ℕ) (is : IsCommitted frame held new before image) where
+  there : FrameFacts (length before) frame
+  there = facts (length before) frame is.frame_is.is
 
-  pub committed : HasNewInRange before new → IsInstalledFor before new → Sound before → Sound image
-  committed fields installed sound = ⊎_elim
-      (still_sound before image is.which is.large is.beside.size is.two beside held new is.was (sound_by_version_1 before sound))
-      (now_sound before image is.which is.large is.beside.size is.two beside held new is.was fields installed (sound_by_version_1 before sound))
+  beside : (i : ℕ) → InHead frame i → Outside (record_place frame is.which) 99 i → get_or image i 0 ≡ get_or before i 0
+  beside i inside out = is.beside.same i (inside, out)
+
+  pub committed : HasNewInRange frame before new → IsInstalledFor before new → Sound before → Sound image
+  committed fields installed sound =
+      let by = sound_by frame before is.frame_is.told sound in
+      ⊎_elim
+      (still_sound (length before) frame there before image is.which there.inside is.beside.size is.two beside held new is.was by)
+      (now_sound (length before) frame there before image is.which there.inside is.beside.size is.two beside held new is.was fields installed by)
       is.record_is
 
   pub follows : IfSome held (λ r. IsNoEarlier r new) → Sound before → Follows before image
-  follows sure sound = on_from before image is.which is.large is.beside.size is.two beside held new is.was (later_of (head_of VERSION_1 image) held new sure is.record_is) (sound_by_version_1 before sound)
+  follows sure sound =
+      on_from (length before) frame there before image is.which there.inside is.beside.size is.two beside held new is.was (later_of frame (head_of frame image) held new sure is.record_is)
+      (sound_by frame before is.frame_is.told sound)

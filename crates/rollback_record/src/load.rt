@@ -1,13 +1,12 @@
 //! Reading the record.
 
-ghost use Rattle.flash_layout.specs.declared.frame.TheConstants.{VERSION_1};
 ghost use Rattle.flash_layout.specs.declared.key.Key.{Key};
 ghost use Rattle.flash_layout.specs.Configs.{ConfigOf, Configured};
 ghost use Rattle.flash_layout.specs.Frames.{IsFrame, config_page_of, head_of, head_size};
 ghost use Rattle.rollback_record.specs.Committing.{HasPages};
 ghost use Rattle.rollback_record.specs.HeadRecord.{HaveRead, IsLoadable, RecordOf, ResultCounts, beside_higher, higher};
 ghost use Rattle.rollback_record.specs.RecordPage.{CountSlots};
-ghost use Rattle.std.specs.Prelude.{◌≡◌, ◌<◌, ◌≤◌, ℕ, IfOk, IfSome, IsTrue, List, length};
+ghost use Rattle.std.specs.Prelude.{◌≡◌, ◌<◌, ◌≤◌, ℕ, IfOk, IfSome, IsTrue, List, length, slice_range};
 ghost use Rattle.suit_edge.specs.Edge.{IfDone};
 ghost use Rattle.suit_edge.specs.Faults.{EdgeCounts};
 ghost use Rattle.suit_edge.specs.Flash.{Grows, IsSame};
@@ -16,18 +15,18 @@ use crate::page::{RECORD_BYTES, decode};
 use crate::slot_counts::{counts_in, counts_on};
 use crate::{RecordPages, Spare};
 use flash_layout::{
-    FlashFault, Frame, HEAD_SIZE, Layout, MAX_ENTRIES, PAGE_BYTES, Record, record_page,
+    FlashFault, Frame, Layout, MAX_ENTRIES, PAGE_BYTES, Record, head_size, record_page,
 };
 use suit_edge::{Disk, Edge, gate_of};
 
-// Reads the configuration page.
+// Reads the configuration page, as far as eight components go.
 fn read_config<D: Disk>(disk: &mut D, frame: Frame, config: &mut [u8; PAGE_BYTES]) -> Edge
     requires { IsFrame (D.extent disk.old) frame }
     ensures size { D.extent disk.new ≡ D.extent disk.old }
     ensures counts { EdgeCounts result (D.faults disk.old) (D.faults disk.new) }
     ensures bytes { IsTrue D.told
         → IfDone result
-        (config.new ≡ config_page_of frame (head_of frame (D.flash disk.old).reads)) }
+        (config.new ≡ slice_range (head_of frame (D.flash disk.old).reads) 0 PAGE_BYTES) }
     ensures same { IsTrue D.told → IsSame (D.flash disk.old) (D.flash disk.new) }
     ensures grows { IsTrue D.told → Grows (D.flash disk.old) (D.flash disk.new) }
 {
@@ -82,20 +81,21 @@ fn higher_of(first: Option<Record>, second: Option<Record>) -> (Option<Record>, 
     }
 }
 
-// Both pages, where each component has so many slots.
+// Both pages, by the frame and where each component has so many slots.
 fn judge_pages(
+    frame: Frame,
     slots: &[u8; MAX_ENTRIES],
     first: &[u8; RECORD_BYTES],
     second: &[u8; RECORD_BYTES],
 ) -> RecordPages
-    ensures loadable { IfSome result.held (IsLoadable VERSION_1) }
+    ensures loadable { IfSome result.held (IsLoadable frame) }
     ensures two { result.spare.which < 2 }
-    ensures exact { (head : List ℕ) → head_size VERSION_1 ≤ length head
-        → HaveRead VERSION_1 head first.now second.now
-        → CountSlots (config_page_of VERSION_1 head) slots.now
-        → HasPages VERSION_1 head result }
+    ensures exact { (head : List ℕ) → head_size frame ≤ length head
+        → HaveRead frame head first.now second.now
+        → CountSlots (config_page_of frame head) slots.now
+        → HasPages frame head result }
 {
-    let (held, which) = higher_of(decode(slots, first), decode(slots, second));
+    let (held, which) = higher_of(decode(frame, slots, first), decode(frame, slots, second));
     let gate = if which == 0 { first[0] } else { second[0] };
     let spare = Spare {
         which,
@@ -128,11 +128,11 @@ fn load_beside<D: Disk>(
         Edge::Failed => return Err(FlashFault),
         Edge::Done => {}
     }
-    Ok(judge_pages(slots, &first, &second))
+    Ok(judge_pages(frame, slots, &first, &second))
 }
 
-/// The record that the flash with this frame holds, or `None` where no page counts, as on a flash of fewer than 49,152
-/// bytes. Changes nothing, whatever it answers.
+/// The record that the flash with this frame holds, or `None` where no page counts, as on a flash that has no room
+/// for the head. Changes nothing, whatever it answers.
 pub fn load_record<D: Disk>(disk: &mut D, frame: Frame) -> Result<Option<Record>, FlashFault>
     requires { head_size frame ≤ D.extent disk.old → IsFrame (D.extent disk.old) frame }
     ensures size { D.extent disk.new ≡ D.extent disk.old }
@@ -144,7 +144,8 @@ pub fn load_record<D: Disk>(disk: &mut D, frame: Frame) -> Result<Option<Record>
     ensures grows { IsTrue D.told → Grows (D.flash disk.old) (D.flash disk.new) }
 {
     let size = disk.size();
-    if size < HEAD_SIZE {
+    let least = head_size(frame);
+    if size < least {
         return Ok(None);
     }
     let mut config = [0u8; PAGE_BYTES];

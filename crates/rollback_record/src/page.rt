@@ -1,11 +1,10 @@
 //! The bytes of a record page, and how they are read and put together without memory.
 
-ghost use Rattle.flash_layout.specs.declared.frame.TheConstants.{VERSION_1};
 ghost use Rattle.rollback_record.specs.RecordPage.{FitsSlots, HasSlot, IsPageBeside, bank_field, digest_at, digest_field, fields_at, fields_with, numbers_field, record_body};
 ghost use Rattle.std.specs.Prelude.{◌≡◌, ◌↔◌, ◌≤◌, ◌<◌, ◌+◌, ℕ, ◌∷◌, ◌++◌, Some, IfSome, IsTrue, length, slice_index};
 
 use crate::typing::typed;
-use flash_layout::{BANK_SIZE, Page, Record, read_number};
+use flash_layout::{Frame, Page, Record, bank_size, read_number};
 use suit_edge::OPEN;
 use suit_params::{Digest, kind_of_length};
 
@@ -116,11 +115,13 @@ fn are_active(slots: &[u8; 8], active: &[u8; 8]) -> bool
     true
 }
 
-/// Whether the fields are in range, where each component has so many slots.
-pub(crate) fn is_in_range(slots: &[u8; 8], installed: &Record) -> bool
-    ensures { IsTrue result ↔ FitsSlots VERSION_1 slots.now installed.now }
+/// Whether the fields are in range, by the frame and where each component has so many slots.
+pub(crate) fn is_in_range(frame: Frame, slots: &[u8; 8], installed: &Record) -> bool
+    ensures { IsTrue result ↔ FitsSlots frame slots.now installed.now }
 {
-    installed.bank < 2 && installed.length <= BANK_SIZE && are_active(slots, &installed.active)
+    installed.bank < 2
+        && installed.length <= bank_size(frame)
+        && are_active(slots, &installed.active)
 }
 
 /// Whether the bytes are the page of the record.
@@ -131,13 +132,13 @@ pub(crate) fn is_page_of(page: &[u8], installed: &Record) -> bool
 }
 
 // The record, where the page counts and holds it.
-fn judged(slots: &[u8; 8], page: &[u8], installed: Record) -> Option<Record>
-    ensures some { IfSome result (λ r. IsPageBeside VERSION_1 slots.now page.now r) }
-    ensures every { IsPageBeside VERSION_1 slots.now page.now installed
+fn judged(frame: Frame, slots: &[u8; 8], page: &[u8], installed: Record) -> Option<Record>
+    ensures some { IfSome result (λ r. IsPageBeside frame slots.now page.now r) }
+    ensures every { IsPageBeside frame slots.now page.now installed
         → result ≡ Some installed }
 {
     typed(&installed);
-    if is_in_range(slots, &installed) && is_page_of(page, &installed) {
+    if is_in_range(frame, slots, &installed) && is_page_of(page, &installed) {
         Some(installed)
     } else {
         None
@@ -145,13 +146,13 @@ fn judged(slots: &[u8; 8], page: &[u8], installed: Record) -> Option<Record>
 }
 
 /// The record of a page that counts, where each component has so many slots, or `None` where the page does not count.
-pub(crate) fn decode(slots: &[u8; 8], page: &[u8]) -> Option<Record>
+pub(crate) fn decode(frame: Frame, slots: &[u8; 8], page: &[u8]) -> Option<Record>
     requires { length page.now ≡ RECORD_BYTES }
-    ensures some { IfSome result (λ r. IsPageBeside VERSION_1 slots.now page.now r) }
-    ensures every { (r : Record) → IsPageBeside VERSION_1 slots.now page.now r → result ≡ Some r }
+    ensures some { IfSome result (λ r. IsPageBeside frame slots.now page.now r) }
+    ensures every { (r : Record) → IsPageBeside frame slots.now page.now r → result ≡ Some r }
 {
     match read_fields(page) {
-        Some(installed) => judged(slots, page, installed),
+        Some(installed) => judged(frame, slots, page, installed),
         None => None,
     }
 }

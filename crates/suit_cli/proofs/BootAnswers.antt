@@ -1,6 +1,6 @@
 -- The answer to `run boot`.
 use Rattle.std.proofs.Common.{◌≡◌, ℕ, List, Some, None, Result, Err, refl, sym, ap, subst, ◌∙◌}
-use Rattle.flash_layout.specs.declared.frame.TheConstants.{VERSION_1}
+use Rattle.flash_layout.specs.declared.frame.Frame.{Frame}
 use Rattle.flash_layout.specs.declared.key.Key.{Key}
 use Rattle.flash_layout.specs.declared.layout.Entry.{Entry}
 use Rattle.std.specs.declared.alloc.AllocError.{AllocError}
@@ -21,13 +21,13 @@ use Rattle.suit_cli.specs.Launching.{Launching}
 use Rattle.suit_cli.specs.Coming.{BootsBy, Comes, ByStages, ByBoot, ByUpdate, Ended, Answered, Booted, Updated}
 
 -- behind the configuration
-pub comes_by : (layout : List Entry) (key : Key) (l m : Launching) (b middle a : Outside) → config_in.gives b middle (layout, key, VERSION_1)
-    → (ended : Ended) → BootsBy layout key l m middle a ended → Comes (does RunBoot) (λ task. RunBoot ≡ task) l m b a ended
-comes_by layout key l m b middle a held (Answered ending) by =
-    ByStages ending (Goes (layout, key, VERSION_1) middle ending held (subst (λ (e : Ending). Last (λ (reply : Reply). ⊥) middle a e) (sym by.0) (EndsWithout by.1))) by.2
-comes_by layout key l m b middle a held (Updated end lines) by = absurd by
-comes_by layout key l m b middle a held (Booted end lines) by =
-    ByBoot end lines refl (record { layout = layout; key = key; middle = middle; held = held; boot = by.0; lines_are = by.1 })
+pub comes_by : (config : List Entry × Key × Frame) (l m : Launching) (b middle a : Outside) → config_in.gives b middle config
+    → (ended : Ended) → BootsBy config l m middle a ended → Comes (does RunBoot) (λ task. RunBoot ≡ task) l m b a ended
+comes_by config l m b middle a held (Answered ending) by =
+    ByStages ending (Goes config middle ending held (subst (λ (e : Ending). Last (λ (reply : Reply). ⊥) middle a e) (sym by.0) (EndsWithout by.1))) by.2
+comes_by config l m b middle a held (Updated end lines) by = absurd by
+comes_by config l m b middle a held (Booted end lines) by =
+    ByBoot end lines refl (record { layout = config.0; key = config.1; frame = config.2; middle = middle; held = held; boot = by.0; lines_are = by.1 })
 
 -- where there is none
 pub unconfigured : (l : Launching) (b a : Outside) (stop : Stop) → Does config_in b a (Err stop)

@@ -2,7 +2,7 @@
 use Rattle.std.proofs.Common.{◌≡◌, inl, inr, ℕ, List, subst}
 use Rattle.suit_edge.specs.Flash.{Flash, IsFlash, IsSame}
 use Rattle.suit_edge.specs.FlashLaws.{keeps_same, keeps_then, same_flash_then}
-use Rattle.flash_layout.specs.declared.frame.TheConstants.{VERSION_1}
+use Rattle.flash_layout.specs.declared.frame.Frame.{Frame}
 use Rattle.flash_layout.specs.declared.key.Key.{Key}
 use Rattle.flash_layout.specs.declared.layout.Entry.{Entry}
 use Rattle.flash_layout.specs.Configs.{ConfigOf, Configured}
@@ -27,13 +27,13 @@ pub reads_left : (Kept : Type 0) (a b : Flash) (end : BootEnd) → KeptSo Kept (
 reads_left Kept a b end kept = kept_map Kept (IsSame a b) (Unit {0}) (b.reads ≡ a.reads) (λ _. tt) (λ same. same.reads) end kept
 
 -- behind a look at the configuration
-module _ (before : Outside) (a b c : Flash) (size : ℕ) (law : IsFlash b size) (same : IsSame a b) (layout : List Entry) (key : Key)
-    (config : ConfigOf before.flash.size a.reads (Configured layout key VERSION_1)) where
-  boot_since : KeepsBoot layout key b c → KeepsBoot layout key a c
+module _ (before : Outside) (a b c : Flash) (size : ℕ) (law : IsFlash b size) (same : IsSame a b) (layout : List Entry) (key : Key) (frame : Frame)
+    (config : ConfigOf before.flash.size a.reads (Configured layout key frame)) where
+  boot_since : KeepsBoot frame layout key b c → KeepsBoot frame layout key a c
   boot_since kept = record {
     installed = kept.installed;
     manifest = kept.manifest;
-    starts = subst (λ (reads : List ℕ). Starts layout key reads kept.installed kept.manifest) same.reads kept.starts;
+    starts = subst (λ (reads : List ℕ). Starts frame layout key reads kept.installed kept.manifest) same.reads kept.starts;
     others = record {
       standings = kept.others.standings;
       stand = kept.others.stand;
@@ -44,10 +44,10 @@ module _ (before : Outside) (a b c : Flash) (size : ℕ) (law : IsFlash b size) 
   same_since : IsSame b c → IsSame a c
   same_since still = same_flash_then a b c size law same still
 
-  booted_since : KeepsBoot layout key b c → KeepsBooted before a c
-  booted_since kept = record { layout = layout; key = key; config = config; kept = boot_since kept }
+  booted_since : KeepsBoot frame layout key b c → KeepsBooted before a c
+  booted_since kept = record { layout = layout; key = key; frame = frame; config = config; kept = boot_since kept }
 
-  pub boot_keeps : (ended : Ended) → BootKeepsBy layout key ended b c → BootKeeps before ended a c
+  pub boot_keeps : (ended : Ended) → BootKeepsBy (layout, key, frame) ended b c → BootKeeps before ended a c
   boot_keeps (Booted end lines) kept = kept_map _ _ _ _ booted_since same_since end kept
   boot_keeps (Answered ending) still = same_since still
   boot_keeps (Updated end lines) still = same_since still

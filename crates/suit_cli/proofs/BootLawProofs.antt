@@ -3,7 +3,6 @@ use Rattle.std.proofs.Common.{◌≡◌, ◌⊎◌, inl, inr, ℕ, List, Option,
 use Rattle.std.specs.Prelude.{IsTrue, codes}
 use Rattle.std.proofs.lemmas.Option.{same_Some}
 use Rattle.flash_layout.specs.declared.frame.Frame.{Frame}
-use Rattle.flash_layout.specs.declared.frame.TheConstants.{VERSION_1}
 use Rattle.flash_layout.specs.declared.key.Key.{Key}
 use Rattle.flash_layout.specs.declared.layout.Entry.{Entry}
 use Rattle.flash_layout.specs.declared.slot.Record.{Record}
@@ -21,7 +20,7 @@ use Rattle.invoke_proc.specs.Starting.{IsDeclined}
 use Rattle.invoke_proc.specs.Booting.{Answers, PlayedSo, PlaysBoot, end_of}
 use Rattle.suit_cli.specs.declared.reply.Object.TheVariants as objects
 use Rattle.suit_cli.specs.declared.reply.Reply.{Reply}
-use Rattle.suit_cli.specs.BootEndLaws.{BootEndLaws, HasBytes, HasStart, StartsNothing, AtConfig, AtRecord, AtBank, AtAuthenticity, AtComponents, Played, IsNoAnswer, OnlyLooked}
+use Rattle.suit_cli.specs.BootEndLaws.{BootEndLaws, HasBank, HasBytes, HasStart, StartsNothing, AtConfig, AtRecord, AtBank, AtAuthenticity, AtComponents, Played, IsNoAnswer, OnlyLooked}
 use Rattle.suit_cli.specs.Booting.{Boots, boot_line}
 use Rattle.suit_cli.specs.Coming.{Comes, ByStages, ByBoot, ByUpdate, Ended, Answered, Booted, ended_status}
 use Rattle.suit_cli.specs.Commands.{begins_boot}
@@ -62,16 +61,16 @@ module _ (launched now : Launching) (before after : Outside) where
       files : b.middle.files ≡ before.files
       files = ap (λ (o : Outside). o.files) b.held.0.beside
 
-      answers : Answers b.layout b.key before.flash.reads end
-      answers = subst (λ (l : List ℕ). Answers b.layout b.key l end) reads (b.boot.answers middle_told)
+      answers : Answers b.frame b.layout b.key before.flash.reads end
+      answers = subst (λ (l : List ℕ). Answers b.frame b.layout b.key l end) reads (b.boot.answers middle_told)
 
       abbrev Plays : PlanEnd → Type 0
-      Plays = PlaysBoot b.layout b.key before.files before.flash.reads after.flash.reads launched.launches now.launches
+      Plays = PlaysBoot b.frame b.layout b.key before.files before.flash.reads after.flash.reads launched.launches now.launches
 
       played : PlayedSo Plays (after.flash.reads ≡ before.flash.reads) launched.launches now.launches end
       played =
-          subst (λ (f : List ℕ → Option (List ℕ)). PlayedSo (PlaysBoot b.layout b.key f before.flash.reads after.flash.reads launched.launches now.launches) (after.flash.reads ≡ before.flash.reads) launched.launches now.launches end) files
-          (subst (λ (l : List ℕ). PlayedSo (PlaysBoot b.layout b.key b.middle.files l after.flash.reads launched.launches now.launches) (after.flash.reads ≡ l) launched.launches now.launches end) reads
+          subst (λ (f : List ℕ → Option (List ℕ)). PlayedSo (PlaysBoot b.frame b.layout b.key f before.flash.reads after.flash.reads launched.launches now.launches) (after.flash.reads ≡ before.flash.reads) launched.launches now.launches end) files
+          (subst (λ (l : List ℕ). PlayedSo (PlaysBoot b.frame b.layout b.key b.middle.files l after.flash.reads launched.launches now.launches) (after.flash.reads ≡ l) launched.launches now.launches end) reads
           (b.boot.plays middle_told launcher))
 
       with_lines : Caused (Booted end (boot_line end)) → Caused (Booted end lines)
@@ -79,16 +78,16 @@ module _ (launched now : Launching) (before after : Outside) where
 
       of_play : (play : PlanEnd) → end ≡ end_of play → Plays play → Caused (Booted end (boot_line end))
       of_play play is p =
-          inr (inl (record { layout = b.layout; key = b.key; config = b.held.1; end = play; plays = p; ends_so = ap (λ (e : BootEnd). Booted e (boot_line e)) is }))
+          inr (inl (record { layout = b.layout; key = b.key; frame = b.frame; config = b.held.1; end = play; plays = p; ends_so = ap (λ (e : BootEnd). Booted e (boot_line e)) is }))
 
     of_end : (end : BootEnd) (lines : List ℕ) (b : Boots launched now before after end lines) → Caused (Booted end (boot_line end))
-    of_end ends.NothingInstalled lines b = inl (AtRecord b.layout b.key b.held.1 (answers ends.NothingInstalled lines b))
+    of_end ends.NothingInstalled lines b = inl (AtRecord (b.layout, b.key, b.frame) b.held.1 (answers ends.NothingInstalled lines b))
     of_end (ends.BadBank refusal) lines b =
-        let a = answers (ends.BadBank refusal) lines b in inl (AtBank b.layout b.key a.0 refusal (record { config = b.held.1; recorded = a.1 }) a.2)
+        let a = answers (ends.BadBank refusal) lines b in inl (AtBank (b.layout, b.key, b.frame) a.0 refusal (record { held = b.held.1; recorded = a.1 }) a.2)
     of_end (ends.NotAuthentic lacking) lines b =
-        let a = answers (ends.NotAuthentic lacking) lines b in inl (AtAuthenticity b.layout b.key a.0 lacking (record { config = b.held.1; recorded = a.1 }) a.2)
+        let a = answers (ends.NotAuthentic lacking) lines b in inl (AtAuthenticity (b.layout, b.key, b.frame) a.0 lacking (record { held = b.held.1; recorded = a.1 }) a.2)
     of_end (ends.UnknownComponent component) lines b =
-        let a = answers (ends.UnknownComponent component) lines b in inl (AtComponents b.layout b.key a.0 component (record { config = b.held.1; recorded = a.1 }) a.2)
+        let a = answers (ends.UnknownComponent component) lines b in inl (AtComponents (b.layout, b.key, b.frame) a.0 component (record { held = b.held.1; recorded = a.1 }) a.2)
     of_end ends.Ended lines b = of_play ends.Ended lines b plays.Done refl (played ends.Ended lines b)
     of_end (ends.Condition place) lines b = of_play (ends.Condition place) lines b (plays.ConditionFailed place) refl (played (ends.Condition place) lines b)
     of_end (ends.Stopped place cause) lines b = of_play (ends.Stopped place cause) lines b (plays.DirectiveFailed place cause) refl (played (ends.Stopped place cause) lines b)
@@ -104,23 +103,23 @@ module _ (launched now : Launching) (before after : Outside) where
 -- nothing is started because of its bank, and so it ended
 abbrev BankStops : Outside → List Entry × Key × Frame → Record → Ended → Type 0
 BankStops before config installed ended =
-    (end : BootEnd) × IsDeclined config.0 (key_bytes config.1) (bank_in before.flash.reads installed) end × (ended ≡ Booted end (boot_line end))
+    (end : BootEnd) × IsDeclined config.0 (key_bytes config.1) (bank_in config.2 before.flash.reads installed) end × (ended ≡ Booted end (boot_line end))
 
 -- the stages, as the start has them: configuration, record and bank
 abbrev NothingStarts : Outside → Ended → Type 0
 NothingStarts before =
     Behind (Holds before.flash) (λ (ended : Ended). (reply : Reply) × HoldsNone before.flash reply × (ended ≡ Answered (Says reply))) (λ config.
-    Behind (λ (installed : Record). record_in before.flash.reads (Some installed)) (λ (ended : Ended). record_in before.flash.reads None × (ended ≡ Booted ends.NothingInstalled (codes "nothing installed\n"))) (λ installed.
+    Behind (λ (installed : Record). record_in config.2 before.flash.reads (Some installed)) (λ (ended : Ended). record_in config.2 before.flash.reads None × (ended ≡ Booted ends.NothingInstalled (codes "nothing installed\n"))) (λ installed.
     BankStops before config installed))
 
 nothing_stages : (before : Outside) (ended : Ended) → StartsNothing before ended → NothingStarts before ended
 nothing_stages before _ (AtConfig reply none) = Stops (reply, none, refl)
-nothing_stages before _ (AtRecord layout key holds none) = Passes (layout, key, VERSION_1) holds (Stops (none, refl))
-nothing_stages before _ (AtBank layout key installed refusal bank bad) = Passes (layout, key, VERSION_1) bank.config (Passes installed bank.recorded (ends.BadBank refusal, bad, refl))
-nothing_stages before _ (AtAuthenticity layout key installed lacking bank lacks) =
-    Passes (layout, key, VERSION_1) bank.config (Passes installed bank.recorded (ends.NotAuthentic lacking, lacks, refl))
-nothing_stages before _ (AtComponents layout key installed component bank unknown) =
-    Passes (layout, key, VERSION_1) bank.config (Passes installed bank.recorded (ends.UnknownComponent component, unknown, refl))
+nothing_stages before _ (AtRecord config holds none) = Passes config holds (Stops (none, refl))
+nothing_stages before _ (AtBank config installed refusal bank bad) = Passes config bank.held (Passes installed bank.recorded (ends.BadBank refusal, bad, refl))
+nothing_stages before _ (AtAuthenticity config installed lacking bank lacks) =
+    Passes config bank.held (Passes installed bank.recorded (ends.NotAuthentic lacking, lacks, refl))
+nothing_stages before _ (AtComponents config installed component bank unknown) =
+    Passes config bank.held (Passes installed bank.recorded (ends.UnknownComponent component, unknown, refl))
 
 module _ (configs : OneConfigAnswer) (records : OneAnswer) (laws : BankLaws) (before : Outside) (told : IsTrue before.flash.told) (bytes : HasBytes before) where
   one_held : HasOne (Holds before.flash) (λ (ended : Ended). (reply : Reply) × HoldsNone before.flash reply × (ended ≡ Answered (Says reply)))
@@ -130,34 +129,35 @@ module _ (configs : OneConfigAnswer) (records : OneAnswer) (laws : BankLaws) (be
     never = λ config a g h. (one_config configs before.flash told).never config h.0 g h.1;
   }
 
-  same_record : (x y : Record) → record_in before.flash.reads (Some x) → record_in before.flash.reads (Some y) → y ≡ x
-  same_record x y first second = same_Some y x (records VERSION_1 (head_of VERSION_1 before.flash.reads) (Some y) (Some x) second first)
+  module _ (frame : Frame) where
+    same_record : (x y : Record) → record_in frame before.flash.reads (Some x) → record_in frame before.flash.reads (Some y) → y ≡ x
+    same_record x y first second = same_Some y x (records frame (head_of frame before.flash.reads) (Some y) (Some x) second first)
 
-  record_or_none : (x : Record) → record_in before.flash.reads (Some x) → record_in before.flash.reads None → ⊥
-  record_or_none x some none = let never : None ≡ Some x = records VERSION_1 (head_of VERSION_1 before.flash.reads) None (Some x) none some in absurd cc
+    record_or_none : (x : Record) → record_in frame before.flash.reads (Some x) → record_in frame before.flash.reads None → ⊥
+    record_or_none x some none = let never : None ≡ Some x = records frame (head_of frame before.flash.reads) None (Some x) none some in absurd cc
 
-  one_recorded : HasOne (λ (installed : Record). record_in before.flash.reads (Some installed))
-      (λ (ended : Ended). record_in before.flash.reads None × (ended ≡ Booted ends.NothingInstalled (codes "nothing installed\n")))
-  one_recorded = record { value = same_record; refusal = λ a b g h. h.1 ∙ sym g.1; never = λ x a g h. record_or_none x g h.0 }
+    one_recorded : HasOne (λ (installed : Record). record_in frame before.flash.reads (Some installed))
+        (λ (ended : Ended). record_in frame before.flash.reads None × (ended ≡ Booted ends.NothingInstalled (codes "nothing installed\n")))
+    one_recorded = record { value = same_record; refusal = λ a b g h. h.1 ∙ sym g.1; never = λ x a g h. record_or_none x g h.0 }
 
-  one_stop : (config : List Entry × Key × Frame) (installed : Record) → record_in before.flash.reads (Some installed) → (a b : Ended) → BankStops before config installed a → BankStops before config installed b
+  one_stop : (config : List Entry × Key × Frame) (installed : Record) → HasBank before config installed → (a b : Ended) → BankStops before config installed a → BankStops before config installed b
       → b ≡ a
-  one_stop config installed recorded a b x y =
-      let same = laws.one config.0 (key_bytes config.1) (bank_in before.flash.reads installed) x.0 y.0 (bytes installed recorded) x.1 y.1 in
+  one_stop config installed bank a b x y =
+      let same = laws.one config.0 (key_bytes config.1) (bank_in config.2 before.flash.reads installed) x.0 y.0 (bytes config installed bank) x.1 y.1 in
       y.2 ∙ ap (λ (end : BootEnd). Booted end (boot_line end)) (sym same) ∙ sym x.2
 
   one_cause : (a b : Ended) → StartsNothing before a → StartsNothing before b → b ≡ a
   one_cause a b first second =
-      just_one _ _ _ one_held (λ config held. just_one _ _ _ one_recorded (λ installed recorded. one_stop config installed recorded)) a b (nothing_stages before a first) (nothing_stages before b second)
+      just_one _ _ _ one_held (λ config held. just_one _ _ _ (one_recorded config.2) (λ installed recorded. one_stop config installed (record { held = held; recorded = recorded }))) a b (nothing_stages before a first) (nothing_stages before b second)
 
   not_started : (a : Ended) → HasStart before → StartsNothing before a → ⊥
   not_started a s nothing =
-      let behind = passes _ _ _ one_held (s.layout, s.key, VERSION_1) a s.config (nothing_stages before a nothing) in
-      let stops = passes _ _ _ one_recorded s.installed a s.starts.recorded behind in
-      laws.none s.layout (key_bytes s.key) (bank_in before.flash.reads s.installed) s.starts.said s.manifest stops.0 (bytes s.installed s.starts.recorded) s.starts.started stops.1
+      let behind = passes _ _ _ one_held (s.layout, s.key, s.frame) a s.config (nothing_stages before a nothing) in
+      let stops = passes _ _ _ (one_recorded s.frame) s.installed a s.starts.recorded behind in
+      laws.none s.layout (key_bytes s.key) (bank_in s.frame before.flash.reads s.installed) s.starts.said s.manifest stops.0 (bytes (s.layout, s.key, s.frame) s.installed (record { held = s.config; recorded = s.starts.recorded })) s.starts.started stops.1
 
   start_of : (launched now : Launching) (after : Outside) (ended : Ended) → Played launched now before after ended → HasStart before
-  start_of launched now after ended p = record { layout = p.layout; key = p.key; config = p.config; installed = p.plays.installed; manifest = p.plays.manifest; starts = p.plays.starts }
+  start_of launched now after ended p = record { layout = p.layout; key = p.key; frame = p.frame; config = p.config; installed = p.plays.installed; manifest = p.plays.manifest; starts = p.plays.starts }
 
   by_cause : (launched now : Launching) (after : Outside) (a b : Ended) → StartsNothing before a → Caused launched now before after b → (b ≡ a) ⊎ IsNoAnswer b
   by_cause launched now after a b here (inl other) = inl (one_cause a b here other)

@@ -8,6 +8,7 @@ use Rattle.update_proc.specs.declared.update_end.UpdateEnd.TheVariants as ends
 use Rattle.update_proc.specs.Moments.{IsNew, IsOld}
 use Rattle.update_proc.specs.Updates.{KeepsUpdate}
 use Rattle.suit_params.specs.declared.digest.Digest.{Digest}
+use Rattle.flash_layout.specs.declared.frame.TheConstants.{VERSION_1}
 use Rattle.flash_layout.specs.declared.slot.Record.{Record}
 use Rattle.suit_cli.specs.Coming.{Answered, Booted, Ended, StaysOrKeeps, Updated, ended_status}
 use Rattle.suit_cli.specs.DrillRounds.{IsCutOff, IsLeft, envelope_name}
@@ -31,7 +32,7 @@ module _ (told flash_told : Bool) (files : Files) (pulled : ℕ) (asked : List (
   -- it was
   module _ (end : UpdateEnd) (k : KeepsFlash envelope_name uris launched later before end old new) where
     abbrev o : Offer
-    o = offer k.layout k.bytes k.accepted uris
+    o = offer VERSION_1 k.layout k.bytes k.accepted uris
 
     abbrev held : Option Record
     held = k.offered.0
@@ -41,7 +42,7 @@ module _ (told flash_told : Bool) (files : Files) (pulled : ℕ) (asked : List (
 
     abbrev Kept : Type 0
     Kept =
-        KeepsUpdate o.layout o.accepted.places (tree_of o.accepted) (IsDone o launched later before held old.reads) held (new_of o.accepted held old.reads digest) old new end
+        KeepsUpdate o.frame o.layout o.accepted.places (tree_of o.accepted) (IsDone o launched later before held old.reads) held (new_of o.frame o.accepted held old.reads digest) old new end
 
     cut_off : IsLeft o launched later before held digest image → Stands
     cut_off is_left = inr (record {
@@ -60,20 +61,20 @@ module _ (told flash_told : Bool) (files : Files) (pulled : ℕ) (asked : List (
       is_left = is_left;
     })
 
-    of_old : (kept : Kept) → IsOld o.layout o.accepted.places (tree_of o.accepted) kept.numbers held old.reads image → Stands
+    of_old : (kept : Kept) → IsOld o.frame o.layout o.accepted.places (tree_of o.accepted) kept.numbers held old.reads image → Stands
     of_old kept is_old = cut_off (record { numbers = kept.numbers; chosen = kept.chosen; made = kept.made; others = kept.others; stands = inl is_old })
 
-    of_new : (kept : Kept) → IsNew o.layout (new_of o.accepted held old.reads digest kept.numbers) kept.made image → IsDone o launched later before held old.reads kept.made → Stands
+    of_new : (kept : Kept) → IsNew o.frame o.layout (new_of o.frame o.accepted held old.reads digest kept.numbers) kept.made image → IsDone o launched later before held old.reads kept.made → Stands
     of_new kept is_new done =
         cut_off (record { numbers = kept.numbers; chosen = kept.chosen; made = kept.made; others = kept.others; stands = inr (is_new, done) })
 
     -- the old record stood at each moment, or the procedure is done
     of_either : (kept : Kept)
-        → Passes old new (IsOld o.layout o.accepted.places (tree_of o.accepted) kept.numbers held old.reads) ⊎ IsDone o launched later before held old.reads kept.made → Stands
+        → Passes old new (IsOld o.frame o.layout o.accepted.places (tree_of o.accepted) kept.numbers held old.reads) ⊎ IsDone o launched later before held old.reads kept.made → Stands
     of_either kept (inl stays) = of_old kept (each_now old new extent _ law stays image now)
     of_either kept (inr done) = of_moment (each_now old new extent _ law kept.any_moment image now) where
-      of_moment : IsOld o.layout o.accepted.places (tree_of o.accepted) kept.numbers held old.reads image
-          ⊎ IsNew o.layout (new_of o.accepted held old.reads digest kept.numbers) kept.made image → Stands
+      of_moment : IsOld o.frame o.layout o.accepted.places (tree_of o.accepted) kept.numbers held old.reads image
+          ⊎ IsNew o.frame o.layout (new_of o.frame o.accepted held old.reads digest kept.numbers) kept.made image → Stands
       of_moment (inl is_old) = of_old kept is_old
       of_moment (inr is_new) = of_new kept is_new done
 

@@ -3,7 +3,7 @@ use Rattle.std.proofs.Common.{◌≡◌, ◌⊎◌, inl, inr, ⊎_elim, ℕ, Lis
 use Rattle.std.specs.Prelude.{IsTrue}
 use Rattle.suit_edge.specs.declared.launch.Launch.{Launch}
 use Rattle.suit_manifest.specs.declared.manifest.Manifest.{Manifest}
-use Rattle.flash_layout.specs.declared.frame.TheConstants.{VERSION_1}
+use Rattle.flash_layout.specs.declared.frame.Frame.{Frame}
 use Rattle.flash_layout.specs.declared.key.Key.{Key}
 use Rattle.flash_layout.specs.declared.layout.Entry.{Entry}
 use Rattle.flash_layout.specs.ConfigLaws.{OneAnswer as OneConfigAnswer}
@@ -25,21 +25,22 @@ use Rattle.suit_cli.proofs.LifeLawProofs.{installed_in}
 module _ (configs : OneConfigAnswer) (records : OneAnswer) (laws : BootLaws) where
   -- ---- one play
 
-  module _ (layout : List Entry) (key : Key) (files : List ℕ → Option (List ℕ)) (image after : List ℕ) (launched now : List Launch) (sound : Sound image)
-      (config : ConfigOf (length image) image (Configured layout key VERSION_1)) (gains : GainsSafe launched now) where
+  module _ (frame : Frame) (layout : List Entry) (key : Key) (files : List ℕ → Option (List ℕ)) (image after : List ℕ) (launched now : List Launch) (sound : Sound image)
+      (config : ConfigOf (length image) image (Configured layout key frame)) (gains : GainsSafe launched now) where
     abbrev Plays : PlanEnd → Type 0
-    Plays end = PlaysBoot layout key files image after launched now end
+    Plays end = PlaysBoot frame layout key files image after launched now end
 
     abbrev Launches : Type 0
     Launches = LaunchesRecorded layout key files image after launched now
 
     of_play : (end : PlanEnd) → Plays end → Launches
     of_play end p =
-        let has : HasRecorded VERSION_1 layout key p.installed image = record { config = config; record_is = p.starts.recorded } in
-        let is = installed_in configs records VERSION_1 layout key p.installed image has sound in
-        let start = laws.installed layout key (bank_in image p.installed) p.installed is in
-        let same = laws.same layout (key_bytes key) (bank_in image p.installed) p.starts.said start.0 p.manifest is.said is.are_bytes p.starts.started start.1 in
+        let has : HasRecorded frame layout key p.installed image = record { config = config; record_is = p.starts.recorded } in
+        let is = installed_in configs records frame layout key p.installed image has sound in
+        let start = laws.installed layout key (bank_in frame image p.installed) p.installed is in
+        let same = laws.same layout (key_bytes key) (bank_in frame image p.installed) p.starts.said start.0 p.manifest is.said is.are_bytes p.starts.started start.1 in
         record {
+          frame = frame;
           installed = p.installed;
           recorded = has;
           is = is;
@@ -66,15 +67,15 @@ module _ (configs : OneConfigAnswer) (records : OneAnswer) (laws : BootLaws) whe
       let flash_told : IsTrue boots.middle.flash.told = subst IsTrue (sym looks.still.told) holds.flash in
       let files : boots.middle.files ≡ before.files = ap (λ (o : Outside). o.files) looks.beside in
       let reads : boots.middle.flash.reads ≡ image = looks.still.reads holds.flash ∙ holds.reads in
-      let config : ConfigOf (length image) image (Configured boots.layout boots.key VERSION_1) =
-      subst (λ (n : ℕ). ConfigOf n image (Configured boots.layout boots.key VERSION_1)) holds.size
-      (subst (λ (l : List ℕ). ConfigOf before.flash.size l (Configured boots.layout boots.key VERSION_1)) holds.reads (boots.held.1 holds.flash)) in
+      let config : ConfigOf (length image) image (Configured boots.layout boots.key boots.frame) =
+      subst (λ (n : ℕ). ConfigOf n image (Configured boots.layout boots.key boots.frame)) holds.size
+      (subst (λ (l : List ℕ). ConfigOf before.flash.size l (Configured boots.layout boots.key boots.frame)) holds.reads (boots.held.1 holds.flash)) in
       let gains = boots.boot.safe flash_told holds.launcher (subst Sound (sym reads) sound) in
-      let played = subst (λ (f : List ℕ → Option (List ℕ)). PlayedSo (λ e. PlaysBoot boots.layout boots.key f image after.flash.reads launched.launches now.launches e) (after.flash.reads ≡ image) launched.launches now.launches end) files
-      (subst (λ (l : List ℕ). PlayedSo (λ e. PlaysBoot boots.layout boots.key boots.middle.files l after.flash.reads launched.launches now.launches e) (after.flash.reads ≡ l) launched.launches now.launches end) reads
+      let played = subst (λ (f : List ℕ → Option (List ℕ)). PlayedSo (λ e. PlaysBoot boots.frame boots.layout boots.key f image after.flash.reads launched.launches now.launches e) (after.flash.reads ≡ image) launched.launches now.launches end) files
+      (subst (λ (l : List ℕ). PlayedSo (λ e. PlaysBoot boots.frame boots.layout boots.key boots.middle.files l after.flash.reads launched.launches now.launches e) (after.flash.reads ≡ l) launched.launches now.launches end) reads
       (boots.boot.plays flash_told holds.launcher)) in
       ⊎_elim (λ same. inl same) (λ some. inr (boots.layout, boots.key, some))
-      (of_end boots.layout boots.key before.files image after.flash.reads launched.launches now.launches sound config gains (after.flash.reads ≡ image) end played)
+      (of_end boots.frame boots.layout boots.key before.files image after.flash.reads launched.launches now.launches sound config gains (after.flash.reads ≡ image) end played)
 
   pub launched_laws : LifeLaws → LaunchedLaws
   launched_laws lives = record {

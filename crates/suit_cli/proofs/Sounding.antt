@@ -121,19 +121,19 @@ any_of a b P run = weakens a b P (λ image. Unit {0}) (λ image p. tt) run
 pub any_later : (a b c : Flash) → IsSame a b → PassesAny b c → PassesAny a c
 any_later a b c same run = joined a b c (λ image. Unit {0}) (any_of a b (Now a) same.images) run
 
-module _ (layout : List Entry) (key : Key) (a b : Flash) where
+module _ (frame : Frame) (layout : List Entry) (key : Key) (a b : Flash) where
   of_same : IsSame a b → PassesAny a b
   of_same same = any_of a b (Now a) same.images
 
-  of_kept : KeepsBoot layout key a b → PassesAny a b
+  of_kept : KeepsBoot frame layout key a b → PassesAny a b
   of_kept kept = any_of a b _ kept.others.keeps.images
 
-  pub any_boot : (end : BootEnd) → KeptSo (KeepsBoot layout key a b) (IsSame a b) end → PassesAny a b
+  pub any_boot : (end : BootEnd) → KeptSo (KeepsBoot frame layout key a b) (IsSame a b) end → PassesAny a b
   any_boot ends.Ended kept = of_kept kept
   any_boot (ends.Condition place) kept = of_kept kept
   any_boot (ends.Stopped place cause) kept = of_kept kept
   any_boot ends.FlashFault kept = of_either kept where
-    of_either : (IsSame a b) ⊎ (KeepsBoot layout key a b) → PassesAny a b
+    of_either : (IsSame a b) ⊎ (KeepsBoot frame layout key a b) → PassesAny a b
     of_either (inl same) = of_same same
     of_either (inr k) = of_kept k
   any_boot _ kept = of_same kept

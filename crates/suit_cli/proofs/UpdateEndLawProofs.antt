@@ -71,7 +71,7 @@ somewhere P Same layout after launched now ends.NoMemory since p = p
 module _ (name : List ℕ) (uris : List (List ℕ × List ℕ)) (launched now : Launching) (before after : Outside) (end : UpdateEnd) (lines : List ℕ) (told : IsTrue before.told) (flash_told : IsTrue before.flash.told)
     (launcher : IsTrue launched.told) (u : Updates name uris launched now before after end lines) where
   abbrev o : Offer
-  o = offer u.layout u.bytes u.accepted uris
+  o = offer VERSION_1 u.layout u.bytes u.accepted uris
 
   here_told : u.configured.told ≡ before.told
   here_told = ap (λ (x : Outside). x.told) u.held.0.beside
@@ -198,7 +198,7 @@ module _ (configs : OneAnswer) (envelopes : EnvelopeLaws) (manifests : ManifestL
     leads : (other : Judged) (e : UpdateEnd) → IsEndOf other e → IsJudged u.accepted.manifest.sequence f.digest f.held other → IsEndOf verdict e ⊎ IsNoEnd e
     leads other e is j = inl (subst (λ v. IsEndOf v e) (is_verdict other j) is)
 
-    by_end : (e : UpdateEnd) → UpdateEnds (offer u.layout u.bytes u.accepted uris) launched now before after e → IsEndOf verdict e ⊎ IsNoEnd e
+    by_end : (e : UpdateEnd) → UpdateEnds (offer VERSION_1 u.layout u.bytes u.accepted uris) launched now before after e → IsEndOf verdict e ⊎ IsNoEnd e
     by_end _ (IsLower recorded offered j) = leads (verdicts.Lower recorded offered) (ends.Lower recorded offered) refl (j f.held f.digest f.blocks f.recorded states)
     by_end _ (IsOther recorded offered j) = leads (verdicts.OtherDigest recorded offered) (ends.OtherDigest recorded offered) refl (j f.held f.digest f.blocks f.recorded states)
     by_end _ (IsWorn j) = leads verdicts.Worn ends.Worn refl (j f.held f.digest f.blocks f.recorded states)

@@ -10,6 +10,7 @@ use Rattle.suit_envelope.specs.Trimmed.{trimmed}
 use Rattle.suit_manifest.specs.ManifestLaws.{ManifestLaws}
 use Rattle.suit_manifest.specs.Procedures.{update_tree}
 use Rattle.path_model.specs.PlayLaws.{FaultedSafeLaunches, SafeLaunches}
+use Rattle.flash_layout.specs.declared.frame.Frame.{Frame}
 use Rattle.flash_layout.specs.declared.frame.TheConstants.{VERSION_1}
 use Rattle.flash_layout.specs.declared.key.Key.{Key}
 use Rattle.flash_layout.specs.declared.layout.Entry.{Entry}
@@ -18,12 +19,13 @@ use Rattle.flash_layout.specs.ConfigLaws.{OneAnswer}
 use Rattle.flash_layout.specs.Configs.{Blank, ConfigOf, Configured, IsAllowed}
 use Rattle.flash_layout.specs.Frames.{head_of}
 use Rattle.flash_layout.specs.Placement.{ArePlaces, HaveOtherPlaces}
+use Rattle.flash_layout.specs.ToldFrames.{IsTold}
 use Rattle.flash_layout.specs.declared.place.Places.{Places}
 use Rattle.rollback_record.specs.SoundFlash.{HasEach}
 use Rattle.flash_slots.specs.RamContents.{empty_ram}
 use Rattle.rollback_record.specs.HeadRecord.{RecordOf}
 use Rattle.rollback_record.specs.SoundFlash.{IsInstalled, Sound}
-use Rattle.rollback_record.proofs.SoundBy.{SoundBy, BlankBy, EmptyBy, InstalledBy, sound_by_version_1}
+use Rattle.rollback_record.proofs.SoundBy.{SoundBy, BlankBy, EmptyBy, InstalledBy, sound_by}
 use Rattle.step_machine.specs.Devices.{contents_of}
 use Rattle.step_machine.specs.Invoking.{launched_as}
 use Rattle.step_machine.specs.PlanRuns.{setting_of}
@@ -55,22 +57,28 @@ module _ (manifests : ManifestLaws) (layout : List Entry) (key : Key) (bytes : L
 
 -- ---- a sound flash with a configuration has a record, or none
 
-the_layout : (a b : List Entry) (k l : Key) → Configured a k VERSION_1 ≡ Configured b l VERSION_1 → (a ≡ b) × (k ≡ l)
-the_layout a b k l same = grind (arith, same)
+the_layout : (a b : List Entry) (k l : Key) (f g : Frame) → Configured a k f ≡ Configured b l g → (a ≡ b) × (k ≡ l) × (f ≡ g)
+the_layout a b k l f g same = grind (arith, same)
 
-not_blank : (layout : List Entry) (key : Key) → Blank ≡ Configured layout key VERSION_1 → ⊥
-not_blank layout key same = grind (arith, same)
+not_blank : (layout : List Entry) (key : Key) (frame : Frame) → Blank ≡ Configured layout key frame → ⊥
+not_blank layout key frame same = grind (arith, same)
 
-module _ (configs : OneAnswer) (layout : List Entry) (key : Key) (reads : List ℕ) (config : ConfigOf (length reads) reads (Configured layout key VERSION_1)) where
-  of_cases : SoundBy VERSION_1 reads → (held : Option Record) × RecordOf VERSION_1 (head_of VERSION_1 reads) held
-  of_cases (BlankBy is) = absurd (not_blank layout key (configs (length reads) reads Blank (Configured layout key VERSION_1) is config))
+module _ (configs : OneAnswer) (frame : Frame) (layout : List Entry) (key : Key) (reads : List ℕ) (config : ConfigOf (length reads) reads (Configured layout key frame)) where
+  one : (other : List Entry) (k : Key) (f : Frame) → ConfigOf (length reads) reads (Configured other k f) → (layout ≡ other) × (key ≡ k) × (frame ≡ f)
+  one other k f is = the_layout layout other key k frame f (configs (length reads) reads (Configured layout key frame) (Configured other k f) config is)
+
+  told : IsTold (length reads) reads frame
+  told other k f is = sym (one other k f is).2
+
+  of_cases : SoundBy frame reads → (held : Option Record) × RecordOf frame (head_of frame reads) held
+  of_cases (BlankBy is) = absurd (not_blank layout key frame (configs (length reads) reads Blank (Configured layout key frame) is config))
   of_cases (EmptyBy other k is none) = (None, none)
   of_cases (InstalledBy other k r is held installed) = (Some r, held)
 
-  some_record : Sound reads → (held : Option Record) × RecordOf VERSION_1 (head_of VERSION_1 reads) held
-  some_record sound = of_cases (sound_by_version_1 reads sound)
+  some_record : Sound reads → (held : Option Record) × RecordOf frame (head_of frame reads) held
+  some_record sound = of_cases (sound_by frame reads told sound)
 
-  pub has_offer : (bytes : List ℕ) (a : Accepted) → Meets layout key bytes a → Sound reads → HasOffer reads a.said.wrapper
+  pub has_offer : (bytes : List ℕ) (a : Accepted) → Meets layout key bytes a → Sound reads → HasOffer frame reads a.said.wrapper
   has_offer bytes a f sound = let some = some_record sound in (some.0, f.authentic.digest, f.authentic.blocks, some.1, f.authentic.says)
 
   -- ---- it may be installed
@@ -79,8 +87,8 @@ module _ (configs : OneAnswer) (layout : List Entry) (key : Key) (reads : List �
     abbrev stated : Digest
     stated = f.authentic.digest
 
-    installed : (held : Option Record) (numbers : List ℕ) → IsInstalled layout key (trimmed a.said.wrapper a.said.manifest) (new_of a held reads stated numbers)
-    installed held numbers = installs layout key bytes a.said (new_of a held reads stated numbers) f.envelope (record {
+    installed : (held : Option Record) (numbers : List ℕ) → IsInstalled layout key (trimmed a.said.wrapper a.said.manifest) (new_of frame a held reads stated numbers)
+    installed held numbers = installs layout key bytes a.said (new_of frame a held reads stated numbers) f.envelope (record {
       place = a.said.manifest_place;
       said = a.manifest;
       says = f.says;
@@ -92,17 +100,17 @@ module _ (configs : OneAnswer) (layout : List Entry) (key : Key) (reads : List �
       narrow = f.invocation_narrow;
     })
 
-    may_be : (held : Option Record) (numbers : List ℕ) → MayBeInstalled reads (trimmed a.said.wrapper a.said.manifest) (new_of a held reads stated numbers)
+    may_be : (held : Option Record) (numbers : List ℕ) → MayBeInstalled frame reads (trimmed a.said.wrapper a.said.manifest) (new_of frame a held reads stated numbers)
     may_be held numbers other k is =
-        let same = the_layout layout other key k (configs (length reads) reads (Configured layout key VERSION_1) (Configured other k VERSION_1) config is) in
-        subst (λ (l : Key). IsInstalled other l (trimmed a.said.wrapper a.said.manifest) (new_of a held reads stated numbers)) same.1
-        (subst (λ (l : List Entry). IsInstalled l key (trimmed a.said.wrapper a.said.manifest) (new_of a held reads stated numbers)) same.0 (installed held numbers))
+        let same = one other k frame is in
+        subst (λ (l : Key). IsInstalled other l (trimmed a.said.wrapper a.said.manifest) (new_of frame a held reads stated numbers)) same.1
+        (subst (λ (l : List Entry). IsInstalled l key (trimmed a.said.wrapper a.said.manifest) (new_of frame a held reads stated numbers)) same.0 (installed held numbers))
 
     -- so each image is sound
     pub sound_update : (start now : Flash) → Sound reads
-        → ForOffer reads a.said.wrapper (λ held digest.
+        → ForOffer frame reads a.said.wrapper (λ held digest.
         ((numbers : List ℕ) → AreChosen layout a.places (update_tree a.manifest a.members) (active_slots held) numbers
-        → MayBeInstalled reads (trimmed a.said.wrapper a.said.manifest) (new_of a held reads digest numbers)) → Passes start now Sound)
+        → MayBeInstalled frame reads (trimmed a.said.wrapper a.said.manifest) (new_of frame a held reads digest numbers)) → Passes start now Sound)
         → Passes start now Sound
     sound_update start now sound offers =
         let some = some_record sound in
@@ -113,7 +121,7 @@ module _ (configs : OneAnswer) (layout : List Entry) (key : Key) (reads : List �
 gains_nothing : (launched now : List Launch) → now ≡ launched → GainsSafe launched now
 gains_nothing launched now same = record { gained = []; added = same ∙ sym (append-nil launched); safe = tt }
 
-module _ (safe : SafeLaunches) (faulted : FaultedSafeLaunches) (manifests : ManifestLaws) (size : ℕ) (layout : List Entry) (key : Key) (allowed : IsAllowed VERSION_1 size layout key)
+module _ (safe : SafeLaunches) (faulted : FaultedSafeLaunches) (manifests : ManifestLaws) (size : ℕ) (frame : Frame) (layout : List Entry) (key : Key) (allowed : IsAllowed VERSION_1 size layout key)
     (typed : All HasIdentifiers layout) (bytes : List ℕ) (a : Accepted) (f : Meets layout key bytes a) (other : HaveOtherPlaces a.manifest.components a.places)
     (uris : List (List ℕ × List ℕ)) (host : Hosted) (before : List ℕ) (launched now : List Launch) where
   abbrev payloads : List (List ℕ × List ℕ)
@@ -136,12 +144,12 @@ module _ (safe : SafeLaunches) (faulted : FaultedSafeLaunches) (manifests : Mani
         (record { contents = contents_of p.standings p.ram made; launches = map launched_as p.plays.gained; asked = p.plays.asks }) end p.plays.ends;
   }
 
-  of_launches : LaunchesBy Plays before launched now → GainsSafe launched now
+  of_launches : LaunchesBy frame Plays before launched now → GainsSafe launched now
   of_launches (inl same) = gains_nothing launched now same
   of_launches (inr (held, is, made, end, play)) = gains_played held made end play
 
   -- whatever payloads it is said of
   pub gains_update : ((p : List (List ℕ × List ℕ)) → HasPayloads bytes p
-      → LaunchesBy (λ held made end. PlaysUpdate layout a.places (update_tree a.manifest a.members) held (sources p uris host) before made launched now end) before launched now)
+      → LaunchesBy frame (λ held made end. PlaysUpdate layout a.places (update_tree a.manifest a.members) held (sources p uris host) before made launched now end) before launched now)
       → GainsSafe launched now
   gains_update launches = of_launches (launches payloads has_payloads)

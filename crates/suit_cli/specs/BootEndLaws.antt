@@ -2,7 +2,7 @@
 use Rattle.std.specs.Prelude.{◌≡◌, ◌⊎◌, ℕ, IsTrue, List, Some, None, codes}
 use Rattle.suit_params.specs.declared.refusal.Refusal.{Refusal}
 use Rattle.suit_manifest.specs.declared.manifest.Manifest.{Manifest}
-use Rattle.flash_layout.specs.declared.frame.TheConstants.{VERSION_1}
+use Rattle.flash_layout.specs.declared.frame.Frame.{Frame}
 use Rattle.flash_layout.specs.declared.key.Key.{Key}
 use Rattle.flash_layout.specs.declared.layout.Entry.{Entry}
 use Rattle.flash_layout.specs.declared.slot.Record.{Record}
@@ -27,26 +27,27 @@ use Rattle.suit_cli.specs.Stages.{Says, FaultOf, NoMemory}
 use Rattle.suit_cli.specs.Texts.{refusal_line}
 use Rattle.suit_cli.specs.Words.{RunBoot}
 
--- the flash holds a layout and a key, and a record
-pub record HasBank (before : Outside) (layout : List Entry) (key : Key) (installed : Record)
+-- the flash holds this configuration, and this record
+pub record HasBank (before : Outside) (config : List Entry × Key × Frame) (installed : Record)
     : Type 0 where
-  pub config : Holds before.flash (layout, key, VERSION_1)
-  pub recorded : record_in before.flash.reads (Some installed)
+  pub held : Holds before.flash config
+  pub recorded : record_in config.2 before.flash.reads (Some installed)
 
 -- the bank of its record, if it has one, has bytes
 abbrev pub HasBytes : Outside → Type 0
 HasBytes before =
-    (installed : Record) → record_in before.flash.reads (Some installed)
-    → AreBytes (bank_in before.flash.reads installed)
+    (config : List Entry × Key × Frame) (installed : Record) → HasBank before config installed
+    → AreBytes (bank_in config.2 before.flash.reads installed)
 
 -- the bank of its record starts a manifest
 pub record HasStart (before : Outside) : Type 0 where
   pub layout : List Entry
   pub key : Key
-  pub config : Holds before.flash (layout, key, VERSION_1)
+  pub frame : Frame
+  pub config : Holds before.flash (layout, key, frame)
   pub installed : Record
   pub manifest : Manifest
-  pub starts : Starts layout key before.flash.reads installed manifest
+  pub starts : Starts frame layout key before.flash.reads installed manifest
 
 -- why nothing is started: the first of these
 pub data StartsNothing (before : Outside) : Ended → Type 0 where
@@ -54,23 +55,24 @@ pub data StartsNothing (before : Outside) : Ended → Type 0 where
   AtConfig : (reply : Reply) → HoldsNone before.flash reply
       → StartsNothing before (Answered (Says reply))
   -- status 15, `nothing installed`
-  AtRecord : (layout : List Entry) (key : Key) → Holds before.flash (layout, key, VERSION_1)
-      → record_in before.flash.reads None
+  AtRecord : (config : List Entry × Key × Frame) → Holds before.flash config
+      → record_in config.2 before.flash.reads None
       → StartsNothing before (Booted ends.NothingInstalled (codes "nothing installed\n"))
   -- status 3, `refused at P: WHY`
-  AtBank : (layout : List Entry) (key : Key) (installed : Record) (refusal : Refusal)
-      → HasBank before layout key installed
-      → IsBad (bank_in before.flash.reads installed) refusal
+  AtBank : (config : List Entry × Key × Frame) (installed : Record) (refusal : Refusal)
+      → HasBank before config installed
+      → IsBad (bank_in config.2 before.flash.reads installed) refusal
       → StartsNothing before (Booted (ends.BadBank refusal) (refusal_line refusal))
   -- status 4, `not authentic: WHY`
-  AtAuthenticity : (layout : List Entry) (key : Key) (installed : Record) (lacking : Lacking)
-      → HasBank before layout key installed
-      → IsUnauthentic (key_bytes key) (bank_in before.flash.reads installed) lacking
+  AtAuthenticity : (config : List Entry × Key × Frame) (installed : Record) (lacking : Lacking)
+      → HasBank before config installed
+      → IsUnauthentic (key_bytes config.1) (bank_in config.2 before.flash.reads installed) lacking
       → StartsNothing before (Booted (ends.NotAuthentic lacking) (lacking_line lacking))
   -- status 18, `unknown component I`
-  AtComponents : (layout : List Entry) (key : Key) (installed : Record) (component : ℕ)
-      → HasBank before layout key installed
-      → IsUnknown layout (key_bytes key) (bank_in before.flash.reads installed) component
+  AtComponents : (config : List Entry × Key × Frame) (installed : Record) (component : ℕ)
+      → HasBank before config installed
+      → IsUnknown config.0 (key_bytes config.1) (bank_in config.2 before.flash.reads installed)
+      component
       → StartsNothing before
       (Booted (ends.UnknownComponent component) (number_line (codes "unknown component") component))
 
@@ -80,10 +82,12 @@ pub record Played (launched now : Launching) (before after : Outside) (ended : E
     : Type 0 where
   pub layout : List Entry
   pub key : Key
-  pub config : Holds before.flash (layout, key, VERSION_1)
+  pub frame : Frame
+  pub config : Holds before.flash (layout, key, frame)
   pub end : PlanEnd
   pub plays :
-      PlaysBoot layout key before.files before.flash.reads after.flash.reads launched.launches
+      PlaysBoot frame layout key before.files before.flash.reads after.flash.reads
+      launched.launches
       now.launches end
   pub ends_so : ended ≡ Booted (end_of end) (boot_line (end_of end))
 

@@ -1,7 +1,7 @@
 -- The result of `run boot`.
 use Rattle.std.specs.Prelude.{◌≡◌, ℕ, IsTrue, List, codes}
 use Rattle.suit_edge.specs.Flash.{Flash}
-use Rattle.flash_layout.specs.declared.frame.TheConstants.{VERSION_1}
+use Rattle.flash_layout.specs.declared.frame.Frame.{Frame}
 use Rattle.flash_layout.specs.declared.key.Key.{Key}
 use Rattle.flash_layout.specs.declared.layout.Entry.{Entry}
 use Rattle.flash_layout.specs.Configs.{ConfigOf, Configured}
@@ -52,23 +52,25 @@ boot_status ends.FlashFault = 8
 
 -- ---- the boot
 
--- A boot by this layout and this key, which ended so: how the end comes of the record and its bank, how the procedure was
+-- A boot by this configuration, which ended so: how the end comes of the record and its bank, how the procedure was
 -- played, and whose fault was counted. It never ends by a fault of the host, and where nothing was started the flash reads as
 -- before. All that is launched on a sound flash has its digest, and its size where one is in force.
-pub record IsBoot (layout : List Entry) (key : Key) (launched now : Launching)
+pub record IsBoot (config : List Entry × Key × Frame) (launched now : Launching)
     (before after : Outside) (end : BootEnd) : Type 0 where
   pub alone : LeavesAlone launched now before after
   pub counts :
       BootCounts end (counts_of before.faults before.flash.faults launched.faults)
       (counts_of after.faults after.flash.faults now.faults)
-  pub answers : IsTrue before.flash.told → booting.Answers layout key before.flash.reads end
+  pub answers : IsTrue before.flash.told
+      → booting.Answers config.2 config.0 config.1 before.flash.reads end
   pub unrefused : IsTrue before.flash.told → Sound before.flash.reads → IsUnrefused end
   pub no_host : IsTrue before.flash.told → IsTrue launched.told → NeverHost end
   pub left : IsTrue before.flash.told
       → booting.KeptSo (Unit {0}) (after.flash.reads ≡ before.flash.reads) end
   pub plays : IsTrue before.flash.told → IsTrue launched.told
       → PlayedSo
-      (PlaysBoot layout key before.files before.flash.reads after.flash.reads launched.launches
+      (PlaysBoot config.2 config.0 config.1 before.files before.flash.reads after.flash.reads
+      launched.launches
       now.launches)
       (after.flash.reads ≡ before.flash.reads) launched.launches now.launches end
   pub safe : IsTrue before.flash.told → IsTrue launched.told
@@ -80,9 +82,10 @@ pub record Boots (launched now : Launching) (before after : Outside) (end : Boot
     (lines : List ℕ) : Type 0 where
   pub layout : List Entry
   pub key : Key
+  pub frame : Frame
   pub middle : Outside
-  pub held : config_in.gives before middle (layout, key, VERSION_1)
-  pub boot : IsBoot layout key launched now middle after end
+  pub held : config_in.gives before middle (layout, key, frame)
+  pub boot : IsBoot (layout, key, frame) launched now middle after end
   pub lines_are : lines ≡ boot_line end
 
 -- ---- at each moment
@@ -92,6 +95,7 @@ pub record Boots (launched now : Launching) (before after : Outside) (end : Boot
 pub record KeepsBooted (before : Outside) (old now : Flash) : Type 0 where
   pub layout : List Entry
   pub key : Key
+  pub frame : Frame
   pub config :
-      ConfigOf before.flash.size old.reads (Configured layout key VERSION_1)
-  pub kept : KeepsBoot layout key old now
+      ConfigOf before.flash.size old.reads (Configured layout key frame)
+  pub kept : KeepsBoot frame layout key old now

@@ -1,6 +1,7 @@
 -- How a command ends: with an answer in stages, a boot, or an update.
 use Rattle.std.specs.Prelude.{◌≡◌, ℕ, List}
 use Rattle.suit_edge.specs.Flash.{Flash, IsSame, Passes}
+use Rattle.flash_layout.specs.declared.frame.Frame.{Frame}
 use Rattle.flash_layout.specs.declared.key.Key.{Key}
 use Rattle.flash_layout.specs.declared.layout.Entry.{Entry}
 use Rattle.rollback_record.specs.SoundFlash.{Follows, Settled, Sound}
@@ -76,8 +77,9 @@ BootKeeps before ended old now = BootedSo (KeepsBooted before old now) (IsSame o
 -- ---- inside
 
 -- the same by a configuration
-abbrev pub BootKeepsBy : List Entry → Key → Ended → Flash → Flash → Type 0
-BootKeepsBy layout key ended old now = BootedSo (KeepsBoot layout key old now) (IsSame old now) ended
+abbrev pub BootKeepsBy : List Entry × Key × Frame → Ended → Flash → Flash → Type 0
+BootKeepsBy config ended old now =
+    BootedSo (KeepsBoot config.2 config.0 config.1 old now) (IsSame old now) ended
 
 -- the same, once an envelope was accepted
 abbrev pub KeepsAccepted : Offer → Launching → Launching → Outside → Ended → Flash → Flash → Type 0
@@ -95,12 +97,13 @@ IsUndone launched now before after ending =
     (ending ≡ NoMemory) × (after ≡ before) × (now ≡ launched)
 
 -- from the configuration on: memory runs out before anything is done; or it is a boot
-abbrev pub BootsBy : List Entry → Key → Launching → Launching → Outside → Outside → Ended → Type 0
-BootsBy layout key launched now before after (Answered ending) =
+abbrev pub BootsBy : List Entry × Key × Frame → Launching → Launching → Outside → Outside → Ended
+    → Type 0
+BootsBy config launched now before after (Answered ending) =
     IsUndone launched now before after ending
-BootsBy layout key launched now before after (Booted end lines) =
-    IsBoot layout key launched now before after end × (lines ≡ boot_line end)
-BootsBy layout key launched now before after (Updated end lines) = ⊥
+BootsBy config launched now before after (Booted end lines) =
+    IsBoot config launched now before after end × (lines ≡ boot_line end)
+BootsBy config launched now before after (Updated end lines) = ⊥
 
 -- from what was accepted on: memory runs out for the lines; or it is an update
 abbrev pub UpdatesBy : Offer → Launching → Launching → Outside → Outside → Ended → Type 0

@@ -108,9 +108,11 @@ pub record IsLeft (o : Offer) (launched now : Launching) (before : Outside) (hel
   pub others :
       KeepsContents o.layout o.accepted.places (tree_of o.accepted) numbers before.flash.reads made
   pub stands :
-      IsOld o.layout o.accepted.places (tree_of o.accepted) numbers held before.flash.reads left
+      IsOld o.frame o.layout o.accepted.places (tree_of o.accepted) numbers held
+      before.flash.reads left
       ⊎
-      (IsNew o.layout (new_of o.accepted held before.flash.reads digest numbers) made left
+      (IsNew o.frame o.layout (new_of o.frame o.accepted held before.flash.reads digest numbers)
+      made left
       × IsDone o launched now before held before.flash.reads made)
 
 -- the update of an accepted envelope left it
@@ -130,7 +132,8 @@ pub record IsCutOff (uris : List (List ℕ × List ℕ)) (launched now : Launchi
   pub digest : Digest
   pub blocks : List (List ℕ)
   pub says : WrapperSays accepted.said.wrapper digest blocks
-  pub is_left : IsLeft (offer layout bytes accepted uris) launched now before held digest left
+  pub is_left :
+      IsLeft (offer VERSION_1 layout bytes accepted uris) launched now before held digest left
 
 -- The flash lost its power, as was wanted, and this image was left: by an update that had begun, or with the contents of
 -- before.

@@ -1,7 +1,7 @@
 -- The launches of a boot of a sound flash, and so over the whole life of a flash.
 use Rattle.std.specs.Prelude.{◌≡◌, ◌⊎◌, ℕ, IsTrue, List, length, Option, All}
 use Rattle.suit_edge.specs.declared.launch.Launch.{Launch}
-use Rattle.flash_layout.specs.declared.frame.TheConstants.{VERSION_1}
+use Rattle.flash_layout.specs.declared.frame.Frame.{Frame}
 use Rattle.flash_layout.specs.declared.key.Key.{Key}
 use Rattle.flash_layout.specs.declared.layout.Entry.{Entry}
 use Rattle.flash_layout.specs.declared.slot.Record.{Record}
@@ -21,10 +21,11 @@ use Rattle.suit_cli.specs.LifeLaws.{HasRecorded, IsLife}
 pub record LaunchesRecorded (layout : List Entry) (key : Key) (files : List ℕ → Option (List ℕ))
     (image after : List ℕ) (launched now : List Launch)
     : Type 0 where
+  pub frame : Frame
   pub installed : Record
-  pub recorded : HasRecorded VERSION_1 layout key installed image
+  pub recorded : HasRecorded frame layout key installed image
   pub is :
-      IsInstalled layout key (recorded_bank VERSION_1 (head_of VERSION_1 image) installed) installed
+      IsInstalled layout key (recorded_bank frame (head_of frame image) installed) installed
   pub end : PlanEnd
   pub plays : PlaysOn layout is.said installed.active files image after launched now end
   pub gains : GainsSafe launched now

@@ -29,7 +29,7 @@ use Rattle.suit_cli.specs.Updating.{Updates, Offer, offer, tree_of, update_line}
 -- the number of what is offered and the digest of its manifest, beside the record that the flash has
 abbrev pub Beside : Offer → Outside → (ℕ → Digest → Option Record → Type 0) → Type 0
 Beside o before P =
-    ForOffer before.flash.reads o.accepted.said.wrapper
+    ForOffer o.frame before.flash.reads o.accepted.said.wrapper
     (λ held digest. P o.accepted.manifest.sequence digest held)
 
 abbrev pub IsJudgedAs : Offer → Outside → Judged → Type 0
@@ -84,7 +84,8 @@ pub record UpdateIsCaused (name : List ℕ) (uris : List (List ℕ × List ℕ))
   pub read : IsRead longest_file name before bytes
   pub accepted : Accepted
   pub is_accepted : IsAccepted layout key bytes accepted
-  pub ends : UpdateEnds (offer layout bytes accepted uris) launched now before after end
+  pub ends :
+      UpdateEnds (offer VERSION_1 layout bytes accepted uris) launched now before after end
   pub lines_are : lines ≡ update_line accepted.manifest.sequence end
 
 -- ---- where a cause stands

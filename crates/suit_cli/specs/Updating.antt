@@ -8,6 +8,7 @@ use Rattle.suit_envelope.specs.WrapperParts.{WrapperSays}
 use Rattle.suit_commands.specs.Tree.{PlanTree}
 use Rattle.suit_manifest.specs.Procedures.{update_tree}
 use Rattle.suit_params.specs.declared.digest.Digest.{Digest}
+use Rattle.flash_layout.specs.declared.frame.Frame.{Frame}
 use Rattle.flash_layout.specs.declared.frame.TheConstants.{VERSION_1}
 use Rattle.flash_layout.specs.declared.key.Key.{Key}
 use Rattle.flash_layout.specs.declared.layout.Entry.{Entry}
@@ -71,24 +72,26 @@ update_status ends.NoMemory = 11
 -- ---- the update
 
 -- the new record beside this image of the flash
-abbrev pub new_of : Accepted → Option Record → List ℕ → Digest → List ℕ → Record
-new_of a held image digest numbers =
-    new_record held image (trimmed a.said.wrapper a.said.manifest) a.manifest.sequence digest
+abbrev pub new_of : Frame → Accepted → Option Record → List ℕ → Digest → List ℕ → Record
+new_of frame a held image digest numbers =
+    new_record frame held image (trimmed a.said.wrapper a.said.manifest) a.manifest.sequence digest
     numbers
 
 abbrev pub tree_of : Accepted → PlanTree
 tree_of a = update_tree a.manifest a.members
 
--- what is offered to a flash of a layout: the bytes of a file, the envelope in them, which was accepted, and names of files
+-- what is offered to a flash of a frame and a layout: the bytes of a file, the envelope in them, which was accepted, and names of files
 -- for URIs.
 pub record Offer : Type 0 where
+  pub frame : Frame
   pub layout : List Entry
   pub bytes : List ℕ
   pub accepted : Accepted
   pub uris : List (List ℕ × List ℕ)
 
-abbrev pub offer : List Entry → List ℕ → Accepted → List (List ℕ × List ℕ) → Offer
-offer layout bytes accepted uris = record {
+abbrev pub offer : Frame → List Entry → List ℕ → Accepted → List (List ℕ × List ℕ) → Offer
+offer frame layout bytes accepted uris = record {
+  frame = frame;
   layout = layout;
   bytes = bytes;
   accepted = accepted;
@@ -116,10 +119,10 @@ pub record IsUpdate (o : Offer) (launched now : Launching) (before after : Outsi
   pub unasked : (HasFetch (tree_of o.accepted) → ⊥) ⊎ IsUnbegun end
       → asked_at after.asked after.pulled ≡ asked_at before.asked before.pulled
   pub judged : IsTrue before.flash.told
-      → ForOffer before.flash.reads o.accepted.said.wrapper
+      → ForOffer o.frame before.flash.reads o.accepted.said.wrapper
       (λ held digest. JudgedSo o.accepted.manifest.sequence digest held end)
   pub plays : IsTrue before.flash.told → IsTrue launched.told
-      → ForOffer before.flash.reads o.accepted.said.wrapper (λ held digest.
+      → ForOffer o.frame before.flash.reads o.accepted.said.wrapper (λ held digest.
       (payloads : List (List ℕ × List ℕ)) → HasPayloads o.bytes payloads
       → PlayedSo
       (λ made play. PlaysUpdate o.layout o.accepted.places (tree_of o.accepted) held
@@ -128,10 +131,11 @@ pub record IsUpdate (o : Offer) (launched now : Launching) (before after : Outsi
       (after.flash.reads ≡ before.flash.reads) o.layout after.flash.reads launched.launches
       now.launches end)
   pub left : IsTrue before.flash.told
-      → ForOffer before.flash.reads o.accepted.said.wrapper (λ held digest.
+      → ForOffer o.frame before.flash.reads o.accepted.said.wrapper (λ held digest.
       KeptSo
-      (LeavesUpdate o.layout o.accepted.places (tree_of o.accepted) held
-      (new_of o.accepted held before.flash.reads digest) before.flash.reads after.flash.reads end)
+      (LeavesUpdate o.frame o.layout o.accepted.places (tree_of o.accepted) held
+      (new_of o.frame o.accepted held before.flash.reads digest) before.flash.reads
+      after.flash.reads end)
       (after.flash.reads ≡ before.flash.reads) end)
   pub safe : IsTrue before.flash.told → IsTrue launched.told
       → GainsSafe launched.launches now.launches
@@ -150,7 +154,7 @@ pub record Updates (name : List ℕ) (uris : List (List ℕ × List ℕ)) (launc
   pub read : (file longest_file name).gives configured middle bytes
   pub accepted : Accepted
   pub is_accepted : IsAccepted layout key bytes accepted
-  pub update : IsUpdate (offer layout bytes accepted uris) launched now middle after end
+  pub update : IsUpdate (offer VERSION_1 layout bytes accepted uris) launched now middle after end
   pub lines_are : lines ≡ update_line accepted.manifest.sequence end
 
 -- ---- at each moment
@@ -170,18 +174,18 @@ IsDone o launched later before held reads made =
 abbrev pub KeepsOffer : Offer → Launching → Launching → Outside → UpdateEnd → Flash → Flash
     → Type 0
 KeepsOffer o launched later before end old now =
-    ForOffer old.reads o.accepted.said.wrapper (λ held digest.
+    ForOffer o.frame old.reads o.accepted.said.wrapper (λ held digest.
     KeptSo
-    (KeepsUpdate o.layout o.accepted.places (tree_of o.accepted)
+    (KeepsUpdate o.frame o.layout o.accepted.places (tree_of o.accepted)
     (IsDone o launched later before held old.reads) held
-    (new_of o.accepted held old.reads digest) old now end)
+    (new_of o.frame o.accepted held old.reads digest) old now end)
     (IsSame old now) end)
 
 -- the flash holds a record, or none, and the wrapper states a digest
-abbrev pub HasOffer : List ℕ → List ℕ → Type 0
-HasOffer image wrapper =
+abbrev pub HasOffer : Frame → List ℕ → List ℕ → Type 0
+HasOffer frame image wrapper =
     (held : Option Record) × (digest : Digest) × (blocks : List (List ℕ))
-    × RecordOf VERSION_1 (head_of VERSION_1 image) held
+    × RecordOf frame (head_of frame image) held
     × WrapperSays wrapper digest blocks
 
 -- The file with that name was accepted, and so the flash was kept. This holds of a settled flash.
@@ -196,5 +200,6 @@ pub record KeepsFlash (name : List ℕ) (uris : List (List ℕ × List ℕ)) (la
   pub read : IsRead longest_file name before bytes
   pub accepted : Accepted
   pub is_accepted : IsAccepted layout key bytes accepted
-  pub offered : HasOffer old.reads accepted.said.wrapper
-  pub kept : KeepsOffer (offer layout bytes accepted uris) launched later before end old now
+  pub offered : HasOffer VERSION_1 old.reads accepted.said.wrapper
+  pub kept :
+      KeepsOffer (offer VERSION_1 layout bytes accepted uris) launched later before end old now

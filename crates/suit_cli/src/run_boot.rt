@@ -29,12 +29,12 @@ fn boot_by<H: Host, D: Disk, L: Launcher>(
     requires held { IsTrue D.told
         → ConfigOf (D.extent flash.old) (D.flash flash.old).reads
         (Configured config.now.0 config.now.1 config.now.2) }
-    ensures answer { BootsBy config.now.0 config.now.1
+    ensures answer { BootsBy config.now
         (⟦<L as SeenLauncher>⟧.seen launcher.old) (⟦<L as SeenLauncher>⟧.seen launcher.new)
         (⟦<H as SeenHost>⟧.seen host.old (⟦<D as SeenDisk>⟧.seen flash.old))
         (⟦<H as SeenHost>⟧.seen host.new (⟦<D as SeenDisk>⟧.seen flash.new)) (ended_of result) }
     ensures keeps { IsTrue D.told
-        → BootKeepsBy config.now.0 config.now.1 (ended_of result)
+        → BootKeepsBy config.now (ended_of result)
         (D.flash flash.old) (D.flash flash.new) }
     ensures unasked { host.new ≡ host.old }
     ensures extent { D.extent flash.new ≡ D.extent flash.old }

@@ -57,14 +57,15 @@ fn update_by<H: Host, D: Disk, L: Launcher>(
     requires wrapper { HasWrapper accepted.now.envelope.wrapper.now }
     requires other { HaveOtherPlaces accepted.now.manifest.components accepted.now.places }
     requires fits { length accepted.now.envelope.whole.now < 2 ^ 64 }
-    ensures answer { UpdatesBy (offer config.now.0 accepted.now.envelope.whole.now
+    ensures answer { UpdatesBy (offer config.now.2 config.now.0 accepted.now.envelope.whole.now
         (admission_of accepted.now) uris.now)
         (⟦<L as SeenLauncher>⟧.seen launcher.old) (⟦<L as SeenLauncher>⟧.seen launcher.new)
         (⟦<H as SeenHost>⟧.seen host.old (⟦<D as SeenDisk>⟧.seen flash.old))
         (⟦<H as SeenHost>⟧.seen host.new (⟦<D as SeenDisk>⟧.seen flash.new)) (ended_of result) }
     ensures keeps { IsTrue D.told → Settled (D.flash flash.old)
         → KeepsAccepted
-        (offer config.now.0 accepted.now.envelope.whole.now (admission_of accepted.now) uris.now)
+        (offer config.now.2 config.now.0 accepted.now.envelope.whole.now (admission_of accepted.now)
+        uris.now)
         (⟦<L as SeenLauncher>⟧.seen launcher.old) (⟦<L as SeenLauncher>⟧.seen launcher.new)
         (⟦<H as SeenHost>⟧.seen host.old (⟦<D as SeenDisk>⟧.seen flash.old))
         (ended_of result) (D.flash flash.old) (D.flash flash.new) }

@@ -1,5 +1,5 @@
 -- The bytes of a bank, in the flash's bytes.
-use Rattle.std.proofs.Common.{◌≡◌, ◌↔◌, ◌<◌, ◌≤◌, ℕ, ◌+◌, ◌-◌, ◌*◌, Bool, true, false, IsTrue, if◌then◌else◌, List, ◌++◌, length, take, drop, refl, sym, ◌∙◌, ap, arith}
+use Rattle.std.proofs.Common.{◌≡◌, ◌↔◌, ◌<◌, ◌≤◌, ℕ, ◌+◌, ◌-◌, Bool, true, false, IsTrue, if◌then◌else◌, List, ◌++◌, length, take, drop, refl, sym, ◌∙◌, ap, arith}
 use Rattle.std.specs.List.{slice_range}
 use Rattle.std.specs.Str.{bytes_eq}
 use Rattle.std.proofs.lemmas.Slice.Eq.{bytes_eq-Decides}
@@ -8,26 +8,20 @@ use Rattle.std.proofs.lemmas.List.{take_all, take-take, drop-take, drop-drop}
 use Rattle.std.proofs.lemmas.List.Edits.{length-between}
 use Rattle.suit_edge.specs.Ranges.{written}
 use Rattle.suit_edge.specs.RangeLaws.{written_range}
-use Rattle.flash_layout.specs.declared.frame.TheConstants.{VERSION_1}
+use Rattle.flash_layout.specs.declared.frame.Frame.{Frame}
 use Rattle.flash_layout.specs.declared.slot.Record.{Record}
-use Rattle.flash_layout.specs.Frames.{bank_of, bank_place, head_of}
+use Rattle.flash_layout.specs.FrameFacts.{FrameFacts, bank_high, bank_there}
+use Rattle.flash_layout.specs.Frames.{bank_of, bank_place, bank_size, head_of, head_size}
 use Rattle.rollback_record.specs.HeadRecord.{IsLoadable}
 use Rattle.rollback_record.specs.SoundFlash.{recorded_bank}
-use Rattle.rollback_record.proofs.Pages.{inner_range}
 use Rattle.flash_slots.proofs.Stored.{split_range}
 
--- a bank's bytes stand behind its place
-pub bank_in : (image : List ℕ) (b n : ℕ) → b < 2 → n ≤ 16384 → bank_of VERSION_1 (head_of VERSION_1 image) b n ≡ slice_range image (bank_place VERSION_1 b) (bank_place VERSION_1 b + n)
-bank_in image b n two few =
-    let at : 12288 + b * 16384 ≡ bank_place VERSION_1 b = omega arith in
-    inner_range image 49152 (12288 + b * 16384) (12288 + b * 16384 + n) (omega arith) (omega (arith, two, few)) ∙ ap (λ (k : ℕ). slice_range image k (k + n)) at
-
--- the bytes written to it stand there
-pub bank_written : (old new bytes : List ℕ) (b : ℕ) → 49152 ≤ length old → b < 2 → length bytes ≤ 16384 → new ≡ written old (bank_place VERSION_1 b) bytes
-    → bank_of VERSION_1 (head_of VERSION_1 new) b (length bytes) ≡ bytes
-bank_written old new bytes b large two few wrote =
-    bank_in new b (length bytes) two few ∙ ap (λ (l : List ℕ). slice_range l (bank_place VERSION_1 b) (bank_place VERSION_1 b + length bytes)) wrote
-    ∙ written_range old (bank_place VERSION_1 b) bytes (omega (arith, large, two, few))
+-- the bytes written to a bank stand there
+pub bank_written : (size : ℕ) (frame : Frame) → FrameFacts size frame → (old new bytes : List ℕ) (b : ℕ) → length old ≡ size → b < 2 → length bytes ≤ bank_size frame → new ≡ written old (bank_place frame b) bytes
+    → bank_of frame (head_of frame new) b (length bytes) ≡ bytes
+bank_written size frame is old new bytes b long two few wrote =
+    bank_there size frame is new b (length bytes) two few ∙ ap (λ (l : List ℕ). slice_range l (bank_place frame b) (bank_place frame b + length bytes)) wrote
+    ∙ written_range old (bank_place frame b) bytes (omega (arith, long, is.inside, few, bank_high size frame is b two))
 
 -- a range of a range
 pub inner : (l : List ℕ) (p n from k : ℕ) → from + k ≤ n → slice_range (slice_range l p (p + n)) from (from + k) ≡ slice_range l (p + from) (p + from + k)
@@ -79,28 +73,28 @@ all_passed image bytes place from all before few =
 
 -- ---- a bank that is kept
 
--- its bytes are those that are recorded, and so many
-pub kept_holds : (image : List ℕ) (b n : ℕ) (bytes : List ℕ) → 49152 ≤ length image → b < 2 → n ≤ 16384 → bank_of VERSION_1 (head_of VERSION_1 image) b n ≡ bytes
-    → bank_of VERSION_1 (head_of VERSION_1 image) b (length bytes) ≡ bytes
-kept_holds image b n bytes large two few is =
-    let at = bank_in image b n two few in
-    let long : length bytes ≡ n = omega (arith, ap length is, ap length at, length-between image (bank_place VERSION_1 b) (bank_place VERSION_1 b + n) (omega (arith, large, two, few))) in
-    ap (λ (k : ℕ). bank_of VERSION_1 (head_of VERSION_1 image) b k) long ∙ is
+module _ (size : ℕ) (frame : Frame) (is : FrameFacts size frame) (image : List ℕ) (long : length image ≡ size) where
+  bank_long : (b n : ℕ) → b < 2 → n ≤ bank_size frame → length (bank_of frame (head_of frame image) b n) ≡ n
+  bank_long b n two few =
+      let at = ap length (bank_there size frame is image b n two few) in
+      omega (arith, at, length-between image (bank_place frame b) (bank_place frame b + n) (omega (arith, long, is.inside, few, bank_high size frame is b two)))
 
--- the record's bank holds the bytes, where the bytes of its range are these and so many are recorded
-module _ (image : List ℕ) (r : Record) (bytes : List ℕ) (large : 49152 ≤ length image) (few : IsLoadable VERSION_1 r) where
-  pub recorded_length : recorded_bank VERSION_1 (head_of VERSION_1 image) r ≡ bytes → r.length ≡ length bytes
-  recorded_length is =
-      let at = bank_in image r.bank r.length few.bank few.size in
-      let low = few.bank in
-      let short = few.size in
-      omega (arith, ap length is, ap length at, length-between image (bank_place VERSION_1 r.bank) (bank_place VERSION_1 r.bank + r.length) (omega (arith, large, low, short)))
+  -- its bytes are those that are recorded, and so many
+  pub kept_holds : (b n : ℕ) (bytes : List ℕ) → b < 2 → n ≤ bank_size frame → bank_of frame (head_of frame image) b n ≡ bytes → bank_of frame (head_of frame image) b (length bytes) ≡ bytes
+  kept_holds b n bytes two few same =
+      let count : length bytes ≡ n = omega (arith, ap length same, bank_long b n two few) in
+      ap (λ (k : ℕ). bank_of frame (head_of frame image) b k) count ∙ same
 
-  pub recorded_iff : (p : ℕ) (s : Bool) → p ≡ bank_place VERSION_1 r.bank → r.length ≡ length bytes → IsTrue s ↔ (slice_range image p (p + length bytes) ≡ bytes) → IsTrue s ↔ (recorded_bank VERSION_1 (head_of VERSION_1 image) r ≡ bytes)
-  recorded_iff p s place long iff =
-      let at : recorded_bank VERSION_1 (head_of VERSION_1 image) r ≡ slice_range image p (p + length bytes) =
-      bank_in image r.bank r.length few.bank few.size ∙ ap (λ (k : ℕ). slice_range image k (k + r.length)) (sym place) ∙ ap (λ (k : ℕ). slice_range image p (p + k)) long in
-      (λ yes. at ∙ iff.0 yes, λ is. iff.1 (sym at ∙ is))
+  -- the record's bank holds the bytes, where the bytes of its range are these and so many are recorded
+  module _ (r : Record) (bytes : List ℕ) (few : IsLoadable frame r) where
+    pub recorded_length : recorded_bank frame (head_of frame image) r ≡ bytes → r.length ≡ length bytes
+    recorded_length same = omega (arith, ap length same, bank_long r.bank r.length few.bank few.size)
+
+    pub recorded_iff : (p : ℕ) (s : Bool) → p ≡ bank_place frame r.bank → r.length ≡ length bytes → IsTrue s ↔ (slice_range image p (p + length bytes) ≡ bytes) → IsTrue s ↔ (recorded_bank frame (head_of frame image) r ≡ bytes)
+    recorded_iff p s place count iff =
+        let at : recorded_bank frame (head_of frame image) r ≡ slice_range image p (p + length bytes) =
+        bank_there size frame is image r.bank r.length few.bank few.size ∙ ap (λ (k : ℕ). slice_range image k (k + r.length)) (sym place) ∙ ap (λ (k : ℕ). slice_range image p (p + k)) count in
+        (λ yes. at ∙ iff.0 yes, λ same. iff.1 (sym at ∙ same))
 
 -- ---- the choice
 

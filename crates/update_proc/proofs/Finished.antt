@@ -5,7 +5,7 @@ use Rattle.suit_edge.specs.declared.launch.Launch.{Launch}
 use Rattle.suit_params.specs.declared.digest.Digest.{Digest}
 use Rattle.path_model.specs.declared.cause.Cause.{Cause}
 use Rattle.path_model.specs.declared.cause.Cause.TheVariants as causes
-use Rattle.flash_layout.specs.declared.frame.TheConstants.{VERSION_1}
+use Rattle.flash_layout.specs.declared.frame.Frame.{Frame}
 use Rattle.flash_layout.specs.declared.layout.Entry.{Entry}
 use Rattle.flash_layout.specs.declared.slot.Record.{Record}
 use Rattle.flash_layout.specs.Slots.{slot_content}
@@ -31,16 +31,16 @@ use Rattle.update_proc.specs.Choices.{AreChosen, active_slots}
 use Rattle.update_proc.specs.declared.update_end.UpdateEnd.{UpdateEnd}
 use Rattle.update_proc.specs.declared.update_end.UpdateEnd.TheVariants as ends
 use Rattle.update_proc.specs.Ends.{FinishedSo, IfInstalled, IfStopped, IfTold, IfUnfaulted, IsEnd, IsUnfaulted, IsRefusal, IsStartEnd, IsUnbegun, JudgedSo, SettledSo, StoppedSo, UpdateCounts}
-use Rattle.update_proc.specs.Installing.{BehindHead, IsNotWorn}
+use Rattle.update_proc.specs.Installing.{BesideHead, IsNotWorn}
 use Rattle.update_proc.specs.Moments.{HasContentsOf}
 use Rattle.update_proc.specs.Records.{next_generation}
 use Rattle.update_proc.specs.Updates.{Hosted, hosted, KeptSo, LaunchesBy, PlayedSo, PlaysUpdate, sources}
 
 -- ---- acceptance
 
-pub not_worn : (held : Option Record) (sequence : ℕ) (digest : Digest) → IfSome held (IsLoadable VERSION_1) → IsAcceptable sequence digest held → IfSome held IsNotWorn
-not_worn None sequence digest few is = tt
-not_worn (Some r) sequence digest few is = below r.generation few.typed.generation is.1
+pub not_worn : (frame : Frame) (held : Option Record) (sequence : ℕ) (digest : Digest) → IfSome held (IsLoadable frame) → IsAcceptable sequence digest held → IfSome held IsNotWorn
+not_worn frame None sequence digest few is = tt
+not_worn frame (Some r) sequence digest few is = below r.generation few.typed.generation is.1
   where
     below : (n : ℕ) → n < 2 ^ 64 → n ≢ 2 ^ 64 - 1 → n < 2 ^ 64 - 1
     below n low other = omega (arith, low, other)
@@ -61,8 +61,8 @@ no_loop : (held : Option Record) (n : ℕ) → n ≡ next_generation held → ge
 no_loop None n is same = omega (arith, is, same)
 no_loop (Some r) n is same = omega (arith, is, same)
 
-pub not_held : (one : OneAnswer) (head : List ℕ) (held : Option Record) (new : Record) → new.generation ≡ next_generation held → RecordOf VERSION_1 head held → RecordOf VERSION_1 head (Some new) → ⊥
-not_held one head held new is old now = no_loop held new.generation is (ap generation_of (one VERSION_1 head held (Some new) old now))
+pub not_held : (one : OneAnswer) (frame : Frame) (head : List ℕ) (held : Option Record) (new : Record) → new.generation ≡ next_generation held → RecordOf frame head held → RecordOf frame head (Some new) → ⊥
+not_held one frame head held new is old now = no_loop held new.generation is (ap generation_of (one frame head held (Some new) old now))
 
 -- ---- counts
 
@@ -278,14 +278,15 @@ accepted_judged sequence digest held ends.Worn is so = elim is [ ]
 
 -- ---- reads as before
 
-pub as_held : (held : Option Record) (a d : List ℕ) → d ≡ a → RecordOf VERSION_1 (head_of VERSION_1 a) held → {new : Record} → HasHeldOrNew VERSION_1 held new d
-as_held held a d same is = inl (subst (λ (l : List ℕ). RecordOf VERSION_1 (head_of VERSION_1 l) held) (sym same) is)
+module _ (frame : Frame) (held : Option Record) (a d : List ℕ) (same : d ≡ a) where
+  pub held_as : RecordOf frame (head_of frame a) held → RecordOf frame (head_of frame d) held
+  held_as is = subst (λ (l : List ℕ). RecordOf frame (head_of frame l) held) (sym same) is
 
-pub as_read : (a d : List ℕ) → d ≡ a → SameOn BehindHead a d
-as_read a d same = subst (λ (l : List ℕ). SameOn BehindHead a l) (sym same) (same_start BehindHead a)
+  pub as_held : RecordOf frame (head_of frame a) held → {new : Record} → HasHeldOrNew frame held new d
+  as_held is = inl (held_as is)
 
-pub held_as : (held : Option Record) (a d : List ℕ) → d ≡ a → RecordOf VERSION_1 (head_of VERSION_1 a) held → RecordOf VERSION_1 (head_of VERSION_1 d) held
-held_as held a d same is = subst (λ (l : List ℕ). RecordOf VERSION_1 (head_of VERSION_1 l) held) (sym same) is
+pub as_read : (frame : Frame) (a d : List ℕ) → d ≡ a → SameOn (BesideHead frame) a d
+as_read frame a d same = subst (λ (l : List ℕ). SameOn (BesideHead frame) a l) (sym same) (same_start (BesideHead frame) a)
 
 -- ---- launches
 
@@ -301,9 +302,9 @@ some_play Plays Same layout after launched now ends.Worn is = inl is
 some_play Plays Same layout after launched now ends.NoMemory is = inl is
 
 -- beside the record that was read
-pub launched_by : (Plays : Option Record → List ℕ → PlanEnd → Type 0) (Same : Type 0) (layout : List Entry) (image after : List ℕ) (launched now : List Launch) (answer : UpdateEnd) (held : Option Record)
-    → RecordOf VERSION_1 (head_of VERSION_1 image) held → PlayedSo (Plays held) Same layout after launched now answer → LaunchesBy Plays image launched now
-launched_by Plays Same layout image after launched now answer held is played = of_some (some_play (Plays held) Same layout after launched now answer played) where
-  of_some : (now ≡ launched) ⊎ ((made : List ℕ) × (end : PlanEnd) × Plays held made end) → LaunchesBy Plays image launched now
+pub launched_by : (frame : Frame) (Plays : Option Record → List ℕ → PlanEnd → Type 0) (Same : Type 0) (layout : List Entry) (image after : List ℕ) (launched now : List Launch) (answer : UpdateEnd) (held : Option Record)
+    → RecordOf frame (head_of frame image) held → PlayedSo (Plays held) Same layout after launched now answer → LaunchesBy frame Plays image launched now
+launched_by frame Plays Same layout image after launched now answer held is played = of_some (some_play (Plays held) Same layout after launched now answer played) where
+  of_some : (now ≡ launched) ⊎ ((made : List ℕ) × (end : PlanEnd) × Plays held made end) → LaunchesBy frame Plays image launched now
   of_some (inl same) = inl same
   of_some (inr (made, end, play)) = inr (held, is, made, end, play)

@@ -4,6 +4,7 @@ use Rattle.std.specs.Prelude.{◌==◌, ◌&&◌, if◌then◌else◌}
 use Rattle.std.proofs.lemmas.List.{get_or_past}
 use Rattle.std.proofs.lemmas.Bool.{cases_lt}
 use Rattle.suit_commands.specs.Tree.{PlanTree}
+use Rattle.flash_layout.specs.declared.frame.Frame.{Frame}
 use Rattle.flash_layout.specs.declared.frame.TheConstants.{VERSION_1}
 use Rattle.flash_layout.specs.declared.key.Key.{Key}
 use Rattle.flash_layout.specs.declared.layout.Entry.{Entry}
@@ -78,21 +79,21 @@ chosen_as layout places tree within active numbers same is = record {
 behind : (xs : List ℕ) (i : ℕ) → length xs ≤ i → get_or xs i 0 ≡ 0
 behind xs i far = get_or_past xs i 0 far
 
-held_long : (held : Option Record) → IfSome held (IsLoadable VERSION_1) → length (active_slots held) ≡ 8
-held_long None few = refl
-held_long (Some r) few = few.typed.active
+held_long : (frame : Frame) (held : Option Record) → IfSome held (IsLoadable frame) → length (active_slots held) ≡ 8
+held_long frame None few = refl
+held_long frame (Some r) few = few.typed.active
 
-module _ (size : ℕ) (image : List ℕ) (layout : List Entry) (key : Key) (held : Option Record) (config : ConfigOf size image (Configured layout key VERSION_1))
-    (was : RecordOf VERSION_1 (head_of VERSION_1 image) held) (few : IfSome held (IsLoadable VERSION_1)) (within : List ℕ) (is : AreInUse layout (active_slots held) within) where
+module _ (frame : Frame) (size : ℕ) (image : List ℕ) (layout : List Entry) (key : Key) (held : Option Record) (config : ConfigOf size image (Configured layout key frame))
+    (was : RecordOf frame (head_of frame image) held) (few : IfSome held (IsLoadable frame)) (within : List ℕ) (is : AreInUse layout (active_slots held) within) where
   low : (i : ℕ) → get_or (active_slots held) i 0 ≡ 0 → get_or within i 0 ≡ 0
   low i zero_is = ⊎_elim
       (λ inside. is.each i some_entry inside ∙ first_slot (get_or layout i some_entry).slots (get_or (active_slots held) i 0) zero_is)
       (λ past. is.rest i past)
       (cases_lt i (length layout))
 
-  high : (i : ℕ) → get_or (active_slots held) i 0 ≡ 1 → HasSecondSlot (config_page_of VERSION_1 (head_of VERSION_1 image)) i → get_or within i 0 ≡ 1
+  high : (i : ℕ) → get_or (active_slots held) i 0 ≡ 1 → HasSecondSlot (config_page_of frame (head_of frame image)) i → get_or within i 0 ≡ 1
   high i one_is second =
-      let two = has_two size (config_page_of VERSION_1 (head_of VERSION_1 image)) layout key config.page config.typed.entries config.typed.room i second in
+      let two = has_two frame size (config_page_of frame (head_of frame image)) layout key config.page config.typed.entries config.typed.room i second in
       is.each i some_entry two.0 ∙ last_slot (get_or layout i some_entry).slots (get_or (active_slots held) i 0) one_is (two.1 some_entry)
 
   pub in_use_as_held : (i : ℕ) → get_or within i 0 ≡ get_or (active_slots held) i 0
@@ -100,6 +101,6 @@ module _ (size : ℕ) (image : List ℕ) (layout : List Entry) (key : Key) (held
       (λ near. ⊎_elim
       (λ first. low i first ∙ sym first)
       (λ second. high i second.0 second.1 ∙ sym second.0)
-      (held_active (head_of VERSION_1 image) held was i near))
-      (λ far. behind within i (omega (arith, is.size, far)) ∙ sym (behind (active_slots held) i (omega (arith, held_long held few, far))))
+      (held_active frame (head_of frame image) held was i near))
+      (λ far. behind within i (omega (arith, is.size, far)) ∙ sym (behind (active_slots held) i (omega (arith, held_long frame held few, far))))
       (cases_lt i 8)

@@ -1,20 +1,19 @@
 -- The flash while an envelope is written to a bank and recorded: it is sound, and goes on from what stood before.
-use Rattle.std.proofs.Common.{◌≡◌, inl, inr, ⊎_elim, ◌<◌, ◌≤◌, ℕ, ◌+◌, ◌-◌, Bool, true, false, if◌then◌else◌, List, length, get_or, Option, Some, None, IfSome, refl, sym, ◌∙◌, subst, arith}
-use Rattle.std.proofs.lemmas.Bool.{cases_eq}
-use Rattle.suit_edge.specs.Flash.{Flash, ImageOn, IsFirmOn, IsSettled, Keeps, Passes}
+use Rattle.std.proofs.Common.{◌≡◌, inl, inr, ⊎_elim, ◌<◌, ◌≤◌, ℕ, zero, suc, ◌+◌, ◌-◌, Bool, true, false, if◌then◌else◌, List, length, get_or, Option, Some, None, IfSome, sym, ◌∙◌, subst, arith}
+use Rattle.suit_edge.specs.Flash.{Flash, ImageOn, IsFirmOn, IsFlash, IsSettled, Keeps, Passes}
 use Rattle.suit_edge.specs.FlashLaws.{joined, settled_firm, weakens}
 use Rattle.suit_params.specs.declared.digest.Digest.{Digest}
-use Rattle.suit_edge.specs.Ranges.{Outside, SameOn}
-use Rattle.suit_edge.specs.RangeLaws.{same_range}
+use Rattle.suit_edge.specs.Ranges.{Outside, SameOn, Within}
+use Rattle.suit_edge.specs.RangeLaws.{outside_within, same_range}
 use Rattle.flash_layout.specs.declared.frame.Frame.{Frame}
-use Rattle.flash_layout.specs.declared.frame.TheConstants.{VERSION_1}
 use Rattle.flash_layout.specs.declared.key.Key.{Key}
 use Rattle.flash_layout.specs.declared.layout.Entry.{Entry}
 use Rattle.flash_layout.specs.declared.slot.Record.{Record}
 use Rattle.flash_layout.specs.ConfigPage.{IsConfigPage}
 use Rattle.flash_layout.specs.Configs.{ConfigOf, Configured}
-use Rattle.flash_layout.specs.ToldFrames.{by_version_1}
-use Rattle.flash_layout.specs.Frames.{bank_place, config_page_of, head_of, record_place}
+use Rattle.flash_layout.specs.FrameFacts.{FrameFacts, bank_high, facts, page_there}
+use Rattle.flash_layout.specs.Frames.{IsFrame, bank_from, bank_place, bank_size, config_page_of, head_of, head_size, page_bytes, record_place}
+use Rattle.flash_layout.specs.ToldFrames.{by_told, told_by}
 use Rattle.rollback_record.specs.declared.page.TheConstants.{RECORD_BYTES}
 use Rattle.rollback_record.specs.declared.spare.Spare.{Spare}
 use Rattle.rollback_record.specs.Committing.{HasHeldOrNew, HasSpare, InHead, IsNext, IsSpare, KeepsBesideSpare}
@@ -22,60 +21,101 @@ use Rattle.rollback_record.specs.HeadRecord.{IsLoadable, RecordOf}
 use Rattle.rollback_record.specs.RecordPage.{IsActiveSlot, IsInRange}
 use Rattle.rollback_record.specs.SettledLaws.{both}
 use Rattle.rollback_record.specs.SoundFlash.{Follows, IsInstalled, IsNoEarlier, Sound, recorded_bank}
-use Rattle.rollback_record.specs.SoundLaws.{IsCommitted, IsStillSound, SaysRecorded, SoundLaws}
-use Rattle.rollback_record.proofs.Pages.{config_in}
+use Rattle.rollback_record.specs.SoundLaws.{HasFrame, IsCommitted, IsStillSound, SaysRecorded, SoundLaws}
 use Rattle.rollback_record.proofs.StillSound as recorded
-use Rattle.update_proc.specs.Banks.{BesideBank, bank_for, is_kept}
+use Rattle.update_proc.specs.Banks.{BesideBank, bank_for, is_kept, other_bank}
 use Rattle.update_proc.specs.Records.{new_record, next_generation}
-use Rattle.update_proc.specs.Installing.{BehindHead, Filling, HasActiveSlots, IsFilled, IsInstalling, IsRecording, MayBeInstalled, Recording}
+use Rattle.update_proc.specs.Installing.{BesideHead, Filling, HasActiveSlots, IsFilled, IsInstalling, IsRecording, MayBeInstalled, Recording}
 
 -- ---- places
 
--- the bytes that say what is recorded lie beside the other bank
-says_beside : (held : Option Record) (bytes : List ℕ) → length bytes ≤ 16384 → IfSome held (IsLoadable VERSION_1) → (i : ℕ) → SaysRecorded held i → BesideBank held bytes i
-says_beside None bytes fits few i says = inl (omega (arith, says))
-says_beside (Some r) bytes fits few i says = ⊎_elim
-    (λ front. inl (omega (arith, front)))
-    (λ bank. ⊎_elim
-    (λ first. let b : r.bank ≡ 0 = first in inl (omega (arith, b, few.size, bank.1)))
-    (λ other. inr (second other bank.0))
-    (cases_eq r.bank 0))
-    says
-  where
-    second : (r.bank ≡ 0 → ⊥) → bank_place VERSION_1 r.bank ≤ i → bank_place VERSION_1 (1 - r.bank) + length bytes ≤ i
-    second other low = omega (arith, other, few.bank, low, fits)
+module _ (size : ℕ) (frame : Frame) (is : FrameFacts size frame) where
+  first_lowest : (b : ℕ) → b < 2 → bank_from frame 0 ≤ bank_from frame b
+  first_lowest zero two = omega arith
+  first_lowest (suc zero) two = omega (arith, is.first_bank, is.second_bank)
+  first_lowest (suc (suc b)) two = absurd (omega (arith, two))
 
--- they lie in the head
-says_head : (held : Option Record) → IfSome held (IsLoadable VERSION_1) → (i : ℕ) → SaysRecorded held i → i < 49152
-says_head None few i says = omega (arith, says)
-says_head (Some r) few i says = ⊎_elim (λ front. omega (arith, front)) (λ bank. omega (arith, bank.1, few.size, few.bank)) says
+  -- one bank is no part of the other
+  banks_apart : (b n m i : ℕ) → b < 2 → n ≤ bank_size frame → m ≤ bank_size frame → Within (bank_place frame b) n i → Outside (bank_place frame (1 - b)) m i
+  banks_apart zero n m i two few fits there = inl (omega (arith, is.first_bank, is.second_bank, few, there.1))
+  banks_apart (suc zero) n m i two few fits there = inr (omega (arith, is.first_bank, is.second_bank, fits, there.0))
+  banks_apart (suc (suc b)) n m i two few fits there = absurd (omega (arith, two))
 
--- places behind the head are beside the banks
-beside_behind : (held : Option Record) (bytes : List ℕ) → length bytes ≤ 16384 → (i : ℕ) → 49152 ≤ i → BesideBank held bytes i
-beside_behind None bytes fits i high = inr (omega (arith, fits, high))
-beside_behind (Some r) bytes fits i high = inr (omega (arith, fits, high))
+  -- the bytes that say what is recorded lie beside the other bank
+  says_beside : (held : Option Record) (bytes : List ℕ) → length bytes ≤ bank_size frame → IfSome held (IsLoadable frame) → (i : ℕ) → SaysRecorded frame held i → BesideBank frame held bytes i
+  says_beside None bytes fits few i says = inl (omega (arith, says.1))
+  says_beside (Some r) bytes fits few i says = ⊎_elim
+      (λ front. let two : 1 - r.bank < 2 = omega arith in inl (omega (arith, front.1, first_lowest (1 - r.bank) two)))
+      (λ bank. banks_apart r.bank r.length (length bytes) i few.bank few.size fits bank)
+      says
 
--- so does the configuration page
-config_beside : (held : Option Record) (bytes : List ℕ) → IfSome held (IsLoadable VERSION_1) → (i : ℕ) → i < 1204 → BesideBank held bytes i
-config_beside None bytes few i low = inl (omega (arith, low))
-config_beside (Some r) bytes few i low = inl (omega (arith, low))
+  -- they lie in the head
+  says_head : (held : Option Record) → IfSome held (IsLoadable frame) → (i : ℕ) → SaysRecorded frame held i → InHead frame i
+  says_head None few i says = let two : 0 < 2 = omega arith in (says.0, omega (arith, says.1, bank_high size frame is 0 two))
+  says_head (Some r) few i says = ⊎_elim
+      (λ front. let two : 0 < 2 = omega arith in (front.0, omega (arith, front.1, bank_high size frame is 0 two)))
+      (λ bank. (omega (arith, bank.0), omega (arith, bank.1, few.size, bank_high size frame is r.bank few.bank)))
+      says
+
+  other_two : (held : Option Record) → other_bank held < 2
+  other_two None = omega arith
+  other_two (Some r) = omega arith
+
+  -- places beside the head are beside the banks
+  pub beside_banks : (held : Option Record) (bytes : List ℕ) → length bytes ≤ bank_size frame → (i : ℕ) → BesideHead frame i → BesideBank frame held bytes i
+  beside_banks held bytes fits i out =
+      let b = other_bank held in
+      outside_within (bank_place frame b) (length bytes) frame.base (head_size frame) (omega arith) (omega (arith, fits, bank_high size frame is b (other_two held))) i out
+
+  -- and beside the record pages
+  pub beside_page : (which i : ℕ) → which < 2 → BesideHead frame i → Outside (record_place frame which) RECORD_BYTES i
+  beside_page which i two out = outside_within (record_place frame which) RECORD_BYTES frame.base (head_size frame) (omega arith) (omega (arith, two, is.head)) i out
+
+  -- the configuration page is beside the banks
+  config_beside : (held : Option Record) (bytes : List ℕ) → (i : ℕ) → i < frame.base + page_bytes frame → BesideBank frame held bytes i
+  config_beside held bytes i low = inl (omega (arith, low, is.page))
 
 -- ---- lists that agree beside the bank
 
-says_same : (held : Option Record) (bytes a c : List ℕ) → IfSome held (IsLoadable VERSION_1) → length bytes ≤ 16384 → SameOn (BesideBank held bytes) a c → SameOn (SaysRecorded held) a c
-says_same held bytes a c few fits same = record { size = same.size; same = λ i says. same.same i (says_beside held bytes fits few i says) }
+has_frame : (frame : Frame) (image : List ℕ) → IsFrame (length image) frame → HasFrame frame image
+has_frame frame image is = record { is = is; told = told_by (length image) frame is (length image) image }
 
-module _ (laws : SoundLaws) (held : Option Record) (bytes a c : List ℕ) (large : 49152 ≤ length a) (few : IfSome held (IsLoadable VERSION_1)) (fits : length bytes ≤ 16384)
-    (was : RecordOf VERSION_1 (head_of VERSION_1 a) held) (sound : Sound a) (same : SameOn (BesideBank held bytes) a c) where
-  pub still : IsStillSound held a c
-  still = laws.kept held a c large was (says_same held bytes a c few fits same) sound
+frame_since : (frame : Frame) (a c : List ℕ) → length c ≡ length a → IsFrame (length a) frame → IsFrame (length c) frame
+frame_since frame a c same is = subst (λ (n : ℕ). IsFrame n frame) (sym same) is
 
-module _ (held : Option Record) (bytes a c : List ℕ) (large : 49152 ≤ length a) (few : IfSome held (IsLoadable VERSION_1)) (same : SameOn (BesideBank held bytes) a c) where
-  pub config_same : config_page_of VERSION_1 (head_of VERSION_1 c) ≡ config_page_of VERSION_1 (head_of VERSION_1 a)
-  config_same = config_in c ∙ same_range c a 0 1204 same.size (omega (arith, same.size, large)) (λ i low high. same.same i (config_beside held bytes few i high)) ∙ sym (config_in a)
+-- of what a flash reads
+pub frame_read : (size : ℕ) (frame : Frame) (f : Flash) → IsFlash f size → IsFrame size frame → IsFrame (length f.reads) frame
+frame_read size frame f law is = subst (λ (n : ℕ). IsFrame n frame) (sym law.fits) is
+
+module _ (frame : Frame) (held : Option Record) (bytes a c : List ℕ) (is : IsFrame (length a) frame) (few : IfSome held (IsLoadable frame)) (fits : length bytes ≤ bank_size frame)
+    (same : SameOn (BesideBank frame held bytes) a c) where
+  says_same : SameOn (SaysRecorded frame held) a c
+  says_same = record { size = same.size; same = λ i says. same.same i (says_beside (length a) frame (facts (length a) frame is) held bytes fits few i says) }
+
+  module _ (was : RecordOf frame (head_of frame a) held) where
+    still : SoundLaws → Sound a → IsStillSound frame held a c
+    still laws sound = laws.kept frame held a c (has_frame frame a is) was says_same sound
+
+    -- the record that was held stands still
+    pub still_held : RecordOf frame (head_of frame c) held
+    still_held = recorded.still_held frame held a c (has_frame frame a is) was says_same
+
+    -- and the page beside it is free still
+    pub still_spare : (spare : Spare) → spare.which < 2 → HasSpare frame (head_of frame a) held spare → HasSpare frame (head_of frame c) held spare
+    still_spare spare two has = recorded.still_spare frame held a c (has_frame frame a is) was says_same spare two has
+
+module _ (frame : Frame) (held : Option Record) (bytes a c : List ℕ) (is : IsFrame (length a) frame) (same : SameOn (BesideBank frame held bytes) a c) where
+  here : FrameFacts (length a) frame
+  here = facts (length a) frame is
+
+  config_same : config_page_of frame (head_of frame c) ≡ config_page_of frame (head_of frame a)
+  config_same =
+      page_there (length a) frame here c
+      ∙ same_range c a frame.base (frame.base + page_bytes frame) same.size (omega (arith, same.size, here.inside, here.page, here.head)) (λ i low high. same.same i (config_beside (length a) frame here held bytes i high))
+      ∙ sym (page_there (length a) frame here a)
 
   -- the fields of a record that were in range are so still
-  pub in_range : (new : Record) → new.bank < 2 → new.length ≤ 16384 → HasActiveSlots a new.active → IsInRange VERSION_1 (config_page_of VERSION_1 (head_of VERSION_1 c)) new
+  pub in_range : (new : Record) → new.bank < 2 → new.length ≤ bank_size frame → HasActiveSlots frame a new.active → IsInRange frame (config_page_of frame (head_of frame c)) new
   in_range new bank size active = record {
     bank = bank;
     size = size;
@@ -83,97 +123,96 @@ module _ (held : Option Record) (bytes a c : List ℕ) (large : 49152 ≤ length
   }
 
   -- the configuration was the same
-  config_back : (layout : List Entry) (key : Key) → ConfigOf (length c) c (Configured layout key VERSION_1) → ConfigOf (length a) a (Configured layout key VERSION_1)
-  config_back layout key is = record {
-    version = refl;
-    whole = omega (arith, large);
-    typed = is.typed;
-    page = subst (λ (n : ℕ). IsConfigPage VERSION_1 n (config_page_of VERSION_1 (head_of VERSION_1 a)) layout key) same.size (subst (λ (l : List ℕ). IsConfigPage VERSION_1 (length c) l layout key) config_same is.page);
+  config_back : (layout : List Entry) (key : Key) → ConfigOf (length c) c (Configured layout key frame) → ConfigOf (length a) a (Configured layout key frame)
+  config_back layout key config = record {
+    version = config.version;
+    whole = here.inside;
+    typed = config.typed;
+    page = subst (λ (n : ℕ). IsConfigPage frame n (config_page_of frame (head_of frame a)) layout key) same.size (subst (λ (l : List ℕ). IsConfigPage frame (length c) l layout key) config_same config.page);
   }
-
--- the record that was held stands still
-module _ (held : Option Record) (bytes a c : List ℕ) (large : 49152 ≤ length a) (few : IfSome held (IsLoadable VERSION_1)) (fits : length bytes ≤ 16384)
-    (was : RecordOf VERSION_1 (head_of VERSION_1 a) held) (same : SameOn (BesideBank held bytes) a c) where
-  pub still_held : RecordOf VERSION_1 (head_of VERSION_1 c) held
-  still_held = recorded.still_held held a c large was (says_same held bytes a c few fits same)
-
-  -- and the page beside it is free still
-  pub still_spare : (spare : Spare) → spare.which < 2 → HasSpare VERSION_1 (head_of VERSION_1 a) held spare → HasSpare VERSION_1 (head_of VERSION_1 c) held spare
-  still_spare spare two has = recorded.still_spare held a c large was (says_same held bytes a c few fits same) spare two has
 
 -- ---- the new record
 
-module _ (laws : SoundLaws) (held : Option Record) (new : Record) (bytes a made : List ℕ) (large : 49152 ≤ length a) (few : IfSome held (IsLoadable VERSION_1)) (fits : length bytes ≤ 16384)
-    (was : RecordOf VERSION_1 (head_of VERSION_1 a) held) (sound : Sound a) (filled : IsFilled held new bytes a made) where
-  made_still : IsStillSound held a made
-  made_still = still laws held bytes a made large few fits was sound filled.beside
+module _ (laws : SoundLaws) (frame : Frame) (held : Option Record) (new : Record) (bytes a made : List ℕ) (is : IsFrame (length a) frame) (few : IfSome held (IsLoadable frame)) (fits : length bytes ≤ bank_size frame)
+    (was : RecordOf frame (head_of frame a) held) (sound : Sound a) (filled : IsFilled frame held new bytes a made) where
+  made_still : IsStillSound frame held a made
+  made_still = still frame held bytes a made is few fits filled.beside was laws sound
 
-  committing : (image : List ℕ) → IsRecording held new made image → IsCommitted held new made image
-  committing image is = record {
-    large = omega (arith, filled.beside.size, large);
+  made_frame : HasFrame frame made
+  made_frame = has_frame frame made (frame_since frame a made filled.beside.size is)
+
+  committing : (image : List ℕ) → IsRecording frame held new made image → IsCommitted frame held new made image
+  committing image now = record {
+    frame_is = made_frame;
     was = made_still.held_is;
-    which = is.which;
-    two = is.two;
-    beside = record { size = is.beside.size; same = λ i k. is.beside.same i k.1 };
-    record_is = is.record_is;
+    which = now.which;
+    two = now.two;
+    beside = record { size = now.beside.size; same = λ i k. now.beside.same i k.1 };
+    record_is = now.record_is;
   }
 
-  recording_sound : new.bank < 2 → new.length ≤ 16384 → HasActiveSlots a new.active → MayBeInstalled a bytes new → (image : List ℕ) → IsRecording held new made image → Sound image
-  recording_sound bank size active may image is =
-      laws.committed held new made image (committing image is) (in_range held bytes a made large few filled.beside new bank size active)
-      (λ layout key frame config. subst (λ (f : Frame). IsInstalled layout key (recorded_bank f (head_of f made) new) new) (sym config.version)
-      (subst (λ (l : List ℕ). IsInstalled layout key l new) (sym filled.holds) (may layout key (config_back held bytes a made large few filled.beside layout key (by_version_1 (length made) made layout key frame config)))))
+  recording_sound : new.bank < 2 → new.length ≤ bank_size frame → HasActiveSlots frame a new.active → MayBeInstalled frame a bytes new → (image : List ℕ) → IsRecording frame held new made image → Sound image
+  recording_sound bank size active may image now =
+      laws.committed frame held new made image (committing image now) (in_range frame held bytes a made is filled.beside new bank size active)
+      (λ layout key other config. subst (λ (f : Frame). IsInstalled layout key (recorded_bank f (head_of f made) new) new) (sym (made_frame.told layout key other config))
+      (subst (λ (l : List ℕ). IsInstalled layout key l new) (sym filled.holds)
+      (may layout key (config_back frame held bytes a made is filled.beside layout key (by_told (length made) made frame made_frame.told layout key other config)))))
       made_still.sound
 
-  recording_follows : IfSome held (λ r. IsNoEarlier r new) → (image : List ℕ) → IsRecording held new made image → Follows a image
-  recording_follows sure image is = laws.onward a made image made_still.follows (laws.follows held new made image (committing image is) sure made_still.sound)
+  recording_follows : IfSome held (λ r. IsNoEarlier r new) → (image : List ℕ) → IsRecording frame held new made image → Follows a image
+  recording_follows sure image now = laws.onward a made image made_still.follows (laws.follows frame held new made image (committing image now) sure made_still.sound)
 
 -- ---- each image
 
-module _ (laws : SoundLaws) (held : Option Record) (new : Record) (bytes : List ℕ) (a : Flash) (large : 49152 ≤ length a.reads) (few : IfSome held (IsLoadable VERSION_1)) (fits : length bytes ≤ 16384)
-    (was : RecordOf VERSION_1 (head_of VERSION_1 a.reads) held) (sound : Sound a.reads) (firm : IsFirmOn (InHead VERSION_1) a) where
+module _ (laws : SoundLaws) (frame : Frame) (held : Option Record) (new : Record) (bytes : List ℕ) (a : Flash) (is : IsFrame (length a.reads) frame) (few : IfSome held (IsLoadable frame)) (fits : length bytes ≤ bank_size frame)
+    (was : RecordOf frame (head_of frame a.reads) held) (sound : Sound a.reads) (firm : IsFirmOn (InHead frame) a) where
   -- while the bank is written
-  pub filling_still : (image : List ℕ) → ImageOn (BesideBank held bytes) a image → IsStillSound held a.reads image
+  pub filling_still : (image : List ℕ) → ImageOn (BesideBank frame held bytes) a image → IsStillSound frame held a.reads image
   filling_still image on =
       let sure = firm on.from on.was in
-      laws.kept held a.reads image large was
-      (record { size = on.same.size ∙ sure.size; same = λ i says. on.same.same i (says_beside held bytes fits few i says) ∙ sure.same i (omega arith, omega (arith, says_head held few i says)) }) sound
+      let here = facts (length a.reads) frame is in
+      laws.kept frame held a.reads image (has_frame frame a.reads is) was
+      (record {
+        size = on.same.size ∙ sure.size;
+        same = λ i says. on.same.same i (says_beside (length a.reads) frame here held bytes fits few i says) ∙ sure.same i (says_head (length a.reads) frame here held few i says);
+      })
+      sound
 
-  pub installing_sound : new.bank < 2 → new.length ≤ 16384 → HasActiveSlots a.reads new.active → MayBeInstalled a.reads bytes new → (image : List ℕ) → IsInstalling held new bytes a image → Sound image
+  installing_sound : new.bank < 2 → new.length ≤ bank_size frame → HasActiveSlots frame a.reads new.active → MayBeInstalled frame a.reads bytes new → (image : List ℕ) → IsInstalling frame held new bytes a image → Sound image
   installing_sound bank size active may image (Filling on) = (filling_still image on).sound
-  installing_sound bank size active may image (Recording made filled is) = recording_sound laws held new bytes a.reads made large few fits was sound filled bank size active may image is
+  installing_sound bank size active may image (Recording made filled now) = recording_sound laws frame held new bytes a.reads made is few fits was sound filled bank size active may image now
 
-  pub installing_follows : IfSome held (λ r. IsNoEarlier r new) → (image : List ℕ) → IsInstalling held new bytes a image → Follows a.reads image
+  installing_follows : IfSome held (λ r. IsNoEarlier r new) → (image : List ℕ) → IsInstalling frame held new bytes a image → Follows a.reads image
   installing_follows sure image (Filling on) = (filling_still image on).follows
-  installing_follows sure image (Recording made filled is) = recording_follows laws held new bytes a.reads made large few fits was sound filled sure image is
+  installing_follows sure image (Recording made filled now) = recording_follows laws frame held new bytes a.reads made is few fits was sound filled sure image now
 
 -- ---- from one call to the next
 
-spare_two : (head : List ℕ) (o : Option Record) (w : ℕ) → IsSpare VERSION_1 head o w → w < 2
-spare_two head None w spare = omega (arith, spare)
-spare_two head (Some r) w spare = spare.0
+spare_two : (frame : Frame) (head : List ℕ) (o : Option Record) (w : ℕ) → IsSpare frame head o w → w < 2
+spare_two frame head None w spare = omega (arith, spare)
+spare_two frame head (Some r) w spare = spare.0
 
-module _ (held : Option Record) (new : Record) (bytes : List ℕ) (a c : Flash) (kept : Keeps (BesideBank held bytes) a c) where
-  pub filling : Passes a c (IsInstalling held new bytes a)
-  filling = weakens a c (ImageOn (BesideBank held bytes) a) (IsInstalling held new bytes a) (λ image on. Filling on) kept.images
+module _ (frame : Frame) (held : Option Record) (new : Record) (bytes : List ℕ) (a c : Flash) (kept : Keeps (BesideBank frame held bytes) a c) where
+  pub filling : Passes a c (IsInstalling frame held new bytes a)
+  filling = weakens a c (ImageOn (BesideBank frame held bytes) a) (IsInstalling frame held new bytes a) (λ image on. Filling on) kept.images
 
   -- the commit
-  pub recording : (d : Flash) → IsFilled held new bytes a.reads c.reads → (IsFirmOn (λ i. Unit {0}) c) → Passes c d (HasHeldOrNew VERSION_1 held new) → KeepsBesideSpare VERSION_1 held c d → Passes c d (IsInstalling held new bytes a)
+  recording : (d : Flash) → IsFilled frame held new bytes a.reads c.reads → IsFirmOn (λ i. Unit {0}) c → Passes c d (HasHeldOrNew frame held new) → KeepsBesideSpare frame held c d → Passes c d (IsInstalling frame held new bytes a)
   recording d filled firm run spare =
-      weakens c d (λ image. HasHeldOrNew VERSION_1 held new image × ImageOn (Outside (record_place VERSION_1 spare.which) RECORD_BYTES) c image) (IsInstalling held new bytes a)
+      weakens c d (λ image. HasHeldOrNew frame held new image × ImageOn (Outside (record_place frame spare.which) RECORD_BYTES) c image) (IsInstalling frame held new bytes a)
       (λ image p. Recording c.reads filled (record {
         which = spare.which;
-        two = spare_two (head_of VERSION_1 c.reads) held spare.which spare.spare;
+        two = spare_two frame (head_of frame c.reads) held spare.which spare.spare;
         beside = record { size = p.1.same.size ∙ (firm p.1.from p.1.was).size; same = λ i k. p.1.same.same i k ∙ (firm p.1.from p.1.was).same i tt };
         record_is = p.0;
       }))
-      (both c d (HasHeldOrNew VERSION_1 held new) (ImageOn (Outside (record_place VERSION_1 spare.which) RECORD_BYTES) c) run spare.keeps.images)
+      (both c d (HasHeldOrNew frame held new) (ImageOn (Outside (record_place frame spare.which) RECORD_BYTES) c) run spare.keeps.images)
 
 -- ---- the record that is committed
 
-pub same_record : (held : Option Record) (image bytes : List ℕ) (sequence : ℕ) (digest : Digest) (active : List ℕ) (g b : ℕ) → g ≡ next_generation held → b ≡ bank_for held image bytes
-    → record { generation = g; sequence = sequence; bank = b; length = length bytes; digest = digest; active = active } ≡ new_record held image bytes sequence digest active
-same_record held image bytes sequence digest active g b eg eb =
+pub same_record : (frame : Frame) (held : Option Record) (image bytes : List ℕ) (sequence : ℕ) (digest : Digest) (active : List ℕ) (g b : ℕ) → g ≡ next_generation held → b ≡ bank_for frame held image bytes
+    → record { generation = g; sequence = sequence; bank = b; length = length bytes; digest = digest; active = active } ≡ new_record frame held image bytes sequence digest active
+same_record frame held image bytes sequence digest active g b eg eb =
     λ i. record { generation = eg i; sequence = sequence; bank = eb i; length = length bytes; digest = digest; active = active }
 
 pub next_is : (held : Option Record) (new : Record) → new.generation ≡ next_generation held → IsNext held new
@@ -184,48 +223,49 @@ either_small : (b : Bool) (m n : ℕ) → m < 2 → n < 2 → (if b then m else 
 either_small true m n first second = first
 either_small false m n first second = second
 
-bank_small : (held : Option Record) (image bytes : List ℕ) → IfSome held (IsLoadable VERSION_1) → bank_for held image bytes < 2
-bank_small None image bytes few = omega arith
-bank_small (Some r) image bytes few = either_small (is_kept (Some r) image bytes) r.bank (1 - r.bank) few.bank (omega arith)
+bank_small : (frame : Frame) (held : Option Record) (image bytes : List ℕ) → IfSome held (IsLoadable frame) → bank_for frame held image bytes < 2
+bank_small frame None image bytes few = omega arith
+bank_small frame (Some r) image bytes few = either_small (is_kept frame (Some r) image bytes) r.bank (1 - r.bank) few.bank (omega arith)
 
 -- ---- all of it
 
-module _ (laws : SoundLaws) (held : Option Record) (bytes : List ℕ) (sequence : ℕ) (digest : Digest) (active : List ℕ) (a : Flash) (large : 49152 ≤ length a.reads) (few : IfSome held (IsLoadable VERSION_1)) (fits : length bytes ≤ 16384)
-    (was : RecordOf VERSION_1 (head_of VERSION_1 a.reads) held) (sound : Sound a.reads) (firm : IsFirmOn (InHead VERSION_1) a) where
+module _ (laws : SoundLaws) (frame : Frame) (held : Option Record) (bytes : List ℕ) (sequence : ℕ) (digest : Digest) (active : List ℕ) (a : Flash) (is : IsFrame (length a.reads) frame) (few : IfSome held (IsLoadable frame))
+    (fits : length bytes ≤ bank_size frame) (was : RecordOf frame (head_of frame a.reads) held) (sound : Sound a.reads) (firm : IsFirmOn (InHead frame) a) where
   abbrev new : Record
-  new = new_record held a.reads bytes sequence digest active
+  new = new_record frame held a.reads bytes sequence digest active
 
-  pub each_sound : (d : Flash) → HasActiveSlots a.reads active → Passes a d (IsInstalling held new bytes a) → MayBeInstalled a.reads bytes new → Passes a d Sound
+  pub each_sound : (d : Flash) → HasActiveSlots frame a.reads active → Passes a d (IsInstalling frame held new bytes a) → MayBeInstalled frame a.reads bytes new → Passes a d Sound
   each_sound d slots run may =
-      weakens a d (IsInstalling held new bytes a) Sound (installing_sound laws held new bytes a large few fits was sound firm (bank_small held a.reads bytes few) fits slots may) run
+      weakens a d (IsInstalling frame held new bytes a) Sound (installing_sound laws frame held new bytes a is few fits was sound firm (bank_small frame held a.reads bytes few) fits slots may) run
 
-  pub each_follows : (d : Flash) → Passes a d (IsInstalling held new bytes a) → IfSome held (λ r. IsNoEarlier r new) → Passes a d (Follows a.reads)
-  each_follows d run sure = weakens a d (IsInstalling held new bytes a) (Follows a.reads) (installing_follows laws held new bytes a large few fits was sound firm sure) run
+  pub each_follows : (d : Flash) → Passes a d (IsInstalling frame held new bytes a) → IfSome held (λ r. IsNoEarlier r new) → Passes a d (Follows a.reads)
+  each_follows d run sure = weakens a d (IsInstalling frame held new bytes a) (Follows a.reads) (installing_follows laws frame held new bytes a is few fits was sound firm sure) run
 
 -- the bank and the commit
-module _ (held : Option Record) (new code : Record) (bytes : List ℕ) (a c d : Flash) (same : code ≡ new) (kept : Keeps (BesideBank held bytes) a c) where
-  pub bank_and_commit : recorded_bank VERSION_1 (head_of VERSION_1 c.reads) code ≡ bytes → IsSettled c → Passes c d (HasHeldOrNew VERSION_1 held code) → KeepsBesideSpare VERSION_1 held c d → Passes a d (IsInstalling held new bytes a)
+module _ (frame : Frame) (held : Option Record) (new code : Record) (bytes : List ℕ) (a c d : Flash) (same : code ≡ new) (kept : Keeps (BesideBank frame held bytes) a c) where
+  pub bank_and_commit : recorded_bank frame (head_of frame c.reads) code ≡ bytes → IsSettled c → Passes c d (HasHeldOrNew frame held code) → KeepsBesideSpare frame held c d → Passes a d (IsInstalling frame held new bytes a)
   bank_and_commit holds settled run spare =
-      joined a c d (IsInstalling held new bytes a) (filling held new bytes a c kept)
-      (recording held new bytes a c kept d (record { beside = kept.reads; holds = subst (λ (n : Record). recorded_bank VERSION_1 (head_of VERSION_1 c.reads) n ≡ bytes) same holds }) (settled_firm (λ i. Unit {0}) c settled)
-      (subst (λ (n : Record). Passes c d (HasHeldOrNew VERSION_1 held n)) same run) spare)
+      joined a c d (IsInstalling frame held new bytes a) (filling frame held new bytes a c kept)
+      (recording frame held new bytes a c kept d (record { beside = kept.reads; holds = subst (λ (n : Record). recorded_bank frame (head_of frame c.reads) n ≡ bytes) same holds }) (settled_firm (λ i. Unit {0}) c settled)
+      (subst (λ (n : Record). Passes c d (HasHeldOrNew frame held n)) same run) spare)
 
--- ---- behind the head
+-- ---- beside the head
 
--- nothing changes while the bank is written
-pub behind_bank : (held : Option Record) (bytes a c : List ℕ) → length bytes ≤ 16384 → SameOn (BesideBank held bytes) a c → SameOn BehindHead a c
-behind_bank held bytes a c fits same = record { size = same.size; same = λ i high. same.same i (beside_behind held bytes fits i high) }
+module _ (size : ℕ) (frame : Frame) (is : FrameFacts size frame) (held : Option Record) (bytes : List ℕ) (fits : length bytes ≤ bank_size frame) where
+  -- nothing changes while the bank is written
+  pub beside_bank : (a c : List ℕ) → SameOn (BesideBank frame held bytes) a c → SameOn (BesideHead frame) a c
+  beside_bank a c same = record { size = same.size; same = λ i out. same.same i (beside_banks size frame is held bytes fits i out) }
 
--- nor while the record is committed
-pub behind_commit : (held : Option Record) (bytes a : List ℕ) (c d : Flash) → length bytes ≤ 16384 → SameOn (BesideBank held bytes) a c.reads → KeepsBesideSpare VERSION_1 held c d → SameOn BehindHead a d.reads
-behind_commit held bytes a c d fits same spare =
-    let two : spare.which < 2 = spare_two (head_of VERSION_1 c.reads) held spare.which spare.spare in
-    let first = behind_bank held bytes a c.reads fits same in
-    record {
-      size = spare.keeps.reads.size ∙ first.size;
-      same = λ i high. spare.keeps.reads.same i (inr (omega (arith, high, two))) ∙ first.same i high;
-    }
+  -- nor while the record is committed
+  pub beside_commit : (a : List ℕ) (c d : Flash) → SameOn (BesideBank frame held bytes) a c.reads → KeepsBesideSpare frame held c d → SameOn (BesideHead frame) a d.reads
+  beside_commit a c d same spare =
+      let two : spare.which < 2 = spare_two frame (head_of frame c.reads) held spare.which spare.spare in
+      let first = beside_bank a c.reads same in
+      record {
+        size = spare.keeps.reads.size ∙ first.size;
+        same = λ i out. spare.keeps.reads.same i (beside_page size frame is spare.which i two out) ∙ first.same i out;
+      }
 
 -- the record that was committed, by its fields
-pub held_or_same : (held : Option Record) (code new : Record) (image : List ℕ) → code ≡ new → HasHeldOrNew VERSION_1 held code image → HasHeldOrNew VERSION_1 held new image
-held_or_same held code new image same is = subst (λ (r : Record). HasHeldOrNew VERSION_1 held r image) same is
+pub held_or_same : (frame : Frame) (held : Option Record) (code other : Record) (image : List ℕ) → code ≡ other → HasHeldOrNew frame held code image → HasHeldOrNew frame held other image
+held_or_same frame held code other image same is = subst (λ (r : Record). HasHeldOrNew frame held r image) same is

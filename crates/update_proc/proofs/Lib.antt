@@ -9,4 +9,3 @@ mod InUseSlots
 mod Started
 pub mod Finished
 pub mod Reread
-mod CommitFrames

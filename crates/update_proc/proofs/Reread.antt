@@ -7,7 +7,7 @@ use Rattle.suit_edge.specs.Flash.{Flash, IsFlash, IsSame, IsSettled, Now, Passes
 use Rattle.suit_edge.specs.FlashLaws.{joined, same_flash_then, weakens}
 use Rattle.suit_envelope.specs.WrapperParts.{WrapperSays}
 use Rattle.suit_params.specs.declared.digest.Digest.{Digest}
-use Rattle.flash_layout.specs.declared.frame.TheConstants.{VERSION_1}
+use Rattle.flash_layout.specs.declared.frame.Frame.{Frame}
 use Rattle.flash_layout.specs.declared.key.Key.{Key}
 use Rattle.flash_layout.specs.declared.layout.Entry.{Entry}
 use Rattle.flash_layout.specs.declared.layout.Memory.TheVariants as memory
@@ -42,25 +42,25 @@ as_loaded None loaded same = same
 as_loaded (Some r) loaded same = same
 
 -- the record that is handed on is the one that was read
-pub recorded_as : (head : List ℕ) (o : Option (Bor Record)) (loaded : Option Record) → option_copied o ≡ loaded → RecordOf VERSION_1 head loaded
-    → RecordOf VERSION_1 head (option_map (λ r. r.now) o)
-recorded_as head o loaded same is = subst (λ (p : Option Record). RecordOf VERSION_1 head p) (sym (as_loaded o loaded same)) is
+pub recorded_as : (frame : Frame) (head : List ℕ) (o : Option (Bor Record)) (loaded : Option Record) → option_copied o ≡ loaded → RecordOf frame head loaded
+    → RecordOf frame head (option_map (λ r. r.now) o)
+recorded_as frame head o loaded same is = subst (λ (p : Option Record). RecordOf frame head p) (sym (as_loaded o loaded same)) is
 
-pub loadable_as : (o : Option (Bor Record)) (loaded : Option Record) → option_copied o ≡ loaded → IfSome loaded (IsLoadable VERSION_1)
-    → IfSome (option_map (λ r. r.now) o) (IsLoadable VERSION_1)
-loadable_as o loaded same is = subst (λ (p : Option Record). IfSome p (IsLoadable VERSION_1)) (sym (as_loaded o loaded same)) is
+pub loadable_as : (frame : Frame) (o : Option (Bor Record)) (loaded : Option Record) → option_copied o ≡ loaded → IfSome loaded (IsLoadable frame)
+    → IfSome (option_map (λ r. r.now) o) (IsLoadable frame)
+loadable_as frame o loaded same is = subst (λ (p : Option Record). IfSome p (IsLoadable frame)) (sym (as_loaded o loaded same)) is
 
 -- and so is the page beside it
-pub spare_as : (head : List ℕ) (o : Option (Bor Record)) (pages : RecordPages) → option_copied o ≡ pages.held → HasPages VERSION_1 head pages
-    → HasSpare VERSION_1 head (option_map (λ r. r.now) o) pages.spare
-spare_as head o pages same is = subst (λ (p : Option Record). HasSpare VERSION_1 head p pages.spare) (sym (as_loaded o pages.held same)) is.spare
+pub spare_as : (frame : Frame) (head : List ℕ) (o : Option (Bor Record)) (pages : RecordPages) → option_copied o ≡ pages.held → HasPages frame head pages
+    → HasSpare frame head (option_map (λ r. r.now) o) pages.spare
+spare_as frame head o pages same is = subst (λ (p : Option Record). HasSpare frame head p pages.spare) (sym (as_loaded o pages.held same)) is.spare
 
 -- a property of the record that was read and the digest that was stated holds of each such
-pub for_offer : (one : OneAnswer) (image wrapper : List ℕ) (P : Option Record → Digest → Type 0) (held : Option Record) (stated : Digest)
-    → RecordOf VERSION_1 (head_of VERSION_1 image) held → ((digest : Digest) (blocks : List (List ℕ)) → WrapperSays wrapper digest blocks → stated ≡ digest)
-    → P held stated → ForOffer image wrapper P
-for_offer one image wrapper P held stated is says p other digest blocks there said =
-    subst (λ (o : Option Record). P o digest) (one VERSION_1 (head_of VERSION_1 image) held other is there)
+pub for_offer : (one : OneAnswer) (frame : Frame) (image wrapper : List ℕ) (P : Option Record → Digest → Type 0) (held : Option Record) (stated : Digest)
+    → RecordOf frame (head_of frame image) held → ((digest : Digest) (blocks : List (List ℕ)) → WrapperSays wrapper digest blocks → stated ≡ digest)
+    → P held stated → ForOffer frame image wrapper P
+for_offer one frame image wrapper P held stated is says p other digest blocks there said =
+    subst (λ (o : Option Record). P o digest) (one frame (head_of frame image) held other is there)
     (subst (λ (d : Digest). P held d) (says digest blocks said) p)
 
 -- ---- what was kept
@@ -98,27 +98,27 @@ module _ (a b c : Flash) (same : IsSame a b) where
   settled_from size law (inl is) = inl (same_flash_then a b c size law same is)
   settled_from size law (inr is) = inr is
 
-  module _ (size : ℕ) (law : IsFlash a size) (layout : List Entry) (allowed : IsLayout VERSION_1 size layout) (places : Places) (tree : PlanTree)
-      (held : Option Record) (key : Key) (config : ConfigOf size a.reads (Configured layout key VERSION_1)) (settled : Settled a)
-      (was : RecordOf VERSION_1 (head_of VERSION_1 a.reads) held) (bytes : List ℕ) (sequence : ℕ) (digest : Digest) where
-    config_a : ConfigOf (length a.reads) a.reads (Configured layout key VERSION_1)
-    config_a = subst (λ (n : ℕ). ConfigOf n a.reads (Configured layout key VERSION_1)) (sym law.fits) config
+  module _ (frame : Frame) (size : ℕ) (law : IsFlash a size) (layout : List Entry) (allowed : IsLayout frame size layout) (places : Places) (tree : PlanTree)
+      (held : Option Record) (key : Key) (config : ConfigOf size a.reads (Configured layout key frame)) (settled : Settled a)
+      (was : RecordOf frame (head_of frame a.reads) held) (bytes : List ℕ) (sequence : ℕ) (digest : Digest) where
+    config_a : ConfigOf (length a.reads) a.reads (Configured layout key frame)
+    config_a = subst (λ (n : ℕ). ConfigOf n a.reads (Configured layout key frame)) (sym law.fits) config
 
     -- an image that a power loss then may have left has the old record and the old contents
-    old_now : (numbers : List ℕ) (image : List ℕ) → Now a image → IsOld layout places tree numbers held a.reads image
+    old_now : (numbers : List ℕ) (image : List ℕ) → Now a image → IsOld frame layout places tree numbers held a.reads image
     old_now numbers image now = record {
-      record_is = subst (λ (h : List ℕ). RecordOf VERSION_1 h held) (sym (settled_head layout key a settled config_a image now)) was;
-      contents = λ i n slot is not. settled_slots layout key a settled config_a (listed size layout allowed config.typed.entries none) image now i n slot is;
+      record_is = subst (λ (h : List ℕ). RecordOf frame h held) (sym (settled_head frame layout key a settled config_a image now)) was;
+      contents = λ i n slot is not. settled_slots frame layout key a settled config_a (listed frame size layout allowed config.typed.entries none) image now i n slot is;
     }
 
-    old_from : (numbers : List ℕ) → Passes b c (IsOld layout places tree numbers held b.reads) → Passes a c (IsOld layout places tree numbers held a.reads)
+    old_from : (numbers : List ℕ) → Passes b c (IsOld frame layout places tree numbers held b.reads) → Passes a c (IsOld frame layout places tree numbers held a.reads)
     old_from numbers run =
-        since_read (IsOld layout places tree numbers held a.reads) (old_now numbers)
-        (subst (λ (l : List ℕ). Passes b c (IsOld layout places tree numbers held l)) same.reads run)
+        since_read (IsOld frame layout places tree numbers held a.reads) (old_now numbers)
+        (subst (λ (l : List ℕ). Passes b c (IsOld frame layout places tree numbers held l)) same.reads run)
 
     pub keeps_from : (Then Done : List ℕ → Type 0) → ((made : List ℕ) → Then made → Done made) → (answer : UpdateEnd)
-        → KeepsUpdate layout places tree Then held (λ numbers. new_record held b.reads bytes sequence digest numbers) b c answer
-        → KeepsUpdate layout places tree Done held (λ numbers. new_record held a.reads bytes sequence digest numbers) a c answer
+        → KeepsUpdate frame layout places tree Then held (λ numbers. new_record frame held b.reads bytes sequence digest numbers) b c answer
+        → KeepsUpdate frame layout places tree Done held (λ numbers. new_record frame held a.reads bytes sequence digest numbers) a c answer
     keeps_from Then Done done answer k = record {
       numbers = k.numbers;
       chosen = k.chosen;
@@ -127,10 +127,10 @@ module _ (a b c : Flash) (same : IsSame a b) where
       others = subst (λ (l : List ℕ). KeepsContents layout places tree k.numbers l k.made) same.reads k.others;
       whole = whole_from _ _ _ _ (old_from k.numbers) (done k.made) answer k.whole;
       any_moment =
-          since_read (λ image. IsOld layout places tree k.numbers held a.reads image ⊎ IsNew layout (new_record held a.reads bytes sequence digest k.numbers) k.made image)
+          since_read (λ image. IsOld frame layout places tree k.numbers held a.reads image ⊎ IsNew frame layout (new_record frame held a.reads bytes sequence digest k.numbers) k.made image)
           (λ image now. inl (old_now k.numbers image now))
-          (subst (λ (l : List ℕ). Passes b c (λ image. IsOld layout places tree k.numbers held l image ⊎ IsNew layout (new_record held l bytes sequence digest k.numbers) k.made image))
+          (subst (λ (l : List ℕ). Passes b c (λ image. IsOld frame layout places tree k.numbers held l image ⊎ IsNew frame layout (new_record frame held l bytes sequence digest k.numbers) k.made image))
           same.reads k.any_moment);
-      left = subst (λ (l : List ℕ). LeftSo (λ r. r ≡ new_record held l bytes sequence digest k.numbers) (IsOld layout places tree k.numbers held l c.reads)
-          (IsNew layout (new_record held l bytes sequence digest k.numbers) k.made c.reads) answer) same.reads k.left;
+      left = subst (λ (l : List ℕ). LeftSo (λ r. r ≡ new_record frame held l bytes sequence digest k.numbers) (IsOld frame layout places tree k.numbers held l c.reads)
+          (IsNew frame layout (new_record frame held l bytes sequence digest k.numbers) k.made c.reads) answer) same.reads k.left;
     }

@@ -7,7 +7,7 @@ use Rattle.std.proofs.lemmas.List.Elements.{All-get_or}
 use Rattle.suit_edge.specs.Ranges.{Outside, Within}
 use Rattle.suit_edge.specs.RangeLaws.{same_range}
 use Rattle.suit_commands.specs.Tree.{PlanTree}
-use Rattle.flash_layout.specs.declared.frame.TheConstants.{VERSION_1}
+use Rattle.flash_layout.specs.declared.frame.Frame.{Frame}
 use Rattle.flash_layout.specs.declared.layout.Entry.{Entry}
 use Rattle.flash_layout.specs.declared.layout.Memory.{Memory}
 use Rattle.flash_layout.specs.declared.layout.Memory.TheVariants as memory
@@ -31,7 +31,7 @@ outside_clear p m q n i c within = ⊎_elim
     (λ high. let far = c.1 high in inr (omega (arith, far, within.0)))
     (cases_lt p q)
 
-module _ (size : ℕ) (layout : List Entry) (allowed : IsLayout VERSION_1 size layout) (typed : All IsTypedEntry layout) (d : Entry) where
+module _ (frame : Frame) (size : ℕ) (layout : List Entry) (allowed : IsLayout frame size layout) (typed : All IsTypedEntry layout) (d : Entry) where
   abbrev entry : ℕ → Entry
   entry i = get_or layout i d
 

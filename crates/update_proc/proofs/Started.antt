@@ -8,7 +8,9 @@ use Rattle.suit_commands.specs.Targets.{IsTarget}
 use Rattle.suit_edge.specs.Flash.{Flash, IsFirmOn, IsFlash, Keeps, Now, Passes}
 use Rattle.suit_edge.specs.FlashLaws.{each_now, each_read, firm_then, joined, keeps_fewer, weakens}
 use Rattle.suit_edge.specs.Ranges.{Outside, SameOn}
+use Rattle.suit_edge.specs.RangeLaws.{same_range}
 use Rattle.suit_params.specs.declared.digest.Digest.{Digest}
+use Rattle.flash_layout.specs.declared.frame.Frame.{Frame}
 use Rattle.flash_layout.specs.declared.frame.TheConstants.{VERSION_1}
 use Rattle.flash_layout.specs.declared.key.Key.{Key}
 use Rattle.flash_layout.specs.declared.layout.Entry.{Entry}
@@ -17,7 +19,9 @@ use Rattle.flash_layout.specs.declared.layout.Memory.TheVariants as memory
 use Rattle.flash_layout.specs.declared.place.Places.{Places}
 use Rattle.flash_layout.specs.declared.slot.Record.{Record}
 use Rattle.flash_layout.specs.Configs.{ConfigOf, Configured}
-use Rattle.flash_layout.specs.Frames.{head_of}
+use Rattle.flash_layout.specs.FirstFrame.{has_room, of_first, to_first}
+use Rattle.flash_layout.specs.FrameFacts.{FrameFacts, facts}
+use Rattle.flash_layout.specs.Frames.{IsFrame, bank_size, head_of, head_size}
 use Rattle.flash_layout.specs.ToldFrames.{same_config}
 use Rattle.flash_layout.specs.Layouts.{IsLayout, IsTypedEntry}
 use Rattle.flash_layout.specs.Slots.{extent_of, slot_at}
@@ -34,14 +38,14 @@ use Rattle.step_machine.specs.Worlds.{AreDistinct, IsChoice, StandAs, spot_of}
 use Rattle.update_proc.specs.ChoiceLaws.{ChoiceLaw}
 use Rattle.update_proc.specs.Choices.{AreChosen, IsTouched, active_slots}
 use Rattle.update_proc.specs.Ends.{NowOr}
-use Rattle.update_proc.specs.Installing.{BehindHead, HasActiveSlots, IsInstalling, MayBeInstalled}
-use Rattle.update_proc.specs.MomentLaws.{EachMoment}
+use Rattle.update_proc.specs.Installing.{BesideHead, HasActiveSlots, IsInstalling, MayBeInstalled}
+use Rattle.update_proc.specs.MomentLaws.{EachMoment, MomentLaws}
 use Rattle.update_proc.specs.Moments.{IsNew, IsOld, KeepsContents, OutsideTouched}
 use Rattle.update_proc.specs.Records.{new_record}
 use Rattle.update_proc.proofs.Finished.{not_held}
-use Rattle.update_proc.proofs.MomentProofs.{behind}
+use Rattle.update_proc.proofs.MomentProofs.{beside}
 use Rattle.update_proc.proofs.Numbering.{other_default}
-use Rattle.rollback_record.proofs.HeadSince.{follows_since, same_head, sound_since}
+use Rattle.rollback_record.proofs.HeadSince.{follows_since, sound_since}
 use Rattle.update_proc.proofs.WholeUpdate.{finished, head_out, kept_old, listed, reads_old, settled_head, settled_slots}
 
 none : Entry
@@ -85,126 +89,141 @@ module _ (layout : List Entry) (places : Places) (tree : PlanTree) (numbers : Li
 
 -- ---- the record by the head
 
-same_new : (held : Option Record) (a b bytes : List ℕ) (sequence : ℕ) (digest : Digest) (numbers : List ℕ) → head_of VERSION_1 b ≡ head_of VERSION_1 a
-    → new_record held b bytes sequence digest numbers ≡ new_record held a bytes sequence digest numbers
-same_new None a b bytes sequence digest numbers head = refl
-same_new (Some r) a b bytes sequence digest numbers head =
+same_new : (frame : Frame) (held : Option Record) (a b bytes : List ℕ) (sequence : ℕ) (digest : Digest) (numbers : List ℕ) → head_of frame b ≡ head_of frame a
+    → new_record frame held b bytes sequence digest numbers ≡ new_record frame held a bytes sequence digest numbers
+same_new frame None a b bytes sequence digest numbers head = refl
+same_new frame (Some r) a b bytes sequence digest numbers head =
     ap (λ (h : List ℕ). record {
       generation = r.generation + 1;
       sequence = sequence;
-      bank = if bytes_eq (recorded_bank VERSION_1 h r) bytes then r.bank else 1 - r.bank;
+      bank = if bytes_eq (recorded_bank frame h r) bytes then r.bank else 1 - r.bank;
       length = length bytes;
       digest = digest;
       active = numbers;
     }) head
 
-module _ (laws : SoundLaws) (moments : EachMoment) (choosing : ChoiceLaw) (size : ℕ) (large : 49152 ≤ size) (layout : List Entry) (allowed : IsLayout VERSION_1 size layout)
-    (places : Places) (tree : PlanTree) (held : Option Record) (few : IfSome held (IsLoadable VERSION_1)) (numbers : List ℕ) (standings : List Standing) (distinct : AreDistinct layout places)
+module _ (laws : SoundLaws) (moments : EachMoment) (choosing : ChoiceLaw) (frame : Frame) (size : ℕ) (is : IsFrame size frame) (layout : List Entry) (allowed : IsLayout frame size layout)
+    (places : Places) (tree : PlanTree) (held : Option Record) (few : IfSome held (IsLoadable frame)) (numbers : List ℕ) (standings : List Standing) (distinct : AreDistinct layout places)
     (choice : IsChoice layout (record { number = numbers })) (stand : StandAs layout places (record { number = numbers }) standings)
     (chosen : AreChosen layout places tree (active_slots held) numbers)
-    (a b : Flash) (law : IsFlash a size) (law_b : IsFlash b size) (key : Key) (config : ConfigOf size a.reads (Configured layout key VERSION_1))
-    (was : RecordOf VERSION_1 (head_of VERSION_1 a.reads) held) (kept : Keeps (OutsideTargets tree standings) a b) where
+    (a b : Flash) (law : IsFlash a size) (law_b : IsFlash b size) (key : Key) (config : ConfigOf size a.reads (Configured layout key frame))
+    (was : RecordOf frame (head_of frame a.reads) held) (kept : Keeps (OutsideTargets tree standings) a b) where
   typed : All IsTypedEntry layout
   typed = config.typed.entries
 
-  config_a : ConfigOf (length a.reads) a.reads (Configured layout key VERSION_1)
-  config_a = subst (λ (n : ℕ). ConfigOf n a.reads (Configured layout key VERSION_1)) (sym law.fits) config
+  here : FrameFacts size frame
+  here = facts size frame is
+
+  laws_here : MomentLaws frame size layout
+  laws_here = moments frame size layout is allowed typed
+
+  config_a : ConfigOf (length a.reads) a.reads (Configured layout key frame)
+  config_a = subst (λ (n : ℕ). ConfigOf n a.reads (Configured layout key frame)) (sym law.fits) config
 
   kept_touched : Keeps (OutsideTouched layout places tree numbers) a b
   kept_touched = keeps_fewer (OutsideTouched layout places tree numbers) (OutsideTargets tree standings) (touched_outside layout places tree numbers standings distinct choice stand) a b kept
 
-  kept_head : Keeps (InHead VERSION_1) a b
-  kept_head = keeps_fewer (InHead VERSION_1) (OutsideTouched layout places tree numbers) (λ i k. head_out size layout allowed typed none places tree numbers i (omega (arith, k.1))) a b kept_touched
+  kept_head : Keeps (InHead frame) a b
+  kept_head = keeps_fewer (InHead frame) (OutsideTouched layout places tree numbers) (head_out frame size layout allowed typed none here places tree numbers) a b kept_touched
 
-  pub head_b : head_of VERSION_1 b.reads ≡ head_of VERSION_1 a.reads
-  head_b = same_head a.reads b.reads (omega (arith, law.fits, large)) kept_head.reads
+  pub head_b : head_of frame b.reads ≡ head_of frame a.reads
+  head_b =
+      same_range b.reads a.reads frame.base (frame.base + head_size frame) kept_head.reads.size (omega (arith, law_b.fits, here.inside))
+      (λ i low high. kept_head.reads.same i (low, high))
 
-  pub was_b : RecordOf VERSION_1 (head_of VERSION_1 b.reads) held
-  was_b = subst (λ (h : List ℕ). RecordOf VERSION_1 h held) (sym head_b) was
+  pub was_b : RecordOf frame (head_of frame b.reads) held
+  was_b = subst (λ (h : List ℕ). RecordOf frame h held) (sym head_b) was
 
-  pub active_b : HasActiveSlots b.reads numbers
-  active_b = choosing b.reads layout key held places tree numbers (same_config a.reads b.reads kept_head.reads.size head_b (Configured layout key VERSION_1) config_a) was_b chosen
+  -- what a configuration is read of stands in the head of version 1
+  front_kept : Keeps (InHead VERSION_1) a b
+  front_kept = to_first size frame is (λ (f : Frame). Keeps (InHead f) a b) kept_head
+
+  front_b : head_of VERSION_1 b.reads ≡ head_of VERSION_1 a.reads
+  front_b = to_first size frame is (λ (f : Frame). head_of f b.reads ≡ head_of f a.reads) head_b
+
+  pub active_b : HasActiveSlots frame b.reads numbers
+  active_b = choosing frame b.reads layout key held places tree numbers (same_config a.reads b.reads kept_head.reads.size front_b (Configured layout key frame) config_a) was_b chosen
 
   -- the procedure changed no content but those of slots that may be written
   pub contents_made : KeepsContents layout places tree numbers a.reads b.reads
-  contents_made i n slot is not = (moments size layout allowed typed).procedure places tree numbers a.reads b.reads law.fits kept_touched.reads i n slot is not
+  contents_made i n slot at not = laws_here.procedure places tree numbers a.reads b.reads law.fits kept_touched.reads i n slot at not
 
   -- nor did what came behind it
-  pub contents_since : (d : List ℕ) → SameOn BehindHead b.reads d → KeepsContents layout places tree numbers a.reads d
-  contents_since d same i n slot is not =
-      behind size layout allowed typed b.reads d law_b.fits same i n slot is ∙ contents_made i n slot is not
+  pub contents_since : (d : List ℕ) → SameOn (BesideHead frame) b.reads d → KeepsContents layout places tree numbers a.reads d
+  contents_since d same i n slot at not =
+      beside frame size layout is allowed typed b.reads d law_b.fits same i n slot at ∙ contents_made i n slot at not
 
-  pub new_as : (bytes : List ℕ) (sequence : ℕ) (digest : Digest) → new_record held b.reads bytes sequence digest numbers ≡ new_record held a.reads bytes sequence digest numbers
-  new_as bytes sequence digest = same_new held a.reads b.reads bytes sequence digest numbers head_b
+  pub new_as : (bytes : List ℕ) (sequence : ℕ) (digest : Digest) → new_record frame held b.reads bytes sequence digest numbers ≡ new_record frame held a.reads bytes sequence digest numbers
+  new_as bytes sequence digest = same_new frame held a.reads b.reads bytes sequence digest numbers head_b
 
   module _ (settled : Settled a) where
-    pub firm_b : IsFirmOn (InHead VERSION_1) b
-    firm_b = firm_then (InHead VERSION_1) a b size law_b (head_is_firm a settled) kept_head
+    pub firm_b : IsFirmOn (InHead frame) b
+    firm_b = firm_then (InHead frame) a b size law_b (of_first size frame is (λ (f : Frame). IsFirmOn (InHead f) a) (head_is_firm a settled)) kept_head
 
     sound_run : Passes a b Sound
-    sound_run = sound_since laws a b size law large settled kept_head
+    sound_run = sound_since laws a b size law (has_room size frame is) settled front_kept
 
     follows_run : Passes a b (Follows a.reads)
-    follows_run = follows_since laws a b size law large settled kept_head
+    follows_run = follows_since laws a b size law (has_room size frame is) settled front_kept
 
     pub sound_b : Sound b.reads
     sound_b = each_read a b size Sound law_b sound_run
 
     -- ---- behind it
 
-    module _ (bytes : List ℕ) (sequence : ℕ) (digest : Digest) (fits : length bytes ≤ 16384) (d : Flash) (law_d : IsFlash d size) where
+    module _ (bytes : List ℕ) (sequence : ℕ) (digest : Digest) (fits : length bytes ≤ bank_size frame) (d : Flash) (law_d : IsFlash d size) where
       abbrev new : Record
-      new = new_record held a.reads bytes sequence digest numbers
+      new = new_record frame held a.reads bytes sequence digest numbers
 
       abbrev Moment : List ℕ → Type 0
-      Moment image = IsOld layout places tree numbers held a.reads image ⊎ IsNew layout new b.reads image
+      Moment image = IsOld frame layout places tree numbers held a.reads image ⊎ IsNew frame layout new b.reads image
 
-      pub new_is : new_record held b.reads bytes sequence digest numbers ≡ new
-      new_is = same_new held a.reads b.reads bytes sequence digest numbers head_b
+      pub new_is : new_record frame held b.reads bytes sequence digest numbers ≡ new
+      new_is = same_new frame held a.reads b.reads bytes sequence digest numbers head_b
 
-      module _ (since : Passes b d (NowOr (IsInstalling held (new_record held b.reads bytes sequence digest numbers) bytes b) b)) where
+      module _ (since : Passes b d (NowOr (IsInstalling frame held (new_record frame held b.reads bytes sequence digest numbers) bytes b) b)) where
         pub moments_of : Passes a d Moment
         moments_of =
-            finished size layout (moments size layout allowed typed) places tree numbers held a law large was (head_out size layout allowed typed none places tree numbers)
-            (settled_head layout key a settled config_a) (settled_slots layout key a settled config_a (listed size layout allowed typed none))
+            finished frame size is layout laws_here places tree numbers held a law was (head_out frame size layout allowed typed none here places tree numbers)
+            (settled_head frame layout key a settled config_a) (settled_slots frame layout key a settled config_a (listed frame size layout allowed typed none))
             b law_b kept_touched.images laws new bytes few fits sound_b firm_b d
-            (subst (λ (r : Record). Passes b d (NowOr (IsInstalling held r bytes b) b)) new_is since)
+            (subst (λ (r : Record). Passes b d (NowOr (IsInstalling frame held r bytes b) b)) new_is since)
 
         pub moment_at_end : Moment d.reads
         moment_at_end = each_read a d size Moment law_d moments_of
 
         -- where the new record stands at the end, so do the contents that were made
-        pub new_at_end : OneAnswer → (r : Record) → r ≡ new_record held b.reads bytes sequence digest numbers → RecordOf VERSION_1 (head_of VERSION_1 d.reads) (Some r) → IsNew layout new b.reads d.reads
+        pub new_at_end : OneAnswer → (r : Record) → r ≡ new_record frame held b.reads bytes sequence digest numbers → RecordOf frame (head_of frame d.reads) (Some r) → IsNew frame layout new b.reads d.reads
         new_at_end one r same recorded = ⊎_elim
-            (λ old. absurd (not_held one (head_of VERSION_1 d.reads) held new refl old.record_is (subst (λ (n : Record). RecordOf VERSION_1 (head_of VERSION_1 d.reads) (Some n)) (same ∙ new_is) recorded)))
+            (λ old. absurd (not_held one frame (head_of frame d.reads) held new refl old.record_is (subst (λ (n : Record). RecordOf frame (head_of frame d.reads) (Some n)) (same ∙ new_is) recorded)))
             (λ now. now)
             moment_at_end
 
-      pub old_b : IsOld layout places tree numbers held a.reads b.reads
+      pub old_b : IsOld frame layout places tree numbers held a.reads b.reads
       old_b =
-          reads_old size layout (moments size layout allowed typed) places tree numbers held a law large was (head_out size layout allowed typed none places tree numbers)
-          (settled_head layout key a settled config_a) (settled_slots layout key a settled config_a (listed size layout allowed typed none))
+          reads_old frame size is layout laws_here places tree numbers held a law was (head_out frame size layout allowed typed none here places tree numbers)
+          (settled_head frame layout key a settled config_a) (settled_slots frame layout key a settled config_a (listed frame size layout allowed typed none))
           b law_b kept_touched.images laws new bytes few fits sound_b firm_b
 
-      pub old_at_end : d.reads ≡ b.reads → IsOld layout places tree numbers held a.reads d.reads
-      old_at_end same = subst (λ (l : List ℕ). IsOld layout places tree numbers held a.reads l) (sym same) old_b
+      pub old_at_end : d.reads ≡ b.reads → IsOld frame layout places tree numbers held a.reads d.reads
+      old_at_end same = subst (λ (l : List ℕ). IsOld frame layout places tree numbers held a.reads l) (sym same) old_b
 
       -- and the whole time, where nothing was installed
-      pub old_all : Passes b d (Now b) → Passes a d (IsOld layout places tree numbers held a.reads)
+      pub old_all : Passes b d (Now b) → Passes a d (IsOld frame layout places tree numbers held a.reads)
       old_all still =
-          kept_old size layout (moments size layout allowed typed) places tree numbers held a law large was (head_out size layout allowed typed none places tree numbers)
-          (settled_head layout key a settled config_a) (settled_slots layout key a settled config_a (listed size layout allowed typed none))
+          kept_old frame size is layout laws_here places tree numbers held a law was (head_out frame size layout allowed typed none here places tree numbers)
+          (settled_head frame layout key a settled config_a) (settled_slots frame layout key a settled config_a (listed frame size layout allowed typed none))
           b law_b kept_touched.images laws new bytes few fits sound_b firm_b d still
 
-      pub sound_all : (IsFirmOn (InHead VERSION_1) b → Sound b.reads → MayBeInstalled b.reads bytes (new_record held b.reads bytes sequence digest numbers) → Passes b d (NowOr Sound b)) → MayBeInstalled a.reads bytes new → Passes a d Sound
+      pub sound_all : (IsFirmOn (InHead frame) b → Sound b.reads → MayBeInstalled frame b.reads bytes (new_record frame held b.reads bytes sequence digest numbers) → Passes b d (NowOr Sound b)) → MayBeInstalled frame a.reads bytes new → Passes a d Sound
       sound_all to may =
           joined a b d Sound sound_run
           (weakens b d (NowOr Sound b) Sound (λ image is. ⊎_elim (λ now. each_now a b size Sound law_b sound_run image now) (λ s. s) is)
           (to firm_b sound_b (λ l k there. subst (λ (r : Record). IsInstalled l k bytes r) (sym new_is)
-          (may l k (same_config b.reads a.reads (sym kept_head.reads.size) (sym head_b) (Configured l k VERSION_1) there)))))
+          (may l k (same_config b.reads a.reads (sym kept_head.reads.size) (sym front_b) (Configured l k frame) there)))))
 
-      pub follows_all : (IsFirmOn (InHead VERSION_1) b → Sound b.reads → IfSome held (λ r. IsNoEarlier r (new_record held b.reads bytes sequence digest numbers)) → Passes b d (NowOr (Follows b.reads) b))
-          → IfSome held (λ r. IsNoEarlier r (new_record held b.reads bytes sequence digest numbers)) → Passes a d (Follows a.reads)
+      pub follows_all : (IsFirmOn (InHead frame) b → Sound b.reads → IfSome held (λ r. IsNoEarlier r (new_record frame held b.reads bytes sequence digest numbers)) → Passes b d (NowOr (Follows b.reads) b))
+          → IfSome held (λ r. IsNoEarlier r (new_record frame held b.reads bytes sequence digest numbers)) → Passes a d (Follows a.reads)
       follows_all to sure =
           joined a b d (Follows a.reads) follows_run
           (weakens b d (NowOr (Follows b.reads) b) (Follows a.reads)

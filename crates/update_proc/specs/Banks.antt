@@ -2,7 +2,7 @@
 use Rattle.std.specs.Prelude.{◌-◌, if◌then◌else◌, ℕ, Bool, false, List, length, Option, Some, None}
 use Rattle.std.specs.Str.{bytes_eq}
 use Rattle.suit_edge.specs.Ranges.{Outside}
-use Rattle.flash_layout.specs.declared.frame.TheConstants.{VERSION_1}
+use Rattle.flash_layout.specs.declared.frame.Frame.{Frame}
 use Rattle.flash_layout.specs.declared.slot.Record.{Record}
 use Rattle.flash_layout.specs.Frames.{bank_place, head_of}
 use Rattle.rollback_record.specs.SoundFlash.{recorded_bank}
@@ -13,15 +13,17 @@ other_bank None = 0
 other_bank (Some r) = 1 - r.bank
 
 -- in this image the record's bank holds these bytes already, and no more of them are recorded
-abbrev pub is_kept : Option Record → List ℕ → List ℕ → Bool
-is_kept None image bytes = false
-is_kept (Some r) image bytes = bytes_eq (recorded_bank VERSION_1 (head_of VERSION_1 image) r) bytes
+abbrev pub is_kept : Frame → Option Record → List ℕ → List ℕ → Bool
+is_kept frame None image bytes = false
+is_kept frame (Some r) image bytes =
+    bytes_eq (recorded_bank frame (head_of frame image) r) bytes
 
 -- the record's own bank where it holds them already, otherwise the other one
-abbrev pub bank_for : Option Record → List ℕ → List ℕ → ℕ
-bank_for None image bytes = 0
-bank_for (Some r) image bytes = if is_kept (Some r) image bytes then r.bank else 1 - r.bank
+abbrev pub bank_for : Frame → Option Record → List ℕ → List ℕ → ℕ
+bank_for frame None image bytes = 0
+bank_for frame (Some r) image bytes =
+    if is_kept frame (Some r) image bytes then r.bank else 1 - r.bank
 
 -- all places but those of the envelope in the other bank
-abbrev pub BesideBank : Option Record → List ℕ → ℕ → Type 0
-BesideBank held bytes i = Outside (bank_place VERSION_1 (other_bank held)) (length bytes) i
+abbrev pub BesideBank : Frame → Option Record → List ℕ → ℕ → Type 0
+BesideBank frame held bytes i = Outside (bank_place frame (other_bank held)) (length bytes) i

@@ -1,7 +1,7 @@
 -- Laws of the slots that components stand for in an update.
 use Rattle.std.specs.Prelude.{ℕ, List, length, Option}
 use Rattle.suit_commands.specs.Tree.{PlanTree}
-use Rattle.flash_layout.specs.declared.frame.TheConstants.{VERSION_1}
+use Rattle.flash_layout.specs.declared.frame.Frame.{Frame}
 use Rattle.flash_layout.specs.declared.key.Key.{Key}
 use Rattle.flash_layout.specs.declared.layout.Entry.{Entry}
 use Rattle.flash_layout.specs.declared.place.Places.{Places}
@@ -15,6 +15,6 @@ use Rattle.update_proc.specs.Installing.{HasActiveSlots}
 -- chosen slots may be recorded as those in use
 abbrev pub ChoiceLaw : Type 0
 ChoiceLaw =
-    (image : List ℕ) (layout : List Entry) (key : Key) (held : Option Record) (places : Places) (tree : PlanTree) (numbers : List ℕ)
-    → ConfigOf (length image) image (Configured layout key VERSION_1) → RecordOf VERSION_1 (head_of VERSION_1 image) held
-    → AreChosen layout places tree (active_slots held) numbers → HasActiveSlots image numbers
+    (frame : Frame) (image : List ℕ) (layout : List Entry) (key : Key) (held : Option Record) (places : Places) (tree : PlanTree) (numbers : List ℕ)
+    → ConfigOf (length image) image (Configured layout key frame) → RecordOf frame (head_of frame image) held
+    → AreChosen layout places tree (active_slots held) numbers → HasActiveSlots frame image numbers

@@ -2,12 +2,12 @@
 use Rattle.std.specs.Prelude.{◌≡◌, ◌<◌, ◌≤◌, ◌^◌, ◌-◌, ℕ, List, length, slice_index, IfSome, Option}
 use Rattle.suit_edge.specs.Flash.{Flash, ImageOn}
 use Rattle.suit_edge.specs.Ranges.{Outside, SameOn}
-use Rattle.flash_layout.specs.declared.frame.TheConstants.{VERSION_1}
+use Rattle.flash_layout.specs.declared.frame.Frame.{Frame}
 use Rattle.flash_layout.specs.declared.key.Key.{Key}
 use Rattle.flash_layout.specs.declared.layout.Entry.{Entry}
 use Rattle.flash_layout.specs.declared.slot.Record.{Record}
 use Rattle.flash_layout.specs.Configs.{ConfigOf, Configured}
-use Rattle.flash_layout.specs.Frames.{bank_size, config_page_of, head_of, head_size, record_place}
+use Rattle.flash_layout.specs.Frames.{IsFrame, bank_size, config_page_of, head_of, head_size, record_place}
 use Rattle.rollback_record.specs.declared.page.TheConstants.{RECORD_BYTES}
 use Rattle.rollback_record.specs.Committing.{HasHeldOrNew}
 use Rattle.rollback_record.specs.HeadRecord.{IsLoadable}
@@ -16,55 +16,58 @@ use Rattle.rollback_record.specs.SoundFlash.{IsInstalled, recorded_bank}
 use Rattle.update_proc.specs.Banks.{BesideBank}
 
 -- the envelope stands in the bank of the new record, and nothing else changed
-pub record IsFilled (held : Option Record) (new : Record) (bytes before made : List ℕ)
-    : Type 0 where
-  pub beside : SameOn (BesideBank held bytes) before made
-  pub holds : recorded_bank VERSION_1 (head_of VERSION_1 made) new ≡ bytes
+pub record IsFilled (frame : Frame) (held : Option Record) (new : Record)
+    (bytes before made : List ℕ) : Type 0 where
+  pub beside : SameOn (BesideBank frame held bytes) before made
+  pub holds : recorded_bank frame (head_of frame made) new ≡ bytes
 
--- a flash of this size that reads so has the layout, under some key
-abbrev pub HasLayout : ℕ → List ℕ → List Entry → Type 0
-HasLayout size image layout =
-    (key : Key) × ConfigOf size image (Configured layout key VERSION_1)
+-- a flash of this size that reads so has the layout by the frame, under some key
+abbrev pub HasLayout : Frame → ℕ → List ℕ → List Entry → Type 0
+HasLayout frame size image layout =
+    (key : Key) × ConfigOf size image (Configured layout key frame)
 
--- the places of the slots
-abbrev pub BehindHead : ℕ → Type 0
-BehindHead i = head_size VERSION_1 ≤ i
+-- all places but those of the head
+abbrev pub BesideHead : Frame → ℕ → Type 0
+BesideHead frame = Outside frame.base (head_size frame)
 
 -- one record page is being written, and the record is still the held one, or it is the new one
-pub record IsRecording (held : Option Record) (new : Record) (made image : List ℕ) : Type 0 where
+pub record IsRecording (frame : Frame) (held : Option Record) (new : Record)
+    (made image : List ℕ) : Type 0 where
   pub which : ℕ
   pub two : which < 2
-  pub beside : SameOn (Outside (record_place VERSION_1 which) RECORD_BYTES) made image
-  pub record_is : HasHeldOrNew VERSION_1 held new image
+  pub beside : SameOn (Outside (record_place frame which) RECORD_BYTES) made image
+  pub record_is : HasHeldOrNew frame held new image
 
 -- the bank is being written, or it is whole and the new record is being committed
-pub data IsInstalling (held : Option Record) (new : Record) (bytes : List ℕ) (start : Flash)
-    (image : List ℕ) : Type 0 where
-  Filling : ImageOn (BesideBank held bytes) start image → IsInstalling held new bytes start image
-  Recording : (made : List ℕ) → IsFilled held new bytes start.reads made
-      → IsRecording held new made image
-      → IsInstalling held new bytes start image
+pub data IsInstalling (frame : Frame) (held : Option Record) (new : Record) (bytes : List ℕ)
+    (start : Flash) (image : List ℕ) : Type 0 where
+  Filling : ImageOn (BesideBank frame held bytes) start image
+      → IsInstalling frame held new bytes start image
+  Recording : (made : List ℕ) → IsFilled frame held new bytes start.reads made
+      → IsRecording frame held new made image
+      → IsInstalling frame held new bytes start image
 
 -- each component of a layout has the slot that is to be in use
-abbrev pub HasActiveSlots : List ℕ → List ℕ → Type 0
-HasActiveSlots image active =
+abbrev pub HasActiveSlots : Frame → List ℕ → List ℕ → Type 0
+HasActiveSlots frame image active =
     (i : ℕ) → i < 8
-    → IsActiveSlot (config_page_of VERSION_1 (head_of VERSION_1 image)) i (slice_index active i)
+    → IsActiveSlot (config_page_of frame (head_of frame image)) i (slice_index active i)
 
 -- a record after which another one may come
 abbrev pub IsNotWorn : Record → Type 0
 IsNotWorn r = r.generation < 2 ^ 64 - 1
 
 -- a flash of this size may take bytes of that length beside the record
-pub record MayInstall (size : ℕ) (held : Option Record) (bytes : List ℕ) : Type 0 where
-  pub large : head_size VERSION_1 ≤ size
-  pub loadable : IfSome held (IsLoadable VERSION_1)
+pub record MayInstall (frame : Frame) (size : ℕ) (held : Option Record) (bytes : List ℕ)
+    : Type 0 where
+  pub frame_is : IsFrame size frame
+  pub loadable : IfSome held (IsLoadable frame)
   pub worn : IfSome held IsNotWorn
-  pub fits : length bytes ≤ bank_size VERSION_1
+  pub fits : length bytes ≤ bank_size frame
 
 -- under the layout and the key of this image, the bytes may be installed under the record
-abbrev pub MayBeInstalled : List ℕ → List ℕ → Record → Type 0
-MayBeInstalled image bytes new =
+abbrev pub MayBeInstalled : Frame → List ℕ → List ℕ → Record → Type 0
+MayBeInstalled frame image bytes new =
     (layout : List Entry) (key : Key)
-    → ConfigOf (length image) image (Configured layout key VERSION_1)
+    → ConfigOf (length image) image (Configured layout key frame)
     → IsInstalled layout key bytes new

@@ -4,12 +4,12 @@ use Rattle.suit_commands.specs.Tree.{PlanTree}
 use Rattle.suit_edge.specs.Ranges.{SameOn}
 use Rattle.suit_edge.specs.declared.launch.Launch.{Launch}
 use Rattle.path_model.specs.DevicePlays.{played}
-use Rattle.flash_layout.specs.declared.frame.TheConstants.{VERSION_1}
+use Rattle.flash_layout.specs.declared.frame.Frame.{Frame}
 use Rattle.flash_layout.specs.declared.layout.Entry.{Entry}
 use Rattle.flash_layout.specs.declared.place.Places.{Places}
 use Rattle.flash_layout.specs.declared.slot.Record.{Record}
 use Rattle.flash_layout.specs.Layouts.{IsLayout, IsTypedEntry}
-use Rattle.flash_layout.specs.Frames.{bank_size}
+use Rattle.flash_layout.specs.Frames.{IsFrame, bank_size}
 use Rattle.flash_slots.specs.RamContents.{empty_ram}
 use Rattle.step_machine.specs.declared.plan_end.PlanEnd.TheVariants as plays
 use Rattle.step_machine.specs.Devices.{contents_of}
@@ -20,36 +20,36 @@ use Rattle.update_proc.specs.Installing.{IsRecording}
 use Rattle.update_proc.specs.Moments.{HasContentsOf, HasInUse, HasPlayed, IsNew, IsOld, KeepsContents, OutsideTouched}
 use Rattle.update_proc.specs.Updates.{PlaysUpdate, Sources}
 
--- on a flash of that size with that layout
-pub record MomentLaws (size : ℕ) (layout : List Entry) : Type 0 where
+-- on a flash of that size with that frame and layout
+pub record MomentLaws (frame : Frame) (size : ℕ) (layout : List Entry) : Type 0 where
   -- while no place changes but in slots that may be written, all other contents stay
   pub procedure : (places : Places) (tree : PlanTree) (numbers before image : List ℕ)
       → length before ≡ size
       → SameOn (OutsideTouched layout places tree numbers) before image → KeepsContents layout places tree numbers before image
   -- while a bank is written, each content stays
   pub filling : (held : Option Record) (bytes before image : List ℕ) → length before ≡ size
-      → length bytes ≤ bank_size VERSION_1
-      → SameOn (BesideBank held bytes) before image → HasContentsOf layout before image
+      → length bytes ≤ bank_size frame
+      → SameOn (BesideBank frame held bytes) before image → HasContentsOf layout before image
   -- and while the record is committed
   pub recording : (held : Option Record) (new : Record) (made image : List ℕ) → length made ≡ size
-      → IsRecording held new made image → HasContentsOf layout made image
+      → IsRecording frame held new made image → HasContentsOf layout made image
   -- Where each component that may be written has two slots, the old record has the old contents of the slots in use by it,
   pub old :
       (places : Places) (tree : PlanTree) (numbers : List ℕ) (held : Option Record)
       (first image : List ℕ)
       → HaveTwoSlots layout places tree → AreChosen layout places tree (active_slots held) numbers
-      → IsOld layout places tree numbers held first image → HasInUse layout (active_slots held) first image
+      → IsOld frame layout places tree numbers held first image → HasInUse layout (active_slots held) first image
   -- and the new record those that were made:
-  pub new : (r : Record) (made image : List ℕ) → IsNew layout r made image
+  pub new : (r : Record) (made image : List ℕ) → IsNew frame layout r made image
       → HasInUse layout r.active made image
   -- of each component of the procedure, the content that its play to the end leaves there.
   pub played :
       (places : Places) (tree : PlanTree) (held : Option Record)
       (from : Sources)
       (before made image : List ℕ) (launched now : List Launch) (r : Record) → AreChosen layout places tree (active_slots held) r.active
-      → (play : PlaysUpdate layout places tree held from before made launched now plays.Done) → IsNew layout r made image
+      → (play : PlaysUpdate layout places tree held from before made launched now plays.Done) → IsNew frame layout r made image
       → HasPlayed layout places r.active
       (played tree (setting_of play.standings from.payloads from.words play.given) (contents_of play.standings (empty_ram layout) before)).world.contents image
 
 abbrev pub EachMoment : Type 0
-EachMoment = (size : ℕ) (layout : List Entry) → IsLayout VERSION_1 size layout → All IsTypedEntry layout → MomentLaws size layout
+EachMoment = (frame : Frame) (size : ℕ) (layout : List Entry) → IsFrame size frame → IsLayout frame size layout → All IsTypedEntry layout → MomentLaws frame size layout

@@ -1,7 +1,7 @@
 -- The flash at each moment of an update.
 use Rattle.std.specs.Prelude.{◌≡◌, ◌<◌, ℕ, List, [], get_or, slice_index, Option, Some}
 use Rattle.suit_commands.specs.Tree.{PlanTree}
-use Rattle.flash_layout.specs.declared.frame.TheConstants.{VERSION_1}
+use Rattle.flash_layout.specs.declared.frame.Frame.{Frame}
 use Rattle.flash_layout.specs.declared.layout.Entry.{Entry}
 use Rattle.flash_layout.specs.declared.place.Places.{Places}
 use Rattle.flash_layout.specs.declared.slot.Record.{Record}
@@ -32,14 +32,15 @@ HasContentsOf layout made image =
     → slot_content slot image ≡ slot_content slot made
 
 -- the flash has the old record, and no content changed but those that may be written
-pub record IsOld (layout : List Entry) (places : Places) (tree : PlanTree) (numbers : List ℕ)
-    (held : Option Record) (first image : List ℕ) : Type 0 where
-  pub record_is : RecordOf VERSION_1 (head_of VERSION_1 image) held
+pub record IsOld (frame : Frame) (layout : List Entry) (places : Places) (tree : PlanTree)
+    (numbers : List ℕ) (held : Option Record) (first image : List ℕ) : Type 0 where
+  pub record_is : RecordOf frame (head_of frame image) held
   pub contents : KeepsContents layout places tree numbers first image
 
 -- it has the new record, and the contents that were made
-pub record IsNew (layout : List Entry) (new : Record) (made image : List ℕ) : Type 0 where
-  pub record_is : RecordOf VERSION_1 (head_of VERSION_1 image) (Some new)
+pub record IsNew (frame : Frame) (layout : List Entry) (new : Record) (made image : List ℕ)
+    : Type 0 where
+  pub record_is : RecordOf frame (head_of frame image) (Some new)
   pub contents : HasContentsOf layout made image
 
 -- each component of the procedure that stands on the flash has this content in its slot in use

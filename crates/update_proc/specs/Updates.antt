@@ -7,7 +7,7 @@ use Rattle.suit_envelope.specs.Payloads.{HasPayloads}
 use Rattle.flash_layout.specs.declared.layout.Entry.{Entry}
 use Rattle.flash_layout.specs.declared.place.Places.{Places}
 use Rattle.flash_layout.specs.declared.slot.Record.{Record}
-use Rattle.flash_layout.specs.declared.frame.TheConstants.{VERSION_1}
+use Rattle.flash_layout.specs.declared.frame.Frame.{Frame}
 use Rattle.flash_layout.specs.Frames.{head_of}
 use Rattle.rollback_record.specs.HeadRecord.{RecordOf}
 use Rattle.rollback_record.specs.Judging.{IsAcceptable}
@@ -88,12 +88,12 @@ PlayedSo Plays Same layout after launched now ends.FlashFault =
 PlayedSo Plays Same layout after launched now _ = now ≡ launched
 
 -- Whatever was answered, nothing was launched, or the procedure was played beside the record that this image has.
-abbrev pub LaunchesBy : (Option Record → List ℕ → PlanEnd → Type 0) → List ℕ → List Launch
-    → List Launch → Type 0
-LaunchesBy Plays image launched now =
+abbrev pub LaunchesBy : Frame → (Option Record → List ℕ → PlanEnd → Type 0) → List ℕ
+    → List Launch → List Launch → Type 0
+LaunchesBy frame Plays image launched now =
     (now ≡ launched)
     ⊎
-    ((held : Option Record) × RecordOf VERSION_1 (head_of VERSION_1 image) held
+    ((held : Option Record) × RecordOf frame (head_of frame image) held
     × (made : List ℕ) × (end : PlanEnd) × Plays held made end)
 
 -- The procedure of an envelope of these bytes is played to its end over a host that has these files, with these launches, and
@@ -118,7 +118,7 @@ LeftSo Is Old New _ = Old
 
 -- As the flash reads in the end: no content changed but those of slots that may be written, and this is recorded. A new
 -- record is acceptable beside the old one.
-pub record LeavesUpdate (layout : List Entry) (places : Places) (tree : PlanTree)
+pub record LeavesUpdate (frame : Frame) (layout : List Entry) (places : Places) (tree : PlanTree)
     (held : Option Record) (new : List ℕ → Record) (before after : List ℕ) (answer : UpdateEnd)
     : Type 0 where
   pub numbers : List ℕ
@@ -126,8 +126,8 @@ pub record LeavesUpdate (layout : List Entry) (places : Places) (tree : PlanTree
   pub accepted : IsAcceptable (new numbers).sequence (new numbers).digest held
   pub contents : KeepsContents layout places tree numbers before after
   pub left :
-      LeftSo (λ r. r ≡ new numbers) (RecordOf VERSION_1 (head_of VERSION_1 after) held)
-      (RecordOf VERSION_1 (head_of VERSION_1 after) (Some (new numbers))) answer
+      LeftSo (λ r. r ≡ new numbers) (RecordOf frame (head_of frame after) held)
+      (RecordOf frame (head_of frame after) (Some (new numbers))) answer
 
 -- Only a procedure that is done leaves the old record: it is done where it was installed, and where it stopped the old
 -- record stays. After a fault of the flash it is one of the two.
@@ -139,7 +139,7 @@ WholeSo Stays Done _ = Stays
 -- At each moment the flash has the old record, and no content changed but those of slots that may be written; or it has
 -- the new record, and the contents that the procedure made, which is done. Where it is not done, the old record stands at
 -- each moment.
-pub record KeepsUpdate (layout : List Entry) (places : Places) (tree : PlanTree)
+pub record KeepsUpdate (frame : Frame) (layout : List Entry) (places : Places) (tree : PlanTree)
     (Done : List ℕ → Type 0) (held : Option Record)
     (new : List ℕ → Record) (old now : Flash) (answer : UpdateEnd) : Type 0 where
   pub numbers : List ℕ
@@ -149,13 +149,15 @@ pub record KeepsUpdate (layout : List Entry) (places : Places) (tree : PlanTree)
   pub others : KeepsContents layout places tree numbers old.reads made
   pub any_moment :
       Passes old now
-      (λ image. IsOld layout places tree numbers held old.reads image
-      ⊎ IsNew layout (new numbers) made image)
+      (λ image. IsOld frame layout places tree numbers held old.reads image
+      ⊎ IsNew frame layout (new numbers) made image)
   pub whole :
-      WholeSo (Passes old now (IsOld layout places tree numbers held old.reads)) (Done made) answer
+      WholeSo (Passes old now (IsOld frame layout places tree numbers held old.reads)) (Done made)
+      answer
   pub left :
-      LeftSo (λ r. r ≡ new numbers) (IsOld layout places tree numbers held old.reads now.reads)
-      (IsNew layout (new numbers) made now.reads) answer
+      LeftSo (λ r. r ≡ new numbers)
+      (IsOld frame layout places tree numbers held old.reads now.reads)
+      (IsNew frame layout (new numbers) made now.reads) answer
 
 -- where the procedure was run, that was kept, and otherwise nothing changed
 abbrev pub KeptSo : Type 0 → Type 0 → UpdateEnd → Type 0

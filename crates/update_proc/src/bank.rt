@@ -1,6 +1,5 @@
 //! Writing the envelope to a bank.
 
-ghost use Rattle.flash_layout.specs.declared.frame.TheConstants.{VERSION_1};
 ghost use Rattle.flash_layout.specs.FaultCounts.{ResultCounts};
 ghost use Rattle.flash_layout.specs.Frames.{IsFrame, bank_of, bank_place, bank_size, head_of};
 ghost use Rattle.rollback_record.specs.HeadRecord.{IsLoadable};
@@ -17,15 +16,15 @@ use suit_edge::{Disk, Edge, write_and_sync};
 fn fill_bank<D: Disk>(disk: &mut D, frame: Frame, which: u8, bytes: &[u8]) -> Result<(), FlashFault>
     requires frame { IsFrame (D.extent disk.old) frame }
     requires which { which < 2 }
-    requires fits { length bytes.now ≤ bank_size VERSION_1 }
+    requires fits { length bytes.now ≤ bank_size frame }
     ensures size { D.extent disk.new ≡ D.extent disk.old }
     ensures counts { ResultCounts result (D.faults disk.old) (D.faults disk.new) }
     ensures holds { IsTrue D.told → OnOk result
-        (bank_of VERSION_1 (head_of VERSION_1 (D.flash disk.new).reads) which (length bytes.now)
+        (bank_of frame (head_of frame (D.flash disk.new).reads) which (length bytes.now)
         ≡ bytes.now) }
     ensures settled { IsTrue D.told → OnOk result (IsSettled (D.flash disk.new)) }
     ensures keeps { IsTrue D.told
-        → Keeps (Outside (bank_place VERSION_1 which) (length bytes.now)) (D.flash disk.old)
+        → Keeps (Outside (bank_place frame which) (length bytes.now)) (D.flash disk.old)
         (D.flash disk.new) }
     ensures grows { IsTrue D.told → Grows (D.flash disk.old) (D.flash disk.new) }
 {
@@ -61,24 +60,25 @@ pub fn write_bank<D: Disk>(
     room: &mut [u8],
 ) -> Result<u8, FlashFault>
     requires frame { IsFrame (D.extent disk.old) frame }
-    requires held { IfSome (option_map (λ r. r.now) held) (IsLoadable VERSION_1) }
-    requires fits { length bytes.now ≤ bank_size VERSION_1 }
+    requires held { IfSome (option_map (λ r. r.now) held) (IsLoadable frame) }
+    requires fits { length bytes.now ≤ bank_size frame }
     requires room { 0 < length room.old }
     ensures size { D.extent disk.new ≡ D.extent disk.old }
     ensures counts { ResultCounts result (D.faults disk.old) (D.faults disk.new) }
     ensures which { IfOk result (λ bank. bank < 2) }
     ensures chosen { IsTrue D.told → IfOk result
-        (λ bank. bank ≡ bank_for (option_map (λ r. r.now) held.entry) (D.flash disk.old).reads
-        bytes.now) }
+        (λ bank. bank ≡ bank_for frame (option_map (λ r. r.now) held.entry)
+        (D.flash disk.old).reads bytes.now) }
     ensures holds { IsTrue D.told → IfOk result (λ bank.
-        bank_of VERSION_1 (head_of VERSION_1 (D.flash disk.new).reads) bank (length bytes.now)
+        bank_of frame (head_of frame (D.flash disk.new).reads) bank (length bytes.now)
         ≡ bytes.now) }
     ensures settled { IsTrue D.told → OnOk result (IsSettled (D.flash disk.new)) }
     ensures kept { IsTrue D.told
-        → IsTrue (is_kept (option_map (λ r. r.now) held.entry) (D.flash disk.old).reads bytes.now)
+        → IsTrue (is_kept frame (option_map (λ r. r.now) held.entry) (D.flash disk.old).reads
+        bytes.now)
         → IsSame (D.flash disk.old) (D.flash disk.new) }
     ensures keeps { IsTrue D.told
-        → Keeps (BesideBank (option_map (λ r. r.now) held.entry) bytes.now) (D.flash disk.old)
+        → Keeps (BesideBank frame (option_map (λ r. r.now) held.entry) bytes.now) (D.flash disk.old)
         (D.flash disk.new) }
     ensures grows { IsTrue D.told → Grows (D.flash disk.old) (D.flash disk.new) }
 {
@@ -100,23 +100,24 @@ fn write_beside<D: Disk>(
     room: &mut [u8],
 ) -> Result<u8, FlashFault>
     requires frame { IsFrame (D.extent disk.old) frame }
-    requires held { IsLoadable VERSION_1 held.now }
-    requires fits { length bytes.now ≤ bank_size VERSION_1 }
+    requires held { IsLoadable frame held.now }
+    requires fits { length bytes.now ≤ bank_size frame }
     requires room { 0 < length room.old }
     ensures size { D.extent disk.new ≡ D.extent disk.old }
     ensures counts { ResultCounts result (D.faults disk.old) (D.faults disk.new) }
     ensures which { IfOk result (λ bank. bank < 2) }
     ensures chosen { IsTrue D.told
-        → IfOk result (λ bank. bank ≡ bank_for (Some held.now) (D.flash disk.old).reads bytes.now) }
+        → IfOk result (λ bank. bank ≡ bank_for frame (Some held.now) (D.flash disk.old).reads
+        bytes.now) }
     ensures holds { IsTrue D.told → IfOk result (λ bank.
-        bank_of VERSION_1 (head_of VERSION_1 (D.flash disk.new).reads) bank (length bytes.now)
+        bank_of frame (head_of frame (D.flash disk.new).reads) bank (length bytes.now)
         ≡ bytes.now) }
     ensures settled { IsTrue D.told → OnOk result (IsSettled (D.flash disk.new)) }
     ensures kept { IsTrue D.told
-        → IsTrue (is_kept (Some held.now) (D.flash disk.old).reads bytes.now)
+        → IsTrue (is_kept frame (Some held.now) (D.flash disk.old).reads bytes.now)
         → IsSame (D.flash disk.old) (D.flash disk.new) }
     ensures keeps { IsTrue D.told
-        → Keeps (BesideBank (Some held.now) bytes.now) (D.flash disk.old) (D.flash disk.new) }
+        → Keeps (BesideBank frame (Some held.now) bytes.now) (D.flash disk.old) (D.flash disk.new) }
     ensures grows { IsTrue D.told → Grows (D.flash disk.old) (D.flash disk.new) }
 {
     let recorded = is_recorded(disk, frame, held, bytes, room)?;

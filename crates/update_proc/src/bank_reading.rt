@@ -1,6 +1,5 @@
 //! Whether a bank holds an envelope already.
 
-ghost use Rattle.flash_layout.specs.declared.frame.TheConstants.{VERSION_1};
 ghost use Rattle.flash_layout.specs.FaultCounts.{ResultCounts};
 ghost use Rattle.flash_layout.specs.Frames.{IsFrame, head_of};
 ghost use Rattle.rollback_record.specs.HeadRecord.{IsLoadable};
@@ -69,11 +68,11 @@ pub(crate) fn is_recorded<D: Disk>(
     room: &mut [u8],
 ) -> Result<bool, FlashFault>
     requires room { 0 < length room.old }
-    requires held { IsLoadable VERSION_1 held.now }
+    requires held { IsLoadable frame held.now }
     requires frame { IsFrame (D.extent disk.old) frame }
     ensures read { ⟦<D as Steps>⟧.only_reads (ResultCounts result) disk.old disk.new }
     ensures exact { IsTrue D.told → IfOk result (λ same. IsTrue same ↔
-        (recorded_bank VERSION_1 (head_of VERSION_1 (D.flash disk.old).reads) held.now
+        (recorded_bank frame (head_of frame (D.flash disk.old).reads) held.now
         ≡ bytes.now)) }
 {
     if held.length != bytes.len() as u64 {

@@ -1,6 +1,5 @@
 //! The end of a procedure: the envelope is installed where it is done, and otherwise all pending writes are synced.
 
-ghost use Rattle.flash_layout.specs.declared.frame.TheConstants.{VERSION_1};
 ghost use Rattle.flash_layout.specs.Frames.{IsFrame, head_of};
 ghost use Rattle.rollback_record.specs.Committing.{HasHeldOrNew, HasSpare, InHead};
 ghost use Rattle.rollback_record.specs.HeadRecord.{RecordOf};
@@ -9,7 +8,7 @@ ghost use Rattle.std.specs.Prelude.{◌≡◌, ◌<◌, IfSome, IsTrue, Some, op
 ghost use Rattle.suit_edge.specs.Ranges.{SameOn};
 ghost use Rattle.suit_edge.specs.Flash.{Grows, IsFirmOn, IsSettled, Now, Passes};
 ghost use Rattle.update_proc.specs.Ends.{FinishedSo, IfInstalled, IfStopped, IfTold, IfUnfaulted, NowOr, SettledSo, StoppedSo};
-ghost use Rattle.update_proc.specs.Installing.{BehindHead, HasActiveSlots, IsInstalling, MayBeInstalled, MayInstall};
+ghost use Rattle.update_proc.specs.Installing.{BesideHead, HasActiveSlots, IsInstalling, MayBeInstalled, MayInstall};
 ghost use Rattle.update_proc.specs.Records.{new_record};
 
 use crate::{Offer, UpdateEnd, install};
@@ -53,52 +52,55 @@ pub(crate) fn finish<D: Disk>(
     bytes: &[u8],
 ) -> UpdateEnd
     requires frame { IsFrame (D.extent disk.old) frame }
-    requires ready { MayInstall (D.extent disk.old) (option_map (λ r. r.now) held)
+    requires ready { MayInstall frame (D.extent disk.old) (option_map (λ r. r.now) held)
         bytes.now }
     requires held { IsTrue D.told
-        → RecordOf VERSION_1 (head_of VERSION_1 (D.flash disk.old).reads)
+        → RecordOf frame (head_of frame (D.flash disk.old).reads)
         (option_map (λ r. r.now) held) }
     requires two { spare.which < 2 }
     requires spare { IsTrue D.told
-        → HasSpare VERSION_1 (head_of VERSION_1 (D.flash disk.old).reads)
+        → HasSpare frame (head_of frame (D.flash disk.old).reads)
         (option_map (λ r. r.now) held) spare }
-    requires active { IsTrue D.told → HasActiveSlots (D.flash disk.old).reads offer.now.active }
+    requires active { IsTrue D.told
+        → HasActiveSlots frame (D.flash disk.old).reads offer.now.active }
     ensures behind { IsTrue D.told
-        → SameOn BehindHead (D.flash disk.old).reads (D.flash disk.new).reads }
+        → SameOn (BesideHead frame) (D.flash disk.old).reads (D.flash disk.new).reads }
     ensures size { D.extent disk.new ≡ D.extent disk.old }
     ensures answer { FinishedSo end result (D.faults disk.old) (D.faults disk.new) }
     ensures recorded { IsTrue D.told
         → IfInstalled result
-        (λ r. RecordOf VERSION_1 (head_of VERSION_1 (D.flash disk.new).reads) (Some r)) }
+        (λ r. RecordOf frame (head_of frame (D.flash disk.new).reads) (Some r)) }
     ensures stays { IsTrue D.told
         → IfTold result ((D.flash disk.new).reads ≡ (D.flash disk.old).reads) }
     ensures new { IsTrue D.told → IfInstalled result
-        (λ r. r ≡ new_record (option_map (λ r. r.now) held.entry) (D.flash disk.old).reads bytes.now
-        offer.now.sequence offer.now.digest offer.now.active) }
+        (λ r. r ≡ new_record frame (option_map (λ r. r.now) held.entry) (D.flash disk.old).reads
+        bytes.now offer.now.sequence offer.now.digest offer.now.active) }
     ensures still { IsTrue D.told
         → IfStopped end (Passes (D.flash disk.old) (D.flash disk.new) (Now (D.flash disk.old))) }
     ensures reads { IsTrue D.told
-        → let held = option_map (λ r. r.now) held.entry in HasHeldOrNew VERSION_1 held
-        (new_record held (D.flash disk.old).reads bytes.now offer.now.sequence offer.now.digest
-        offer.now.active) (D.flash disk.new).reads }
+        → let held = option_map (λ r. r.now) held.entry in HasHeldOrNew frame held
+        (new_record frame held (D.flash disk.old).reads bytes.now offer.now.sequence
+        offer.now.digest offer.now.active) (D.flash disk.new).reads }
     ensures settled { IsTrue D.told → IfUnfaulted result (IsSettled (D.flash disk.new)) }
     ensures any_moment { IsTrue D.told → let held = option_map (λ r. r.now) held.entry in
         let start = D.flash disk.old in
         Passes start (D.flash disk.new) (NowOr
-        (IsInstalling held
-        (new_record held start.reads bytes.now offer.now.sequence offer.now.digest offer.now.active)
+        (IsInstalling frame held
+        (new_record frame held start.reads bytes.now offer.now.sequence offer.now.digest
+        offer.now.active)
         bytes.now start) start) }
     ensures sound { IsTrue D.told → let held = option_map (λ r. r.now) held.entry in
         let start = D.flash disk.old in
-        IsFirmOn (InHead VERSION_1) start → Sound start.reads
-        → MayBeInstalled start.reads bytes.now
-        (new_record held start.reads bytes.now offer.now.sequence offer.now.digest offer.now.active)
+        IsFirmOn (InHead frame) start → Sound start.reads
+        → MayBeInstalled frame start.reads bytes.now
+        (new_record frame held start.reads bytes.now offer.now.sequence offer.now.digest
+        offer.now.active)
         → Passes start (D.flash disk.new) (NowOr Sound start) }
     ensures follows { IsTrue D.told → let held = option_map (λ r. r.now) held.entry in
         let start = D.flash disk.old in
-        IsFirmOn (InHead VERSION_1) start → Sound start.reads
-        → IfSome held (λ r. IsNoEarlier r (new_record held start.reads bytes.now offer.now.sequence
-        offer.now.digest offer.now.active))
+        IsFirmOn (InHead frame) start → Sound start.reads
+        → IfSome held (λ r. IsNoEarlier r (new_record frame held start.reads bytes.now
+        offer.now.sequence offer.now.digest offer.now.active))
         → Passes start (D.flash disk.new) (NowOr (Follows start.reads) start) }
     ensures grows { IsTrue D.told → Grows (D.flash disk.old) (D.flash disk.new) }
 {

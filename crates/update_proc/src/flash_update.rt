@@ -72,7 +72,8 @@ pub fn update<H: Host, D: Disk, L: Launcher>(
         → (key : Key) × ConfigOf (D.extent disk.old) (D.flash disk.old).reads
         (Configured layout.now key frame) }
     ensures size { D.extent disk.new ≡ D.extent disk.old }
-    ensures judged { IsTrue D.told → ForOffer (D.flash disk.old).reads envelope.now.wrapper.now
+    ensures judged { IsTrue D.told
+        → ForOffer frame (D.flash disk.old).reads envelope.now.wrapper.now
         (λ held digest. JudgedSo manifest.now.sequence digest held result) }
     ensures counts { UpdateCounts result
         (counts_of (H.faults host.old) (D.faults disk.old) (L.faults launcher.old))
@@ -86,7 +87,7 @@ pub fn update<H: Host, D: Disk, L: Launcher>(
         → host.new ≡ host.old }
     ensures unbegun { IsUnbegun result → host.new ≡ host.old }
     ensures plays { IsTrue D.told → IsTrue L.told
-        → ForOffer (D.flash disk.old).reads envelope.now.wrapper.now (λ held digest.
+        → ForOffer frame (D.flash disk.old).reads envelope.now.wrapper.now (λ held digest.
         (payloads : List (List ℕ × List ℕ)) → HasPayloads envelope.now.whole.now payloads
         → PlayedSo (λ made end. PlaysUpdate layout.now places.now
         (update_tree manifest.now members.now) held
@@ -97,7 +98,7 @@ pub fn update<H: Host, D: Disk, L: Launcher>(
         (D.flash disk.new).reads (L.launches launcher.old) (L.launches launcher.new) result) }
     ensures launches { IsTrue D.told → IsTrue L.told
         → (payloads : List (List ℕ × List ℕ)) → HasPayloads envelope.now.whole.now payloads
-        → LaunchesBy (λ held made end. PlaysUpdate layout.now places.now
+        → LaunchesBy frame (λ held made end. PlaysUpdate layout.now places.now
         (update_tree manifest.now members.now) held
         (sources payloads uris.now
         (hosted H.told (H.file host.old) (H.asked host.old) (H.asked host.new)))
@@ -106,28 +107,28 @@ pub fn update<H: Host, D: Disk, L: Launcher>(
     ensures keeps { IsTrue D.told → Settled (D.flash disk.old)
         → let start = D.flash disk.old in
         let bytes = trimmed envelope.now.wrapper.now envelope.now.manifest.now in
-        ForOffer start.reads envelope.now.wrapper.now (λ held digest.
-        KeptSo (KeepsUpdate layout.now places.now (update_tree manifest.now members.now)
+        ForOffer frame start.reads envelope.now.wrapper.now (λ held digest.
+        KeptSo (KeepsUpdate frame layout.now places.now (update_tree manifest.now members.now)
         (λ made. IsTrue H.told → IsTrue L.told
         → PlaysToEnd layout.now places.now (update_tree manifest.now members.now) held
         envelope.now.whole.now uris.now (H.file host.old) start.reads
         (L.launches launcher.old) (L.launches launcher.new) made) held
-        (λ numbers. new_record held start.reads bytes manifest.now.sequence digest numbers)
+        (λ numbers. new_record frame held start.reads bytes manifest.now.sequence digest numbers)
         start (D.flash disk.new) result) (IsSame start (D.flash disk.new)) result) }
     ensures left { IsTrue D.told → let start = (D.flash disk.old).reads in
         let bytes = trimmed envelope.now.wrapper.now envelope.now.manifest.now in
-        ForOffer start envelope.now.wrapper.now (λ held digest.
-        KeptSo (LeavesUpdate layout.now places.now (update_tree manifest.now members.now) held
-        (λ numbers. new_record held start bytes manifest.now.sequence digest numbers)
+        ForOffer frame start envelope.now.wrapper.now (λ held digest.
+        KeptSo (LeavesUpdate frame layout.now places.now (update_tree manifest.now members.now) held
+        (λ numbers. new_record frame held start bytes manifest.now.sequence digest numbers)
         start (D.flash disk.new).reads result) ((D.flash disk.new).reads ≡ start) result) }
     ensures sound { IsTrue D.told → Settled (D.flash disk.old)
         → let start = D.flash disk.old in
         let bytes = trimmed envelope.now.wrapper.now envelope.now.manifest.now in
-        ForOffer start.reads envelope.now.wrapper.now (λ held digest.
+        ForOffer frame start.reads envelope.now.wrapper.now (λ held digest.
         ((numbers : List ℕ) → AreChosen layout.now places.now (update_tree manifest.now members.now)
         (active_slots held) numbers
-        → MayBeInstalled start.reads bytes
-        (new_record held start.reads bytes manifest.now.sequence digest numbers))
+        → MayBeInstalled frame start.reads bytes
+        (new_record frame held start.reads bytes manifest.now.sequence digest numbers))
         → Passes start (D.flash disk.new) Sound) }
     ensures follows { IsTrue D.told → Settled (D.flash disk.old)
         → Passes (D.flash disk.old) (D.flash disk.new)

@@ -1,6 +1,5 @@
 //! Writing an envelope to a bank, and recording it.
 
-ghost use Rattle.flash_layout.specs.declared.frame.TheConstants.{VERSION_1};
 ghost use Rattle.flash_layout.specs.FaultCounts.{ResultCounts};
 ghost use Rattle.flash_layout.specs.Frames.{IsFrame, bank_size, head_of};
 ghost use Rattle.rollback_record.specs.Committing.{HasHeldOrNew, HasSpare, InHead};
@@ -9,7 +8,7 @@ ghost use Rattle.rollback_record.specs.SoundFlash.{Follows, IsNoEarlier, Sound};
 ghost use Rattle.std.specs.Prelude.{◌≡◌, ◌<◌, ◌≤◌, IfOk, IfSome, IsTrue, OnOk, Some, length, option_map};
 ghost use Rattle.suit_edge.specs.Ranges.{SameOn};
 ghost use Rattle.suit_edge.specs.Flash.{Grows, IsFirmOn, IsSettled, Passes};
-ghost use Rattle.update_proc.specs.Installing.{BehindHead, HasActiveSlots, IsInstalling, IsNotWorn, MayBeInstalled};
+ghost use Rattle.update_proc.specs.Installing.{BesideHead, HasActiveSlots, IsInstalling, IsNotWorn, MayBeInstalled};
 ghost use Rattle.update_proc.specs.Records.{new_record, next_generation};
 
 use crate::Offer;
@@ -42,50 +41,53 @@ pub fn install<D: Disk>(
     room: &mut [u8],
 ) -> Result<Record, FlashFault>
     requires frame { IsFrame (D.extent disk.old) frame }
-    requires loadable { IfSome (option_map (λ r. r.now) held) (IsLoadable VERSION_1) }
+    requires loadable { IfSome (option_map (λ r. r.now) held) (IsLoadable frame) }
     requires worn { IfSome (option_map (λ r. r.now) held) IsNotWorn }
-    requires fits { length bytes.now ≤ bank_size VERSION_1 }
+    requires fits { length bytes.now ≤ bank_size frame }
     requires room { 0 < length room.old }
     requires held { IsTrue D.told
-        → RecordOf VERSION_1 (head_of VERSION_1 (D.flash disk.old).reads)
+        → RecordOf frame (head_of frame (D.flash disk.old).reads)
         (option_map (λ r. r.now) held) }
     requires two { spare.which < 2 }
     requires spare { IsTrue D.told
-        → HasSpare VERSION_1 (head_of VERSION_1 (D.flash disk.old).reads)
+        → HasSpare frame (head_of frame (D.flash disk.old).reads)
         (option_map (λ r. r.now) held) spare }
-    requires active { IsTrue D.told → HasActiveSlots (D.flash disk.old).reads offer.now.active }
+    requires active { IsTrue D.told
+        → HasActiveSlots frame (D.flash disk.old).reads offer.now.active }
     ensures size { D.extent disk.new ≡ D.extent disk.old }
     ensures counts { ResultCounts result (D.faults disk.old) (D.faults disk.new) }
     ensures answer { IsTrue D.told → IfOk result
-        (λ r. r ≡ new_record (option_map (λ r. r.now) held.entry) (D.flash disk.old).reads bytes.now
-        offer.now.sequence offer.now.digest offer.now.active) }
+        (λ r. r ≡ new_record frame (option_map (λ r. r.now) held.entry) (D.flash disk.old).reads
+        bytes.now offer.now.sequence offer.now.digest offer.now.active) }
     ensures recorded { IsTrue D.told
         → IfOk result
-        (λ r. RecordOf VERSION_1 (head_of VERSION_1 (D.flash disk.new).reads) (Some r)) }
+        (λ r. RecordOf frame (head_of frame (D.flash disk.new).reads) (Some r)) }
     ensures settled { IsTrue D.told → OnOk result (IsSettled (D.flash disk.new)) }
     ensures reads { IsTrue D.told
-        → let held = option_map (λ r. r.now) held.entry in HasHeldOrNew VERSION_1 held
-        (new_record held (D.flash disk.old).reads bytes.now offer.now.sequence offer.now.digest
-        offer.now.active) (D.flash disk.new).reads }
+        → let held = option_map (λ r. r.now) held.entry in HasHeldOrNew frame held
+        (new_record frame held (D.flash disk.old).reads bytes.now offer.now.sequence
+        offer.now.digest offer.now.active) (D.flash disk.new).reads }
     ensures behind { IsTrue D.told
-        → SameOn BehindHead (D.flash disk.old).reads (D.flash disk.new).reads }
+        → SameOn (BesideHead frame) (D.flash disk.old).reads (D.flash disk.new).reads }
     ensures any_moment { IsTrue D.told → let held = option_map (λ r. r.now) held.entry in
         let start = D.flash disk.old in
         Passes start (D.flash disk.new)
-        (IsInstalling held
-        (new_record held start.reads bytes.now offer.now.sequence offer.now.digest offer.now.active)
+        (IsInstalling frame held
+        (new_record frame held start.reads bytes.now offer.now.sequence offer.now.digest
+        offer.now.active)
         bytes.now start) }
     ensures sound { IsTrue D.told → let held = option_map (λ r. r.now) held.entry in
         let start = D.flash disk.old in
-        IsFirmOn (InHead VERSION_1) start → Sound start.reads
-        → MayBeInstalled start.reads bytes.now
-        (new_record held start.reads bytes.now offer.now.sequence offer.now.digest offer.now.active)
+        IsFirmOn (InHead frame) start → Sound start.reads
+        → MayBeInstalled frame start.reads bytes.now
+        (new_record frame held start.reads bytes.now offer.now.sequence offer.now.digest
+        offer.now.active)
         → Passes start (D.flash disk.new) Sound }
     ensures follows { IsTrue D.told → let held = option_map (λ r. r.now) held.entry in
         let start = D.flash disk.old in
-        IsFirmOn (InHead VERSION_1) start → Sound start.reads
-        → IfSome held (λ r. IsNoEarlier r (new_record held start.reads bytes.now offer.now.sequence
-        offer.now.digest offer.now.active))
+        IsFirmOn (InHead frame) start → Sound start.reads
+        → IfSome held (λ r. IsNoEarlier r (new_record frame held start.reads bytes.now
+        offer.now.sequence offer.now.digest offer.now.active))
         → Passes start (D.flash disk.new) (Follows start.reads) }
     ensures grows { IsTrue D.told → Grows (D.flash disk.old) (D.flash disk.new) }
 {

@@ -1,6 +1,5 @@
 //! Running the update procedure, and installing its envelope.
 
-ghost use Rattle.flash_layout.specs.declared.frame.TheConstants.{VERSION_1};
 ghost use Rattle.flash_layout.specs.Frames.{IsFrame, bank_size, head_of};
 ghost use Rattle.flash_layout.specs.Layouts.{IsLayout};
 ghost use Rattle.rollback_record.specs.Committing.{HasSpare};
@@ -70,9 +69,9 @@ pub(crate) fn start<H: Host, D: Disk, L: Launcher>(
     accepted: &Accepted<'_>,
 ) -> UpdateEnd
     requires frame { IsFrame (D.extent disk.old) accepted.now.frame }
-    requires layout { IsLayout VERSION_1 (D.extent disk.old) layout.now }
+    requires layout { IsLayout accepted.now.frame (D.extent disk.old) layout.now }
     requires config { IsTrue D.told
-        → HasLayout (D.extent disk.old) (D.flash disk.old).reads layout.now }
+        → HasLayout accepted.now.frame (D.extent disk.old) (D.flash disk.old).reads layout.now }
     requires distinct { AreDistinct layout.now places.now }
     requires plan { IsPlan (plan_tree accepted.now.plan.now) }
     requires ends { PartsEndBelow (2 ^ 64) (said_by accepted.now.envelope.now) }
@@ -82,17 +81,18 @@ pub(crate) fn start<H: Host, D: Disk, L: Launcher>(
         × HasMembers (said_by accepted.now.envelope.now) manifest members
         × (plan_tree accepted.now.plan.now ≡ update_tree manifest members) }
     requires count { accepted.now.plan.now.count ≡ places.now.count }
-    requires loadable { IfSome (option_map (λ r. r.now) accepted.now.held) (IsLoadable VERSION_1) }
+    requires loadable { IfSome (option_map (λ r. r.now) accepted.now.held)
+        (IsLoadable accepted.now.frame) }
     requires held { IsTrue D.told
-        → RecordOf VERSION_1 (head_of VERSION_1 (D.flash disk.old).reads)
+        → RecordOf accepted.now.frame (head_of accepted.now.frame (D.flash disk.old).reads)
         (option_map (λ r. r.now) accepted.now.held) }
     requires two { accepted.now.spare.which < 2 }
     requires spare { IsTrue D.told
-        → HasSpare VERSION_1 (head_of VERSION_1 (D.flash disk.old).reads)
+        → HasSpare accepted.now.frame (head_of accepted.now.frame (D.flash disk.old).reads)
         (option_map (λ r. r.now) accepted.now.held) accepted.now.spare }
     requires judged { IsAcceptable accepted.now.sequence accepted.now.digest
         (option_map (λ r. r.now) accepted.now.held) }
-    requires fits { length accepted.now.bytes.now ≤ bank_size VERSION_1 }
+    requires fits { length accepted.now.bytes.now ≤ bank_size accepted.now.frame }
     ensures size { D.extent disk.new ≡ D.extent disk.old }
     ensures later { IsTrue D.told → (D.flash disk.old).clock ≤ (D.flash disk.new).clock }
     ensures starts { IsStartEnd result }
@@ -122,28 +122,31 @@ pub(crate) fn start<H: Host, D: Disk, L: Launcher>(
     ensures keeps { IsTrue D.told → Settled (D.flash disk.old)
         → let held = option_map (λ r. r.now) accepted.now.held in
         let start = D.flash disk.old in
-        KeptSo (KeepsUpdate layout.now places.now (plan_tree accepted.now.plan.now)
+        let frame = accepted.now.frame in
+        KeptSo (KeepsUpdate frame layout.now places.now (plan_tree accepted.now.plan.now)
         (λ made. IsTrue H.told → IsTrue L.told
         → PlaysToEnd layout.now places.now (plan_tree accepted.now.plan.now) held
         accepted.now.envelope.now.whole.now accepted.now.uris.now (H.file host.old) start.reads
         (L.launches launcher.old) (L.launches launcher.new) made) held
-        (λ numbers. new_record held start.reads accepted.now.bytes.now accepted.now.sequence
+        (λ numbers. new_record frame held start.reads accepted.now.bytes.now accepted.now.sequence
         accepted.now.digest numbers)
         start (D.flash disk.new) result) (IsSame start (D.flash disk.new)) result }
     ensures left { IsTrue D.told → let held = option_map (λ r. r.now) accepted.now.held in
         let start = (D.flash disk.old).reads in
-        KeptSo (LeavesUpdate layout.now places.now (plan_tree accepted.now.plan.now) held
-        (λ numbers. new_record held start accepted.now.bytes.now accepted.now.sequence
+        let frame = accepted.now.frame in
+        KeptSo (LeavesUpdate frame layout.now places.now (plan_tree accepted.now.plan.now) held
+        (λ numbers. new_record frame held start accepted.now.bytes.now accepted.now.sequence
         accepted.now.digest numbers)
         start (D.flash disk.new).reads result) ((D.flash disk.new).reads ≡ start) result }
     ensures grows { IsTrue D.told → Grows (D.flash disk.old) (D.flash disk.new) }
     ensures sound { IsTrue D.told → Settled (D.flash disk.old)
         → let held = option_map (λ r. r.now) accepted.now.held in
         let start = D.flash disk.old in
+        let frame = accepted.now.frame in
         ((numbers : List ℕ) → AreChosen layout.now places.now (plan_tree accepted.now.plan.now)
         (active_slots held) numbers
-        → MayBeInstalled start.reads accepted.now.bytes.now
-        (new_record held start.reads accepted.now.bytes.now accepted.now.sequence
+        → MayBeInstalled frame start.reads accepted.now.bytes.now
+        (new_record frame held start.reads accepted.now.bytes.now accepted.now.sequence
         accepted.now.digest numbers))
         → Passes start (D.flash disk.new) Sound }
     ensures follows { IsTrue D.told → Settled (D.flash disk.old)

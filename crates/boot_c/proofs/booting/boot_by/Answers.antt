@@ -4,7 +4,6 @@ use Rattle.step_machine.specs.declared.plan_end.PlanEnd.TheVariants as plays
 use Rattle.boot_c.specs.BootAnswers.{IsAnswer, boot_answer}
 use Rattle.boot_c.proofs.Images.{one_safe, only_ended}
 use Rattle.flash_layout.specs.Configs.{ConfigOf, Configured}
-use Rattle.flash_layout.specs.ToldFrames.{by_version_1}
 use Rattle.flash_layout.specs.declared.frame.Frame.{Frame}
 use Rattle.flash_layout.specs.declared.key.Key.{Key}
 use Rattle.flash_layout.specs.declared.layout.Entry.{Entry}
@@ -21,13 +20,14 @@ use Rattle.boot_c.proofs.booting.boot_by.Goals as goal
 
 -- a boot by the configuration ended so, on the disk that views the flash
 ended_so : (flash : List ℕ) (layout : List Entry) (key : Key) (frame : Frame) (disk : ViewState) (end : BootEnd) (answer : Answer) → disk ≡ record { bytes = flash; faults = 0 } → ConfigOf (length flash) flash (Configured layout key frame)
-    → Answers layout key disk.bytes end → (answer ≡ boot_answer end) ⊎ ((end ≡ ends.Ended) × (answer ≡ answers.LaunchFault)) → IsAnswer flash answer
+    → Answers frame layout key disk.bytes end → (answer ≡ boot_answer end) ⊎ ((end ≡ ends.Ended) × (answer ≡ answers.LaunchFault)) → IsAnswer flash answer
 ended_so flash layout key frame disk end answer same config ended told = inr (inr (inr (record {
   layout = layout;
   key = key;
-  config = by_version_1 (length flash) flash layout key frame config;
+  frame = frame;
+  config = config;
   end = end;
-  ended = subst (λ (d : ViewState). Answers layout key d.bytes end) same ended;
+  ended = subst (λ (d : ViewState). Answers frame layout key d.bytes end) same ended;
   told = told;
 })))
 
@@ -59,19 +59,20 @@ returns-in-Some-image_in-clause-image c =
     let none : launches_of c.new-launcher.result ≡ [] = ap launches_of c.new-launcher.ensures in
     let noted : launcher.noted ≡ Some c.in-Some.note.now = sym c.in-Some.ensures in
     let one : launches_of launcher ≡ launch ∷ [] = ap (launches_in launcher.flash) noted in
-    let played = subst (λ (e : BootEnd). PlayedSo (PlaysBoot c.args.layout.now c.args.key.now (λ _. None) c.new-disk.result.bytes c.boot-end.new.disk.bytes (launches_of c.new-launcher.result) (launches_of launcher)) (c.boot-end.new.disk.bytes ≡ c.new-disk.result.bytes) (launches_of c.new-launcher.result) (launches_of launcher) e) c.in-Ended.is (c.boot-end.ensures.plays refl refl) in (
+    let played = subst (λ (e : BootEnd). PlayedSo (PlaysBoot c.args.frame c.args.layout.now c.args.key.now (λ _. None) c.new-disk.result.bytes c.boot-end.new.disk.bytes (launches_of c.new-launcher.result) (launches_of launcher)) (c.boot-end.new.disk.bytes ≡ c.new-disk.result.bytes) (launches_of c.new-launcher.result) (launches_of launcher) e) c.in-Ended.is (c.boot-end.ensures.plays refl refl) in (
       c.boot_answer-answer.ensures ∙ ap boot_answer c.in-Ended.is,
       c.in-Some-image_in.ensures.found,
       record {
         layout = c.args.layout.now;
         key = c.args.key.now;
-        config = by_version_1 (length c.args.flash.now) c.args.flash.now c.args.layout.now c.args.key.now c.args.frame c.requires.held;
+        frame = c.args.frame;
+        config = c.requires.held;
         launch = launch;
         launched = subst (λ (seen : List ℕ). IsLaunched c.args.flash.now c.in-Some-image_in.image (noted_launch seen c.in-Some.note.now)) c.flash.ensures c.in-Some-image_in.ensures.launched;
         after = c.boot-end.new.disk.bytes;
-        plays = subst (λ (d : ViewState). PlaysBoot c.args.layout.now c.args.key.now (λ _. None) d.bytes c.boot-end.new.disk.bytes [] (launch ∷ []) plays.Done) c.new-disk.ensures
-            (subst (λ (l : List Launch). PlaysBoot c.args.layout.now c.args.key.now (λ _. None) c.new-disk.result.bytes c.boot-end.new.disk.bytes l (launch ∷ []) plays.Done) none
-            (subst (λ (l : List Launch). PlaysBoot c.args.layout.now c.args.key.now (λ _. None) c.new-disk.result.bytes c.boot-end.new.disk.bytes (launches_of c.new-launcher.result) l plays.Done) one played));
+        plays = subst (λ (d : ViewState). PlaysBoot c.args.frame c.args.layout.now c.args.key.now (λ _. None) d.bytes c.boot-end.new.disk.bytes [] (launch ∷ []) plays.Done) c.new-disk.ensures
+            (subst (λ (l : List Launch). PlaysBoot c.args.frame c.args.layout.now c.args.key.now (λ _. None) c.new-disk.result.bytes c.boot-end.new.disk.bytes l (launch ∷ []) plays.Done) none
+            (subst (λ (l : List Launch). PlaysBoot c.args.frame c.args.layout.now c.args.key.now (λ _. None) c.new-disk.result.bytes c.boot-end.new.disk.bytes (launches_of c.new-launcher.result) l plays.Done) one played));
         safe = λ sound. one_safe (launches_of c.new-launcher.result) (launches_of launcher) launch none one (c.boot-end.ensures.safe refl refl (subst (λ (d : ViewState). Sound d.bytes) (sym c.new-disk.ensures) sound));
       },
     )

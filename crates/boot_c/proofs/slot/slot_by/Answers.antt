@@ -4,24 +4,23 @@ use Rattle.boot_c.specs.SlotAnswers.{NoComponent, NoRecord}
 use Rattle.boot_c.specs.SlotsInUse.{IsSlotOf}
 use Rattle.flash_layout.specs.declared.layout.Memory.TheVariants as memory
 use Rattle.flash_layout.specs.Frames.{head_of}
-use Rattle.flash_layout.specs.declared.frame.TheConstants.{VERSION_1}
 use Rattle.flash_layout.specs.declared.layout.Entry.{Entry}
-use Rattle.flash_layout.specs.ToldFrames.{by_version_1}
 use Rattle.flash_view.specs.ViewDisk.{ViewState}
 use Rattle.rollback_record.specs.HeadRecord.{RecordOf}
-use Rattle.rollback_record.proofs.FrameLoads.{loaded}
+use Rattle.rollback_record.proofs.FrameLoads.{loaded_as}
 use Rattle.boot_c.proofs.slot.slot_by.Goals as goal
 
 pub returns-in-Ok-clause-slot : goal.returns-in-Ok-clause-slot
 returns-in-Ok-clause-slot c =
     let entry = c.in-Some.entry.now in
-    let here = loaded (length c.args.flash.now) c.args.frame c.requires.allowed.frame_is c.new-disk.result.bytes c.in-Ok-Some.field-0 (Some c.in-Ok-Some.installed) c.in-Ok-Some.field-0-is (c.in-Ok-Some.ensures.exact refl) in
+    let here = loaded_as c.args.frame c.new-disk.result.bytes c.in-Ok-Some.field-0 (Some c.in-Ok-Some.installed) c.in-Ok-Some.field-0-is (c.in-Ok-Some.ensures.exact refl) in
     record {
       layout = c.args.layout.now;
       key = c.args.key.now;
-      config = (by_version_1 (length c.args.flash.now) c.args.flash.now c.args.layout.now c.args.key.now c.args.frame c.requires.held);
+      frame = c.args.frame;
+      config = c.requires.held;
       installed = c.in-Ok-Some.installed;
-      recorded = subst (λ (d : ViewState). RecordOf VERSION_1 (head_of VERSION_1 d.bytes) (Some c.in-Ok-Some.installed)) c.new-disk.ensures here;
+      recorded = subst (λ (d : ViewState). RecordOf c.args.frame (head_of c.args.frame d.bytes) (Some c.in-Ok-Some.installed)) c.new-disk.ensures here;
       entry = entry;
       within = subst (λ (l : List Entry). c.args.component < length l) c.as_slice-entries.ensures c.in-Some.ensures.lookup.3.0;
       is = subst (λ (l : List Entry). (d : Entry) → entry ≡ slice_index_or l c.args.component d) c.as_slice-entries.ensures c.in-Some.ensures.lookup.3.1;
@@ -33,7 +32,8 @@ pub returns-in-None-clause-answers : goal.returns-in-None-clause-answers
 returns-in-None-clause-answers c = inr (NoComponent (record {
   layout = c.args.layout.now;
   key = c.args.key.now;
-  config = (by_version_1 (length c.args.flash.now) c.args.flash.now c.args.layout.now c.args.key.now c.args.frame c.requires.held);
+  frame = c.args.frame;
+  config = c.requires.held;
   none = inl (subst (λ (l : List Entry). length l ≤ c.args.component) c.as_slice-entries.ensures c.in-None.ensures.lookup.3);
 }) refl)
 
@@ -41,17 +41,19 @@ pub returns-in-Ram-clause-answers : goal.returns-in-Ram-clause-answers
 returns-in-Ram-clause-answers c = inr (NoComponent (record {
   layout = c.args.layout.now;
   key = c.args.key.now;
-  config = (by_version_1 (length c.args.flash.now) c.args.flash.now c.args.layout.now c.args.key.now c.args.frame c.requires.held);
+  frame = c.args.frame;
+  config = c.requires.held;
   none = inr (stands_in c.args.layout.now c.as_slice-entries.result.now c.args.component memory.Ram c.in-Some.entry.now c.as_slice-entries.ensures c.in-Some.ensures.lookup.3.0 c.in-Some.ensures.lookup.3.1 c.in-Ram.is);
 }) refl)
 
 pub returns-in-Ok-None-clause-answers : goal.returns-in-Ok-None-clause-answers
 returns-in-Ok-None-clause-answers c =
-    let here = loaded (length c.args.flash.now) c.args.frame c.requires.allowed.frame_is c.new-disk.result.bytes c.in-Ok-None.field-0 None c.in-Ok-None.field-0-is (c.in-Ok-None.ensures.exact refl) in
+    let here = loaded_as c.args.frame c.new-disk.result.bytes c.in-Ok-None.field-0 None c.in-Ok-None.field-0-is (c.in-Ok-None.ensures.exact refl) in
     inr (NoRecord (record {
       layout = c.args.layout.now;
       key = c.args.key.now;
-      config = (by_version_1 (length c.args.flash.now) c.args.flash.now c.args.layout.now c.args.key.now c.args.frame c.requires.held);
+      frame = c.args.frame;
+      config = c.requires.held;
       stands = stands_in c.args.layout.now c.as_slice-entries.result.now c.args.component memory.Flash c.in-Some.entry.now c.as_slice-entries.ensures c.in-Some.ensures.lookup.3.0 c.in-Some.ensures.lookup.3.1 c.in-Flash.is;
-      none = subst (λ (d : ViewState). RecordOf VERSION_1 (head_of VERSION_1 d.bytes) None) c.new-disk.ensures here;
+      none = subst (λ (d : ViewState). RecordOf c.args.frame (head_of c.args.frame d.bytes) None) c.new-disk.ensures here;
     }) refl)

@@ -3,6 +3,7 @@ use Rattle.suit_edge.specs.Flash.{Keeps}
 use Rattle.suit_edge.specs.Ranges.{Outside, written}
 use Rattle.suit_edge.specs.FlashLaws.{keeps_fewer, keeps_then}
 use Rattle.flash_layout.specs.Frames.{record_place}
+use Rattle.flash_layout.specs.FrameFacts.{facts}
 use Rattle.flash_layout.specs.Formats.{OutsideRecordGates}
 use Rattle.flash_layout.proofs.Gating.{both_closed}
 use Rattle.flash_layout.proofs.formatting.close_records.Given as given
@@ -38,6 +39,6 @@ returns-in-Done-write_at-clause-closed g c t =
     let law = g.met.D.Disk.obeys c.args.disk.now t in
     let a = (g.D.Disk.flash c.args.disk.now).reads in
     let b = (g.D.Disk.flash c.write_at.new.self).reads in
-    both_closed (g.D.Disk.extent c.args.disk.now) c.args.frame c.requires a b _ law.fits
+    both_closed (g.D.Disk.extent c.args.disk.now) c.args.frame (facts (g.D.Disk.extent c.args.disk.now) c.args.frame c.requires) a b _ law.fits
     (c.in-Done.ensures.written t ∙ ap (λ (p : ℕ). written a p (0 ∷ [])) c.record_page.ensures)
     (c.in-Done-write_at.ensures.written t ∙ ap (λ (p : ℕ). written b p (0 ∷ [])) c.record_page-2.ensures)

@@ -4,6 +4,7 @@ use Rattle.suit_edge.specs.Gate.{IsNewPage, IsOpening, page_at}
 use Rattle.suit_edge.specs.Ranges.{OutsideEach}
 use Rattle.suit_edge.specs.FlashLaws.{keeps_fewer, keeps_same, keeps_then}
 use Rattle.flash_layout.specs.ConfigPage.{config_page}
+use Rattle.flash_layout.specs.Frames.{page_bytes}
 use Rattle.flash_layout.specs.Formats.{IsBlankOrFormatted, IsPrepared, OutsideFormat, OutsidePrepared}
 use Rattle.flash_layout.proofs.FormatFrames.{formatted, opening, page_fewer, preparing, reading}
 use Rattle.flash_layout.proofs.formatting.format.Given as given
@@ -52,7 +53,7 @@ left_alone : (g : given.Over) (c : After-open_written g) → IsTrue g.D.Disk.tol
 left_alone g c t kept =
     let K = OutsideFormat c.args.frame c.args.layout.now in
     let body = c.behind_gate.result.now in
-    let long : length body ≡ 1203 = omega (arith, ap length c.behind_gate.ensures, length-drop 1 c.write_page-page.result, c.write_page-page.ensures.long) in
+    let long : length body + 1 ≡ page_bytes c.args.frame = omega (arith, ap length c.behind_gate.ensures, length-drop 1 c.write_page-page.result, c.write_page-page.ensures.long) in
     let b = g.D.Disk.flash c.prepare.new.disk in
     let d = g.D.Disk.flash c.open_written.new.disk in
     keeps_then K _ b d _ (g.met.D.Disk.obeys c.prepare.new.disk t)

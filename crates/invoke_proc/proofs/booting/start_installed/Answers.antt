@@ -4,6 +4,7 @@ use Rattle.suit_edge.specs.Flash.{IsSame}
 use Rattle.suit_edge.specs.FlashLaws.{same_flash_then}
 use Rattle.flash_layout.specs.declared.frame.TheConstants.{VERSION_1}
 use Rattle.flash_layout.specs.Layouts.{IsLayout}
+use Rattle.flash_layout.specs.FirstFrame.{bank_fits}
 use Rattle.flash_layout.specs.ToldFrames.{allowed_by}
 use Rattle.invoke_proc.specs.declared.boot_end.BootEnd.{BootEnd}
 use Rattle.invoke_proc.specs.Booting.{Answers, KeepsBoot, KeepsOthers, PlayedSo, PlaysBoot, PlaysOn}
@@ -14,20 +15,20 @@ use Rattle.invoke_proc.proofs.booting.start_installed.Goals as goal
 
 pub returns-in-Err-startable-clause-answers : goal.returns-in-Err-startable-clause-answers
 returns-in-Err-startable-clause-answers g c t =
-    booted.refused_answers c.args.layout.now c.args.key.now (g.D.Disk.flash c.args.disk.now).reads c.in-Ok.installed (c.in-Ok.ensures.recorded t) c.key_bytes.result.now
+    booted.refused_answers c.args.frame c.args.layout.now c.args.key.now (g.D.Disk.flash c.args.disk.now).reads c.in-Ok.installed (c.in-Ok.ensures.recorded t) c.key_bytes.result.now
     _ c.in-Err-startable.refusal c.from.result c.key_bytes.ensures (c.in-Ok.ensures.bytes t) c.from.ensures c.in-Err-startable.ensures.refused
 
 pub returns-in-Err-clause-answers : goal.returns-in-Err-clause-answers
 returns-in-Err-clause-answers g c t =
-    subst (λ (e : BootEnd). Answers c.args.layout.now c.args.key.now (g.D.Disk.flash c.args.disk.now).reads e) (sym c.without_bank.ensures)
-    (booted.none_answers c.args.layout.now c.args.key.now (g.D.Disk.flash c.args.disk.now).reads c.in-Err.fault (c.in-Err.ensures.none t))
+    subst (λ (e : BootEnd). Answers c.args.frame c.args.layout.now c.args.key.now (g.D.Disk.flash c.args.disk.now).reads e) (sym c.without_bank.ensures)
+    (booted.none_answers c.args.frame c.args.layout.now c.args.key.now (g.D.Disk.flash c.args.disk.now).reads c.in-Err.fault (c.in-Err.ensures.none t))
 
 pub returns-in-Err-clause-plays : goal.returns-in-Err-clause-plays
 returns-in-Err-clause-plays g c td tl =
     let launched = g.L.Launcher.launches c.args.launcher.now in
     let reads = (g.D.Disk.flash c.args.disk.now).reads in
     let after = (g.D.Disk.flash c.find_bank.new.disk).reads in
-    let Plays = PlaysBoot c.args.layout.now c.args.key.now (g.H.Host.file c.args.host.now) reads after launched launched in
+    let Plays = PlaysBoot c.args.frame c.args.layout.now c.args.key.now (g.H.Host.file c.args.host.now) reads after launched launched in
     subst (λ (e : BootEnd). PlayedSo Plays (after ≡ reads) launched launched e) (sym c.without_bank.ensures) (booted.none_plays Plays (after ≡ reads) launched c.in-Err.fault (c.in-Err.ensures.same td).reads)
 
 pub start-requires-clause-distinct : goal.start-requires-clause-distinct
@@ -48,8 +49,8 @@ returns-clause-answers g c t =
     let r = c.in-Ok.installed in
     let recorded = c.in-Ok.ensures.recorded t in
     let m = manifest_of c.in-Ok-startable.startable.manifest in
-    booted.start_answers c.args.layout.now c.args.key.now reads r recorded m
-    (booted.started_from c.args.layout.now c.args.key.now reads c.key_bytes.result.now _ r c.in-Ok-startable.startable recorded c.key_bytes.ensures
+    booted.start_answers c.args.frame c.args.layout.now c.args.key.now reads r recorded m
+    (booted.started_from c.args.frame c.args.layout.now c.args.key.now reads c.key_bytes.result.now _ r c.in-Ok-startable.startable recorded c.key_bytes.ensures
     (c.in-Ok.ensures.bytes t) c.in-Ok-startable.ensures.startable)
     c.start.result c.start.ensures.starts
 
@@ -65,11 +66,11 @@ returns-clause-plays g c td tl =
     let r = c.in-Ok.installed in
     let m = manifest_of c.in-Ok-startable.startable.manifest in
     let same = c.in-Ok.ensures.bytes td in
-    let starts = booted.started_from c.args.layout.now c.args.key.now reads c.key_bytes.result.now _ r c.in-Ok-startable.startable (c.in-Ok.ensures.recorded td) c.key_bytes.ensures
+    let starts = booted.started_from c.args.frame c.args.layout.now c.args.key.now reads c.key_bytes.result.now _ r c.in-Ok-startable.startable (c.in-Ok.ensures.recorded td) c.key_bytes.ensures
     same c.in-Ok-startable.ensures.startable in
-    booted.played_as (PlaysOn c.args.layout.now m r.active files before after launched now) (PlaysBoot c.args.layout.now c.args.key.now files reads after launched now)
+    booted.played_as (PlaysOn c.args.layout.now m r.active files before after launched now) (PlaysBoot c.args.frame c.args.layout.now c.args.key.now files reads after launched now)
     (after ≡ before) (after ≡ reads) launched now c.start.result
-    (booted.plays_boot c.args.layout.now c.args.key.now files reads before after launched now r m starts (c.in-Ok.ensures.same td).reads)
+    (booted.plays_boot c.args.frame c.args.layout.now c.args.key.now files reads before after launched now r m starts (c.in-Ok.ensures.same td).reads)
     (λ same. same ∙ (c.in-Ok.ensures.same td).reads)
     (c.start.ensures.plays td tl)
 
@@ -82,10 +83,10 @@ returns-clause-keeps g c t =
     let r = c.in-Ok.installed in
     let m = manifest_of c.in-Ok-startable.startable.manifest in
     let law = g.met.D.Disk.obeys c.find_bank.new.disk t in
-    let starts = booted.started_from c.args.layout.now c.args.key.now a.reads c.key_bytes.result.now _ r c.in-Ok-startable.startable (c.in-Ok.ensures.recorded t) c.key_bytes.ensures
+    let starts = booted.started_from c.args.frame c.args.layout.now c.args.key.now a.reads c.key_bytes.result.now _ r c.in-Ok-startable.startable (c.in-Ok.ensures.recorded t) c.key_bytes.ensures
     (c.in-Ok.ensures.bytes t) c.in-Ok-startable.ensures.startable in
-    booted.kept_as (KeepsOthers c.args.layout.now m r.active b e) (KeepsBoot c.args.layout.now c.args.key.now a e) (IsSame b e) (IsSame a e) c.start.result
-    (booted.keeps_boot c.args.layout.now c.args.key.now r m a b e _ law (c.in-Ok.ensures.same t) starts)
+    booted.kept_as (KeepsOthers c.args.layout.now m r.active b e) (KeepsBoot c.args.frame c.args.layout.now c.args.key.now a e) (IsSame b e) (IsSame a e) c.start.result
+    (booted.keeps_boot c.args.frame c.args.layout.now c.args.key.now r m a b e _ law (c.in-Ok.ensures.same t) starts)
     (same_flash_then a b e _ law (c.in-Ok.ensures.same t)) (c.start.ensures.keeps t)
 
 pub returns-clause-settled : goal.returns-clause-settled
@@ -93,6 +94,9 @@ returns-clause-settled g c t =
     unfaulted _ _ c.start.result
     (booted.settled_from (g.D.Disk.flash c.args.disk.now) (g.D.Disk.flash c.find_bank.new.disk) (g.D.Disk.flash c.start.new.disk) _ (g.met.D.Disk.obeys c.find_bank.new.disk t) (c.in-Ok.ensures.same t))
     (c.start.ensures.settled t)
+
+pub find_bank-requires-clause-fits : goal.find_bank-requires-clause-fits
+find_bank-requires-clause-fits g c = bank_fits (g.D.Disk.extent c.args.disk.now) c.args.frame c.requires.allowed.frame_is
 
 pub find_bank-requires-clause-config : goal.find_bank-requires-clause-config
 find_bank-requires-clause-config g c t = (c.args.key.now, c.requires.held t)

@@ -31,7 +31,7 @@ returns-in-Err-new-clause-flash g c told = order_start c.sound_laws.ensures _ _
 
 pub returns-clause-flash : goal.returns-clause-flash
 returns-clause-flash g c told = record {
-  any_moment = any_boot c.args.config.now.0 c.args.config.now.1 _ _ c.boot-end.result (c.boot-end.ensures.keeps told);
+  any_moment = any_boot c.args.config.now.2 c.args.config.now.0 c.args.config.now.1 _ _ c.boot-end.result (c.boot-end.ensures.keeps told);
   sound = λ settled. (c.boot-end.ensures.sound told settled, c.boot-end.ensures.follows told settled);
   settled = boots_settled c.boot-end.result _ _ _ _ c.boot-end.ensures.counts (c.boot-end.ensures.settled told);
 }

@@ -1,5 +1,3 @@
-use Rattle.flash_layout.specs.ToldFrames.{by_version_1}
-use Rattle.suit_cli.proofs.StatusLines.{found_first}
 use Rattle.suit_cli.proofs.Chains.{anywhere, outside_at}
 use Rattle.suit_cli.proofs.BootAnswers.{comes_by, unconfigured}
 use Rattle.suit_cli.proofs.Sounding.{allowed_after, held_after}
@@ -17,7 +15,7 @@ pub returns-in-Ok-clause-answer : goal.returns-in-Ok-clause-answer
 returns-in-Ok-clause-answer g c =
     let h = g.H.Host in
     let here = outside_at h.told (h.file c.args.host.now) (h.pulled c.args.host.now) (h.asked c.args.host.now) (h.faults c.args.host.now) anywhere.flash in
-    comes_by c.in-Ok.config.0 c.in-Ok.config.1 _ _ _ _ _ (found_first _ _ c.in-Ok.config (c.in-Ok.ensures.finds here)) _ c.boot_by.ensures.answer
+    comes_by c.in-Ok.config _ _ _ _ _ (c.in-Ok.ensures.finds here) _ c.boot_by.ensures.answer
 
 pub boot_by-requires-clause-allowed : goal.boot_by-requires-clause-allowed
 boot_by-requires-clause-allowed g c = allowed_after c.in-Ok.config.0 c.in-Ok.config.1 c.in-Ok.config.2 _ _ c.in-Ok.ensures.extent c.in-Ok.ensures.allowed
@@ -31,8 +29,8 @@ returns-in-Err-clause-keeps g c told = c.in-Err.ensures.same told
 
 pub returns-in-Ok-clause-keeps : goal.returns-in-Ok-clause-keeps
 returns-in-Ok-clause-keeps g c told =
-    boot_keeps _ _ _ _ _ (g.met.D.Disk.obeys c.config_in.new.flash told) (c.in-Ok.ensures.same told) c.in-Ok.config.0 c.in-Ok.config.1
-    (by_version_1 _ _ _ _ _ ((c.in-Ok.ensures.finds anywhere).1 told)) _ (c.boot_by.ensures.keeps told)
+    boot_keeps _ _ _ _ _ (g.met.D.Disk.obeys c.config_in.new.flash told) (c.in-Ok.ensures.same told) c.in-Ok.config.0 c.in-Ok.config.1 c.in-Ok.config.2
+    ((c.in-Ok.ensures.finds anywhere).1 told) _ (c.boot_by.ensures.keeps told)
 
 pub returns-in-Err-clause-flash : goal.returns-in-Err-clause-flash
 returns-in-Err-clause-flash g c told = order_looked c.sound_laws.ensures _ _ _ (g.met.D.Disk.obeys c.config_in.new.flash told) (c.in-Err.ensures.same told) _ _

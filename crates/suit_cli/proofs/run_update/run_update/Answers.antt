@@ -1,8 +1,11 @@
-use Rattle.std.proofs.Common.{List, ℕ, ◌<◌, ◌^◌, length, arith, refl, sym, subst, ◌∙◌}
+use Rattle.std.proofs.Common.{List, ℕ, ◌<◌, ◌≤◌, ◌^◌, length, arith, refl, sym, subst, ◌∙◌}
 use Rattle.suit_edge.specs.Flash.{IsFlash}
 use Rattle.suit_cli.specs.Launching.{Launching}
 use Rattle.suit_cli.specs.Coming.{ended_of}
 use Rattle.admission.specs.Admission.{admission_of}
+use Rattle.flash_layout.specs.declared.frame.Frame.{Frame}
+use Rattle.flash_layout.specs.FirstFrame.{is_first, to_first}
+use Rattle.flash_layout.specs.Frames.{most}
 use Rattle.flash_layout.specs.ToldFrames.{allowed_by, by_version_1}
 use Rattle.suit_cli.proofs.StatusLines.{found_first}
 use Rattle.suit_cli.proofs.Chains.{anywhere, flash_at, outside_at}
@@ -40,7 +43,8 @@ pub returns-in-Err-accept-clause-keeps : goal.returns-in-Err-accept-clause-keeps
 returns-in-Err-accept-clause-keeps g c told settled = c.in-Ok.ensures.same told
 
 pub accept-requires-clause-entries : goal.accept-requires-clause-entries
-accept-requires-clause-entries g c = c.in-Ok.ensures.allowed.layout_is.few
+accept-requires-clause-entries g c =
+    to_first _ _ c.in-Ok.ensures.allowed.frame_is (λ (f : Frame). length c.in-Ok.config.0 ≤ most f) c.in-Ok.ensures.allowed.layout_is.few
 
 pub accept-requires-clause-key : goal.accept-requires-clause-key
 accept-requires-clause-key g c = c.in-Ok.ensures.allowed.key_is
@@ -73,7 +77,7 @@ returns-clause-answer g c =
     let here = outside_at h.told (h.file c.args.host.now) (h.pulled c.args.host.now) (h.asked c.args.host.now) (h.faults c.args.host.now) anywhere.flash in
     comes_updated c.args.name.now c.args.uris.now _ _ c.in-Ok.config.0 c.in-Ok.config.1 _ (found_first _ _ c.in-Ok.config (c.in-Ok.ensures.finds here)) c.in-Ok-read.bytes _ (c.in-Ok-read.ensures _) _ _ (admission_of c.in-Ok-accept.accepted)
     (accepted_as c.in-Ok.config.0 c.in-Ok.config.1 _ _ c.as_slice.ensures (admission_of c.in-Ok-accept.accepted) (c.in-Ok-accept.ensures.finds anywhere).1) _
-    (updates_as c.in-Ok.config.0 _ _ (c.in-Ok-accept.ensures.whole ∙ c.as_slice.ensures) (admission_of c.in-Ok-accept.accepted) c.args.uris.now _ _ _ _ _ c.update_by.ensures.answer)
+    (updates_as c.in-Ok.config.2 (is_first _ _ c.in-Ok.ensures.allowed.frame_is) c.in-Ok.config.0 _ _ (c.in-Ok-accept.ensures.whole ∙ c.as_slice.ensures) (admission_of c.in-Ok-accept.accepted) c.args.uris.now _ _ _ _ _ c.update_by.ensures.answer)
 
 pub returns-clause-keeps : goal.returns-clause-keeps
 returns-clause-keeps g c told settled =
@@ -89,7 +93,7 @@ returns-clause-keeps g c told settled =
     (g.D.Disk.flash c.args.flash.now) (g.D.Disk.flash c.config_in.new.flash) (g.D.Disk.flash c.update_by.new.flash)
     (g.met.D.Disk.obeys c.args.flash.now told) law same c.in-Ok.config.0 c.in-Ok.config.1 (allowed_by _ _ _ _ c.in-Ok.ensures.allowed) (by_version_1 _ _ _ _ _ ((c.in-Ok.ensures.finds anywhere).1 told)) settled c.in-Ok-read.bytes (c.in-Ok-read.ensures _).1
     (admission_of c.in-Ok-accept.accepted) (accepted_as c.in-Ok.config.0 c.in-Ok.config.1 _ _ c.as_slice.ensures (admission_of c.in-Ok-accept.accepted) (c.in-Ok-accept.ensures.finds anywhere).1)
-    c.config_laws.ensures.answer (ended_of c.update_by.result) (keeps_as c.in-Ok.config.0 _ _ (c.in-Ok-accept.ensures.whole ∙ c.as_slice.ensures) (admission_of c.in-Ok-accept.accepted) c.args.uris.now l m middle (ended_of c.update_by.result)
+    c.config_laws.ensures.answer (ended_of c.update_by.result) (keeps_as c.in-Ok.config.2 (is_first _ _ c.in-Ok.ensures.allowed.frame_is) c.in-Ok.config.0 _ _ (c.in-Ok-accept.ensures.whole ∙ c.as_slice.ensures) (admission_of c.in-Ok-accept.accepted) c.args.uris.now l m middle (ended_of c.update_by.result)
     (g.D.Disk.flash c.config_in.new.flash) (g.D.Disk.flash c.update_by.new.flash)
     (c.update_by.ensures.keeps told (settled_later _ _ _ law same settled)))
 

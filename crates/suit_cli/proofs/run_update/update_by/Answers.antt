@@ -1,8 +1,9 @@
-use Rattle.std.proofs.Common.{ℕ, ◌^◌, inr, ⊎_elim, refl, sym, ap, subst}
+use Rattle.std.proofs.Common.{◌≤◌, ℕ, ◌^◌, inr, ⊎_elim, length, refl, sym, ap, subst, arith}
 use Rattle.suit_edge.specs.FlashLaws.{same_flash}
-use Rattle.flash_layout.specs.declared.frame.TheConstants.{VERSION_1}
+use Rattle.suit_envelope.specs.Trimmed.{trimmed}
 use Rattle.flash_layout.specs.Configs.{ConfigOf, Configured}
-use Rattle.flash_layout.specs.ToldFrames.{allowed_by, by_version_1}
+use Rattle.flash_layout.specs.FrameFacts as frames
+use Rattle.flash_layout.specs.ToldFrames.{allowed_by}
 use Rattle.rollback_record.specs.SoundFlash.{Settled}
 use Rattle.admission.specs.Admission.{admission_of}
 use Rattle.step_machine.specs.Fetching.{asked_at}
@@ -49,7 +50,10 @@ pub update-end-requires-clause-wrapper : goal.update-end-requires-clause-wrapper
 update-end-requires-clause-wrapper g c = c.requires.wrapper
 
 pub update-end-requires-clause-fits : goal.update-end-requires-clause-fits
-update-end-requires-clause-fits g c = (facts c.args.config.now.0 c.args.config.now.1 c.args.accepted.now.envelope.whole.now (admission_of c.args.accepted.now) c.requires.accepted).is_short
+update-end-requires-clause-fits g c =
+    let short : length (trimmed c.args.accepted.now.envelope.wrapper.now c.args.accepted.now.envelope.manifest.now) ≤ 16384 =
+    (facts c.args.config.now.0 c.args.config.now.1 c.args.accepted.now.envelope.whole.now (admission_of c.args.accepted.now) c.requires.accepted).is_short in
+    omega (arith, short, (frames.facts (g.D.Disk.extent c.args.flash.now) c.args.config.now.2 c.requires.allowed.frame_is).large)
 
 pub update-end-requires-clause-config : goal.update-end-requires-clause-config
 update-end-requires-clause-config g c told = (c.args.config.now.1, c.requires.held told)
@@ -67,7 +71,7 @@ returns-clause-answer g c =
         plays = u.plays;
         left = u.left;
         safe = λ td tl.
-            gains_update c.play_laws.ensures.safe c.play_laws.ensures.faulted_safe c.manifest_laws.ensures (g.D.Disk.extent c.args.flash.now) c.args.config.now.0 c.args.config.now.1 (allowed_by _ _ _ _ c.requires.allowed) c.has_identifiers.ensures
+            gains_update c.play_laws.ensures.safe c.play_laws.ensures.faulted_safe c.manifest_laws.ensures (g.D.Disk.extent c.args.flash.now) c.args.config.now.2 c.args.config.now.0 c.args.config.now.1 (allowed_by _ _ _ _ c.requires.allowed) c.has_identifiers.ensures
             c.args.accepted.now.envelope.whole.now (admission_of c.args.accepted.now) f c.requires.other c.args.uris.now (hosted g.H.Host.told (g.H.Host.file c.args.host.now) (g.H.Host.asked c.args.host.now) (g.H.Host.asked c.update-end.new.host)) (g.D.Disk.flash c.args.flash.now).reads
             (g.L.Launcher.launches c.args.launcher.now) (g.L.Launcher.launches c.update-end.new.launcher) (u.launches td tl);
       },
@@ -83,8 +87,8 @@ returns-in-Err-clause-flash g c told = order_start c.sound_laws.ensures _ _
 pub returns-clause-flash : goal.returns-clause-flash
 returns-clause-flash g c told =
     let a = g.D.Disk.flash c.args.flash.now in
-    let config = subst (λ (n : ℕ). ConfigOf n a.reads (Configured c.args.config.now.0 c.args.config.now.1 VERSION_1)) (sym (g.met.D.Disk.obeys c.args.flash.now told).fits) (by_version_1 _ _ _ _ _ (c.requires.held told)) in
-    let sound = λ (settled : Settled a). sound_update c.config_laws.ensures.answer c.args.config.now.0 c.args.config.now.1 a.reads config c.installation_laws.ensures c.args.accepted.now.envelope.whole.now (admission_of c.args.accepted.now) (facts c.args.config.now.0 c.args.config.now.1 c.args.accepted.now.envelope.whole.now (admission_of c.args.accepted.now) c.requires.accepted)
+    let config = subst (λ (n : ℕ). ConfigOf n a.reads (Configured c.args.config.now.0 c.args.config.now.1 c.args.config.now.2)) (sym (g.met.D.Disk.obeys c.args.flash.now told).fits) (c.requires.held told) in
+    let sound = λ (settled : Settled a). sound_update c.config_laws.ensures.answer c.args.config.now.2 c.args.config.now.0 c.args.config.now.1 a.reads config c.installation_laws.ensures c.args.accepted.now.envelope.whole.now (admission_of c.args.accepted.now) (facts c.args.config.now.0 c.args.config.now.1 c.args.accepted.now.envelope.whole.now (admission_of c.args.accepted.now) c.requires.accepted)
     a (g.D.Disk.flash c.update-end.new.disk) settled.sound (c.update-end.ensures.sound told settled) in
     record {
       any_moment = record { later = c.update-end.ensures.later told; each = λ image may. tt; before = λ t image le may. inr tt };

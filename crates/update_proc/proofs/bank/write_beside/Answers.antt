@@ -1,8 +1,7 @@
-use Rattle.std.proofs.Common.{◌≡◌, ◌≤◌, ◌∙◌, refl, sym, subst, length, List, ℕ, arith}
+use Rattle.std.proofs.Common.{◌≡◌, ◌∙◌, refl, sym, subst, length, List, ℕ}
 use Rattle.suit_edge.specs.FlashLaws.{keeps_same, keeps_then, same_flash_then}
-use Rattle.flash_layout.specs.declared.frame.TheConstants.{VERSION_1}
+use Rattle.flash_layout.specs.FrameFacts.{facts}
 use Rattle.flash_layout.specs.Frames.{bank_of, head_of}
-use Rattle.flash_layout.specs.FirstFrame.{has_room}
 use Rattle.update_proc.proofs.BankBytes.{kept_chosen, kept_holds, other_chosen, same_bytes}
 use Rattle.update_proc.proofs.bank.write_beside.Goals as goal
 
@@ -17,10 +16,10 @@ returns-then-recorded-clause-chosen g c t = kept_chosen _ _ _ _ _ ((c.in_ok-reco
 pub returns-then-recorded-clause-holds : goal.returns-then-recorded-clause-holds
 returns-then-recorded-clause-holds g c t =
     let old = (g.D.Disk.flash c.args.disk.now).reads in
-    let large : 49152 ≤ length old = omega (arith, (g.met.D.Disk.obeys c.args.disk.now t).fits, has_room (g.D.Disk.extent c.args.disk.now) c.args.frame c.requires.frame) in
+    let size = g.D.Disk.extent c.args.disk.now in
     let same : (g.D.Disk.flash c.keep_bank.new.disk).reads ≡ old = (c.keep_bank.ensures.same t).reads ∙ (c.is_recorded.ensures.read.same t).reads in
-    subst (λ (l : List ℕ). bank_of VERSION_1 (head_of VERSION_1 l) c.args.held.now.bank (length c.args.bytes.now) ≡ c.args.bytes.now) (sym same)
-    (kept_holds old c.args.held.now.bank c.args.held.now.length c.args.bytes.now large c.requires.held.bank c.requires.held.size ((c.in_ok-recorded.ensures.exact t).0 c.if-recorded.true))
+    subst (λ (l : List ℕ). bank_of c.args.frame (head_of c.args.frame l) c.args.held.now.bank (length c.args.bytes.now) ≡ c.args.bytes.now) (sym same)
+    (kept_holds size c.args.frame (facts size c.args.frame c.requires.frame) old (g.met.D.Disk.obeys c.args.disk.now t).fits c.args.held.now.bank c.args.held.now.length c.args.bytes.now c.requires.held.bank c.requires.held.size ((c.in_ok-recorded.ensures.exact t).0 c.if-recorded.true))
 
 pub returns-then-recorded-clause-kept : goal.returns-then-recorded-clause-kept
 returns-then-recorded-clause-kept g c t is = same_flash_then _ _ _ _ (g.met.D.Disk.obeys c.is_recorded.new.disk t) (c.is_recorded.ensures.read.same t) (c.keep_bank.ensures.same t)

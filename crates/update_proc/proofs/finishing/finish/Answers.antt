@@ -20,7 +20,7 @@ pub returns-in-Err-clause-sound : goal.returns-in-Err-clause-sound
 returns-in-Err-clause-sound g c t firm sound may = weakens _ _ _ _ (λ image is. inr is) (c.install.ensures.sound t firm sound may)
 
 pub returns-in-ConditionFailed-clause-reads : goal.returns-in-ConditionFailed-clause-reads
-returns-in-ConditionFailed-clause-reads g c t = as_held _ _ _ (c.settle.ensures.read.same t).reads (c.requires.held t)
+returns-in-ConditionFailed-clause-reads g c t = as_held c.args.frame _ _ _ (c.settle.ensures.read.same t).reads (c.requires.held t)
 
 pub returns-in-Ok-clause-follows : goal.returns-in-Ok-clause-follows
 returns-in-Ok-clause-follows g c t firm sound sure = weakens _ _ _ _ (λ image is. inr is) (c.install.ensures.follows t firm sound sure)
@@ -29,13 +29,13 @@ pub returns-in-Err-clause-follows : goal.returns-in-Err-clause-follows
 returns-in-Err-clause-follows g c t firm sound sure = weakens _ _ _ _ (λ image is. inr is) (c.install.ensures.follows t firm sound sure)
 
 pub returns-in-ConditionFailed-clause-behind : goal.returns-in-ConditionFailed-clause-behind
-returns-in-ConditionFailed-clause-behind g c t = as_read _ _ (c.settle.ensures.read.same t).reads
+returns-in-ConditionFailed-clause-behind g c t = as_read c.args.frame _ _ (c.settle.ensures.read.same t).reads
 
 pub returns-in-DirectiveFailed-clause-reads : goal.returns-in-DirectiveFailed-clause-reads
-returns-in-DirectiveFailed-clause-reads g c t = as_held _ _ _ (c.stop.ensures.read.same t).reads (c.requires.held t)
+returns-in-DirectiveFailed-clause-reads g c t = as_held c.args.frame _ _ _ (c.stop.ensures.read.same t).reads (c.requires.held t)
 
 pub returns-in-DirectiveFailed-clause-behind : goal.returns-in-DirectiveFailed-clause-behind
-returns-in-DirectiveFailed-clause-behind g c t = as_read _ _ (c.stop.ensures.read.same t).reads
+returns-in-DirectiveFailed-clause-behind g c t = as_read c.args.frame _ _ (c.stop.ensures.read.same t).reads
 
 pub returns-in-ConditionFailed-clause-stays : goal.returns-in-ConditionFailed-clause-stays
 returns-in-ConditionFailed-clause-stays g c t = any_told _ _ (c.settle.ensures.read.same t).reads

@@ -9,10 +9,9 @@ use Rattle.suit_edge.specs.FlashLaws.{grows_then, same_flash_then, weakens}
 use Rattle.suit_envelope.specs.Payloads.{HasPayloads}
 use Rattle.suit_envelope.specs.Trimmed.{trimmed}
 use Rattle.suit_manifest.specs.Procedures.{update_tree}
-use Rattle.flash_layout.specs.declared.frame.TheConstants.{VERSION_1}
 use Rattle.flash_layout.specs.declared.slot.Record.{Record}
 use Rattle.suit_params.specs.declared.digest.Digest.{Digest}
-use Rattle.flash_layout.specs.Frames.{head_of}
+use Rattle.flash_layout.specs.Frames.{bank_size, head_of}
 use Rattle.flash_layout.specs.Layouts.{IsLayout}
 use Rattle.rollback_record.specs.Committing.{HasSpare}
 use Rattle.rollback_record.specs.HeadRecord.{RecordOf}
@@ -29,7 +28,6 @@ use Rattle.step_machine.proofs.Asking.{asks_none}
 use Rattle.update_proc.proofs.Finished.{accepted_judged, launched_by, unbegun_counts, unbegun_kept, unbegun_played, unbegun_settled, unfaulted}
 use Rattle.update_proc.proofs.Reread.{follows_from, for_offer, keeps_from, kept_from, loadable_as, recorded_as, settled_from, spare_as, sound_from}
 use Rattle.rollback_record.proofs.HeadSince.{follows_now}
-use Rattle.update_proc.proofs.CommitFrames.{config_first, layout_first, loadable_first, pages_first}
 use Rattle.update_proc.proofs.flash_update.update.Goals as goal
 
 abbrev held_of : Option (Bor Record) → Option Record
@@ -48,24 +46,24 @@ start-requires-clause-said g c = (c.args.manifest.now, c.args.members.now, c.req
 
 pub start-requires-clause-held : goal.start-requires-clause-held
 start-requires-clause-held g c t =
-    subst (λ (l : List ℕ). RecordOf VERSION_1 (head_of VERSION_1 l) (held_of c.as_ref-held.result)) (sym (c.in-Ok.ensures.same t).reads) (recorded_as (head_of VERSION_1 (g.D.Disk.flash c.args.disk.now).reads) c.as_ref-held.result c.in-Ok.pages.held c.as_ref-held.ensures.value (pages_first (g.D.Disk.extent c.args.disk.now) c.args.frame c.requires.frame (g.D.Disk.flash c.args.disk.now).reads c.in-Ok.pages (c.in-Ok.ensures.exact t)).held)
+    subst (λ (l : List ℕ). RecordOf c.args.frame (head_of c.args.frame l) (held_of c.as_ref-held.result)) (sym (c.in-Ok.ensures.same t).reads) (recorded_as c.args.frame (head_of c.args.frame (g.D.Disk.flash c.args.disk.now).reads) c.as_ref-held.result c.in-Ok.pages.held c.as_ref-held.ensures.value (c.in-Ok.ensures.exact t).held)
 
 pub start-requires-clause-spare : goal.start-requires-clause-spare
 start-requires-clause-spare g c t =
-    subst (λ (l : List ℕ). HasSpare VERSION_1 (head_of VERSION_1 l) (held_of c.as_ref-held.result) c.in-Ok.pages.spare) (sym (c.in-Ok.ensures.same t).reads) (spare_as (head_of VERSION_1 (g.D.Disk.flash c.args.disk.now).reads) c.as_ref-held.result c.in-Ok.pages c.as_ref-held.ensures.value (pages_first (g.D.Disk.extent c.args.disk.now) c.args.frame c.requires.frame (g.D.Disk.flash c.args.disk.now).reads c.in-Ok.pages (c.in-Ok.ensures.exact t)))
+    subst (λ (l : List ℕ). HasSpare c.args.frame (head_of c.args.frame l) (held_of c.as_ref-held.result) c.in-Ok.pages.spare) (sym (c.in-Ok.ensures.same t).reads) (spare_as c.args.frame (head_of c.args.frame (g.D.Disk.flash c.args.disk.now).reads) c.as_ref-held.result c.in-Ok.pages c.as_ref-held.ensures.value (c.in-Ok.ensures.exact t))
 
 pub returns-clause-judged : goal.returns-clause-judged
 returns-clause-judged g c t =
-    for_offer c.record_laws.ensures.answer (g.D.Disk.flash c.args.disk.now).reads c.args.envelope.now.wrapper.now
+    for_offer c.record_laws.ensures.answer c.args.frame (g.D.Disk.flash c.args.disk.now).reads c.args.envelope.now.wrapper.now
     (λ held digest. JudgedSo c.args.manifest.now.sequence digest held c.start.result)
-    (held_of c.as_ref-held.result) c.stated_digest-digest.result (recorded_as (head_of VERSION_1 (g.D.Disk.flash c.args.disk.now).reads) c.as_ref-held.result c.in-Ok.pages.held c.as_ref-held.ensures.value (pages_first (g.D.Disk.extent c.args.disk.now) c.args.frame c.requires.frame (g.D.Disk.flash c.args.disk.now).reads c.in-Ok.pages (c.in-Ok.ensures.exact t)).held) c.stated_digest-digest.ensures
+    (held_of c.as_ref-held.result) c.stated_digest-digest.result (recorded_as c.args.frame (head_of c.args.frame (g.D.Disk.flash c.args.disk.now).reads) c.as_ref-held.result c.in-Ok.pages.held c.as_ref-held.ensures.value (c.in-Ok.ensures.exact t).held) c.stated_digest-digest.ensures
     (accepted_judged c.args.manifest.now.sequence c.stated_digest-digest.result (held_of c.as_ref-held.result) c.start.result c.start.ensures.starts c.in-Ok-installable.ensures.accepted)
 
 pub returns-clause-plays : goal.returns-clause-plays
 returns-clause-plays g c t tl =
-    for_offer c.record_laws.ensures.answer (g.D.Disk.flash c.args.disk.now).reads c.args.envelope.now.wrapper.now
+    for_offer c.record_laws.ensures.answer c.args.frame (g.D.Disk.flash c.args.disk.now).reads c.args.envelope.now.wrapper.now
     (λ held digest. (payloads : List (List ℕ × List ℕ)) → HasPayloads c.args.envelope.now.whole.now payloads → PlayedSo (λ made end. PlaysUpdate c.args.layout.now c.args.places.now (update_tree c.args.manifest.now c.args.members.now) held (sources payloads c.args.uris.now (hosted g.H.Host.told (g.H.Host.file c.args.host.now) (g.H.Host.asked c.args.host.now) (g.H.Host.asked c.start.new.host))) (g.D.Disk.flash c.args.disk.now).reads made (g.L.Launcher.launches c.args.launcher.now) (g.L.Launcher.launches c.start.new.launcher) end) ((g.D.Disk.flash c.start.new.disk).reads ≡ (g.D.Disk.flash c.args.disk.now).reads) c.args.layout.now (g.D.Disk.flash c.start.new.disk).reads (g.L.Launcher.launches c.args.launcher.now) (g.L.Launcher.launches c.start.new.launcher) c.start.result)
-    (held_of c.as_ref-held.result) c.stated_digest-digest.result (recorded_as (head_of VERSION_1 (g.D.Disk.flash c.args.disk.now).reads) c.as_ref-held.result c.in-Ok.pages.held c.as_ref-held.ensures.value (pages_first (g.D.Disk.extent c.args.disk.now) c.args.frame c.requires.frame (g.D.Disk.flash c.args.disk.now).reads c.in-Ok.pages (c.in-Ok.ensures.exact t)).held) c.stated_digest-digest.ensures
+    (held_of c.as_ref-held.result) c.stated_digest-digest.result (recorded_as c.args.frame (head_of c.args.frame (g.D.Disk.flash c.args.disk.now).reads) c.as_ref-held.result c.in-Ok.pages.held c.as_ref-held.ensures.value (c.in-Ok.ensures.exact t).held) c.stated_digest-digest.ensures
     (λ payloads has. subst (λ (l : List ℕ). PlayedSo (λ made end. PlaysUpdate c.args.layout.now c.args.places.now (update_tree c.args.manifest.now c.args.members.now) (held_of c.as_ref-held.result) (sources payloads c.args.uris.now (hosted g.H.Host.told (g.H.Host.file c.args.host.now) (g.H.Host.asked c.args.host.now) (g.H.Host.asked c.start.new.host))) l made (g.L.Launcher.launches c.args.launcher.now) (g.L.Launcher.launches c.start.new.launcher) end) ((g.D.Disk.flash c.start.new.disk).reads ≡ l) c.args.layout.now (g.D.Disk.flash c.start.new.disk).reads (g.L.Launcher.launches c.args.launcher.now) (g.L.Launcher.launches c.start.new.launcher) c.start.result) (c.in-Ok.ensures.same t).reads (subst (λ (tree : PlanTree). PlayedSo (λ made end. PlaysUpdate c.args.layout.now c.args.places.now tree (held_of c.as_ref-held.result) (sources payloads c.args.uris.now (hosted g.H.Host.told (g.H.Host.file c.args.host.now) (g.H.Host.asked c.args.host.now) (g.H.Host.asked c.start.new.host))) (g.D.Disk.flash c.load_pages_by.new.disk).reads made (g.L.Launcher.launches c.args.launcher.now) (g.L.Launcher.launches c.start.new.launcher) end) ((g.D.Disk.flash c.start.new.disk).reads ≡ (g.D.Disk.flash c.load_pages_by.new.disk).reads) c.args.layout.now (g.D.Disk.flash c.start.new.disk).reads (g.L.Launcher.launches c.args.launcher.now) (g.L.Launcher.launches c.start.new.launcher) c.start.result) c.update_plan-plan.ensures (c.start.ensures.plays t tl payloads has)))
 
 pub returns-in-Err-clause-asked : goal.returns-in-Err-clause-asked
@@ -101,24 +99,24 @@ returns-in-Err-clause-launches g c t tl payloads has = inl refl
 
 pub returns-clause-launches : goal.returns-clause-launches
 returns-clause-launches g c t tl payloads has =
-    launched_by (λ held made end. PlaysUpdate c.args.layout.now c.args.places.now (update_tree c.args.manifest.now c.args.members.now) held (sources payloads c.args.uris.now (hosted g.H.Host.told (g.H.Host.file c.args.host.now) (g.H.Host.asked c.args.host.now) (g.H.Host.asked c.start.new.host))) (g.D.Disk.flash c.args.disk.now).reads made (g.L.Launcher.launches c.args.launcher.now) (g.L.Launcher.launches c.start.new.launcher) end)
+    launched_by c.args.frame (λ held made end. PlaysUpdate c.args.layout.now c.args.places.now (update_tree c.args.manifest.now c.args.members.now) held (sources payloads c.args.uris.now (hosted g.H.Host.told (g.H.Host.file c.args.host.now) (g.H.Host.asked c.args.host.now) (g.H.Host.asked c.start.new.host))) (g.D.Disk.flash c.args.disk.now).reads made (g.L.Launcher.launches c.args.launcher.now) (g.L.Launcher.launches c.start.new.launcher) end)
     ((g.D.Disk.flash c.start.new.disk).reads ≡ (g.D.Disk.flash c.args.disk.now).reads) c.args.layout.now (g.D.Disk.flash c.args.disk.now).reads (g.D.Disk.flash c.start.new.disk).reads (g.L.Launcher.launches c.args.launcher.now) (g.L.Launcher.launches c.start.new.launcher) c.start.result
-    (held_of c.as_ref-held.result) (recorded_as (head_of VERSION_1 (g.D.Disk.flash c.args.disk.now).reads) c.as_ref-held.result c.in-Ok.pages.held c.as_ref-held.ensures.value (pages_first (g.D.Disk.extent c.args.disk.now) c.args.frame c.requires.frame (g.D.Disk.flash c.args.disk.now).reads c.in-Ok.pages (c.in-Ok.ensures.exact t)).held)
+    (held_of c.as_ref-held.result) (recorded_as c.args.frame (head_of c.args.frame (g.D.Disk.flash c.args.disk.now).reads) c.as_ref-held.result c.in-Ok.pages.held c.as_ref-held.ensures.value (c.in-Ok.ensures.exact t).held)
     (subst (λ (l : List ℕ). PlayedSo (λ made end. PlaysUpdate c.args.layout.now c.args.places.now (update_tree c.args.manifest.now c.args.members.now) (held_of c.as_ref-held.result) (sources payloads c.args.uris.now (hosted g.H.Host.told (g.H.Host.file c.args.host.now) (g.H.Host.asked c.args.host.now) (g.H.Host.asked c.start.new.host))) l made (g.L.Launcher.launches c.args.launcher.now) (g.L.Launcher.launches c.start.new.launcher) end) ((g.D.Disk.flash c.start.new.disk).reads ≡ l) c.args.layout.now (g.D.Disk.flash c.start.new.disk).reads (g.L.Launcher.launches c.args.launcher.now) (g.L.Launcher.launches c.start.new.launcher) c.start.result) (c.in-Ok.ensures.same t).reads (subst (λ (tree : PlanTree). PlayedSo (λ made end. PlaysUpdate c.args.layout.now c.args.places.now tree (held_of c.as_ref-held.result) (sources payloads c.args.uris.now (hosted g.H.Host.told (g.H.Host.file c.args.host.now) (g.H.Host.asked c.args.host.now) (g.H.Host.asked c.start.new.host))) (g.D.Disk.flash c.load_pages_by.new.disk).reads made (g.L.Launcher.launches c.args.launcher.now) (g.L.Launcher.launches c.start.new.launcher) end) ((g.D.Disk.flash c.start.new.disk).reads ≡ (g.D.Disk.flash c.load_pages_by.new.disk).reads) c.args.layout.now (g.D.Disk.flash c.start.new.disk).reads (g.L.Launcher.launches c.args.launcher.now) (g.L.Launcher.launches c.start.new.launcher) c.start.result) c.update_plan-plan.ensures (c.start.ensures.plays t tl payloads has)))
 
 pub returns-clause-keeps : goal.returns-clause-keeps
 returns-clause-keeps g c t settled =
     let still = settled_still (g.D.Disk.flash c.args.disk.now) (g.D.Disk.flash c.load_pages_by.new.disk) (g.D.Disk.extent c.args.disk.now) (subst (λ (n : ℕ). IsFlash (g.D.Disk.flash c.load_pages_by.new.disk) n) c.in-Ok.ensures.size (g.met.D.Disk.obeys c.load_pages_by.new.disk t)) (c.in-Ok.ensures.same t) settled in
-    for_offer c.record_laws.ensures.answer (g.D.Disk.flash c.args.disk.now).reads c.args.envelope.now.wrapper.now
-    (λ held digest. KeptSo (KeepsUpdate c.args.layout.now c.args.places.now (update_tree c.args.manifest.now c.args.members.now) (λ made. IsTrue g.H.Host.told → IsTrue g.L.Launcher.told → PlaysToEnd c.args.layout.now c.args.places.now (update_tree c.args.manifest.now c.args.members.now) held c.args.envelope.now.whole.now c.args.uris.now (g.H.Host.file c.args.host.now) (g.D.Disk.flash c.args.disk.now).reads (g.L.Launcher.launches c.args.launcher.now) (g.L.Launcher.launches c.start.new.launcher) made) held (λ numbers. new_record held (g.D.Disk.flash c.args.disk.now).reads (trimmed c.args.envelope.now.wrapper.now c.args.envelope.now.manifest.now) c.args.manifest.now.sequence digest numbers) (g.D.Disk.flash c.args.disk.now) (g.D.Disk.flash c.start.new.disk) c.start.result) (IsSame (g.D.Disk.flash c.args.disk.now) (g.D.Disk.flash c.start.new.disk)) c.start.result)
-    (held_of c.as_ref-held.result) c.stated_digest-digest.result (recorded_as (head_of VERSION_1 (g.D.Disk.flash c.args.disk.now).reads) c.as_ref-held.result c.in-Ok.pages.held c.as_ref-held.ensures.value (pages_first (g.D.Disk.extent c.args.disk.now) c.args.frame c.requires.frame (g.D.Disk.flash c.args.disk.now).reads c.in-Ok.pages (c.in-Ok.ensures.exact t)).held) c.stated_digest-digest.ensures
-    (kept_from _ _ _ _ (keeps_from (g.D.Disk.flash c.args.disk.now) (g.D.Disk.flash c.load_pages_by.new.disk) (g.D.Disk.flash c.start.new.disk) (c.in-Ok.ensures.same t) (g.D.Disk.extent c.args.disk.now) (g.met.D.Disk.obeys c.args.disk.now t) c.args.layout.now (layout_first (g.D.Disk.extent c.args.disk.now) c.args.frame c.requires.frame c.args.layout.now c.requires.layout) c.args.places.now (update_tree c.args.manifest.now c.args.members.now) (held_of c.as_ref-held.result) (config_first (g.D.Disk.extent c.args.disk.now) (g.D.Disk.flash c.args.disk.now).reads c.args.layout.now c.args.frame (c.requires.config t)).0 (config_first (g.D.Disk.extent c.args.disk.now) (g.D.Disk.flash c.args.disk.now).reads c.args.layout.now c.args.frame (c.requires.config t)).1 settled (recorded_as (head_of VERSION_1 (g.D.Disk.flash c.args.disk.now).reads) c.as_ref-held.result c.in-Ok.pages.held c.as_ref-held.ensures.value (pages_first (g.D.Disk.extent c.args.disk.now) c.args.frame c.requires.frame (g.D.Disk.flash c.args.disk.now).reads c.in-Ok.pages (c.in-Ok.ensures.exact t)).held) (trimmed c.args.envelope.now.wrapper.now c.args.envelope.now.manifest.now) c.args.manifest.now.sequence c.stated_digest-digest.result
+    for_offer c.record_laws.ensures.answer c.args.frame (g.D.Disk.flash c.args.disk.now).reads c.args.envelope.now.wrapper.now
+    (λ held digest. KeptSo (KeepsUpdate c.args.frame c.args.layout.now c.args.places.now (update_tree c.args.manifest.now c.args.members.now) (λ made. IsTrue g.H.Host.told → IsTrue g.L.Launcher.told → PlaysToEnd c.args.layout.now c.args.places.now (update_tree c.args.manifest.now c.args.members.now) held c.args.envelope.now.whole.now c.args.uris.now (g.H.Host.file c.args.host.now) (g.D.Disk.flash c.args.disk.now).reads (g.L.Launcher.launches c.args.launcher.now) (g.L.Launcher.launches c.start.new.launcher) made) held (λ numbers. new_record c.args.frame held (g.D.Disk.flash c.args.disk.now).reads (trimmed c.args.envelope.now.wrapper.now c.args.envelope.now.manifest.now) c.args.manifest.now.sequence digest numbers) (g.D.Disk.flash c.args.disk.now) (g.D.Disk.flash c.start.new.disk) c.start.result) (IsSame (g.D.Disk.flash c.args.disk.now) (g.D.Disk.flash c.start.new.disk)) c.start.result)
+    (held_of c.as_ref-held.result) c.stated_digest-digest.result (recorded_as c.args.frame (head_of c.args.frame (g.D.Disk.flash c.args.disk.now).reads) c.as_ref-held.result c.in-Ok.pages.held c.as_ref-held.ensures.value (c.in-Ok.ensures.exact t).held) c.stated_digest-digest.ensures
+    (kept_from _ _ _ _ (keeps_from (g.D.Disk.flash c.args.disk.now) (g.D.Disk.flash c.load_pages_by.new.disk) (g.D.Disk.flash c.start.new.disk) (c.in-Ok.ensures.same t) c.args.frame (g.D.Disk.extent c.args.disk.now) (g.met.D.Disk.obeys c.args.disk.now t) c.args.layout.now c.requires.layout c.args.places.now (update_tree c.args.manifest.now c.args.members.now) (held_of c.as_ref-held.result) (c.requires.config t).0 (c.requires.config t).1 settled (recorded_as c.args.frame (head_of c.args.frame (g.D.Disk.flash c.args.disk.now).reads) c.as_ref-held.result c.in-Ok.pages.held c.as_ref-held.ensures.value (c.in-Ok.ensures.exact t).held) (trimmed c.args.envelope.now.wrapper.now c.args.envelope.now.manifest.now) c.args.manifest.now.sequence c.stated_digest-digest.result
     (λ made. IsTrue g.H.Host.told → IsTrue g.L.Launcher.told → PlaysToEnd c.args.layout.now c.args.places.now (update_tree c.args.manifest.now c.args.members.now) (held_of c.as_ref-held.result) c.args.envelope.now.whole.now c.args.uris.now (g.H.Host.file c.args.host.now) (g.D.Disk.flash c.load_pages_by.new.disk).reads (g.L.Launcher.launches c.args.launcher.now) (g.L.Launcher.launches c.start.new.launcher) made)
     (λ made. IsTrue g.H.Host.told → IsTrue g.L.Launcher.told → PlaysToEnd c.args.layout.now c.args.places.now (update_tree c.args.manifest.now c.args.members.now) (held_of c.as_ref-held.result) c.args.envelope.now.whole.now c.args.uris.now (g.H.Host.file c.args.host.now) (g.D.Disk.flash c.args.disk.now).reads (g.L.Launcher.launches c.args.launcher.now) (g.L.Launcher.launches c.start.new.launcher) made)
     (λ made did th tl. subst (λ (l : List ℕ). PlaysToEnd c.args.layout.now c.args.places.now (update_tree c.args.manifest.now c.args.members.now) (held_of c.as_ref-held.result) c.args.envelope.now.whole.now c.args.uris.now (g.H.Host.file c.args.host.now) l (g.L.Launcher.launches c.args.launcher.now) (g.L.Launcher.launches c.start.new.launcher) made) (c.in-Ok.ensures.same t).reads (did th tl))
     c.start.result)
-    (same_flash_then (g.D.Disk.flash c.args.disk.now) (g.D.Disk.flash c.load_pages_by.new.disk) (g.D.Disk.flash c.start.new.disk) (g.D.Disk.extent c.args.disk.now) (subst (λ (n : ℕ). IsFlash (g.D.Disk.flash c.load_pages_by.new.disk) n) c.in-Ok.ensures.size (g.met.D.Disk.obeys c.load_pages_by.new.disk t)) (c.in-Ok.ensures.same t)) c.start.result (subst (λ (tree : PlanTree). KeptSo (KeepsUpdate c.args.layout.now c.args.places.now tree (λ made. IsTrue g.H.Host.told → IsTrue g.L.Launcher.told → PlaysToEnd c.args.layout.now c.args.places.now tree (held_of c.as_ref-held.result) c.args.envelope.now.whole.now c.args.uris.now (g.H.Host.file c.args.host.now) (g.D.Disk.flash c.load_pages_by.new.disk).reads (g.L.Launcher.launches c.args.launcher.now) (g.L.Launcher.launches c.start.new.launcher) made) (held_of c.as_ref-held.result) (λ numbers. new_record (held_of c.as_ref-held.result) (g.D.Disk.flash c.load_pages_by.new.disk).reads (trimmed c.args.envelope.now.wrapper.now c.args.envelope.now.manifest.now) c.args.manifest.now.sequence c.stated_digest-digest.result numbers) (g.D.Disk.flash c.load_pages_by.new.disk) (g.D.Disk.flash c.start.new.disk) c.start.result) (IsSame (g.D.Disk.flash c.load_pages_by.new.disk) (g.D.Disk.flash c.start.new.disk)) c.start.result) c.update_plan-plan.ensures
-    (subst (λ (l : List ℕ). KeptSo (KeepsUpdate c.args.layout.now c.args.places.now (plan_tree c.update_plan-plan.result) (λ made. IsTrue g.H.Host.told → IsTrue g.L.Launcher.told → PlaysToEnd c.args.layout.now c.args.places.now (plan_tree c.update_plan-plan.result) (held_of c.as_ref-held.result) c.args.envelope.now.whole.now c.args.uris.now (g.H.Host.file c.args.host.now) (g.D.Disk.flash c.load_pages_by.new.disk).reads (g.L.Launcher.launches c.args.launcher.now) (g.L.Launcher.launches c.start.new.launcher) made) (held_of c.as_ref-held.result) (λ numbers. new_record (held_of c.as_ref-held.result) (g.D.Disk.flash c.load_pages_by.new.disk).reads l c.args.manifest.now.sequence c.stated_digest-digest.result numbers) (g.D.Disk.flash c.load_pages_by.new.disk) (g.D.Disk.flash c.start.new.disk) c.start.result) (IsSame (g.D.Disk.flash c.load_pages_by.new.disk) (g.D.Disk.flash c.start.new.disk)) c.start.result) (c.as_slice-whole.ensures ∙ c.in-Ok-installable.ensures.spelling) (c.start.ensures.keeps t still))))
+    (same_flash_then (g.D.Disk.flash c.args.disk.now) (g.D.Disk.flash c.load_pages_by.new.disk) (g.D.Disk.flash c.start.new.disk) (g.D.Disk.extent c.args.disk.now) (subst (λ (n : ℕ). IsFlash (g.D.Disk.flash c.load_pages_by.new.disk) n) c.in-Ok.ensures.size (g.met.D.Disk.obeys c.load_pages_by.new.disk t)) (c.in-Ok.ensures.same t)) c.start.result (subst (λ (tree : PlanTree). KeptSo (KeepsUpdate c.args.frame c.args.layout.now c.args.places.now tree (λ made. IsTrue g.H.Host.told → IsTrue g.L.Launcher.told → PlaysToEnd c.args.layout.now c.args.places.now tree (held_of c.as_ref-held.result) c.args.envelope.now.whole.now c.args.uris.now (g.H.Host.file c.args.host.now) (g.D.Disk.flash c.load_pages_by.new.disk).reads (g.L.Launcher.launches c.args.launcher.now) (g.L.Launcher.launches c.start.new.launcher) made) (held_of c.as_ref-held.result) (λ numbers. new_record c.args.frame (held_of c.as_ref-held.result) (g.D.Disk.flash c.load_pages_by.new.disk).reads (trimmed c.args.envelope.now.wrapper.now c.args.envelope.now.manifest.now) c.args.manifest.now.sequence c.stated_digest-digest.result numbers) (g.D.Disk.flash c.load_pages_by.new.disk) (g.D.Disk.flash c.start.new.disk) c.start.result) (IsSame (g.D.Disk.flash c.load_pages_by.new.disk) (g.D.Disk.flash c.start.new.disk)) c.start.result) c.update_plan-plan.ensures
+    (subst (λ (l : List ℕ). KeptSo (KeepsUpdate c.args.frame c.args.layout.now c.args.places.now (plan_tree c.update_plan-plan.result) (λ made. IsTrue g.H.Host.told → IsTrue g.L.Launcher.told → PlaysToEnd c.args.layout.now c.args.places.now (plan_tree c.update_plan-plan.result) (held_of c.as_ref-held.result) c.args.envelope.now.whole.now c.args.uris.now (g.H.Host.file c.args.host.now) (g.D.Disk.flash c.load_pages_by.new.disk).reads (g.L.Launcher.launches c.args.launcher.now) (g.L.Launcher.launches c.start.new.launcher) made) (held_of c.as_ref-held.result) (λ numbers. new_record c.args.frame (held_of c.as_ref-held.result) (g.D.Disk.flash c.load_pages_by.new.disk).reads l c.args.manifest.now.sequence c.stated_digest-digest.result numbers) (g.D.Disk.flash c.load_pages_by.new.disk) (g.D.Disk.flash c.start.new.disk) c.start.result) (IsSame (g.D.Disk.flash c.load_pages_by.new.disk) (g.D.Disk.flash c.start.new.disk)) c.start.result) (c.as_slice-whole.ensures ∙ c.in-Ok-installable.ensures.spelling) (c.start.ensures.keeps t still))))
 
 pub returns-in-Err-clause-left : goal.returns-in-Err-clause-left
 returns-in-Err-clause-left g c t held digest blocks there said = inl (c.in-Err.ensures.same t).reads
@@ -126,12 +124,12 @@ returns-in-Err-clause-left g c t held digest blocks there said = inl (c.in-Err.e
 pub returns-clause-left : goal.returns-clause-left
 returns-clause-left g c t =
     let after = (g.D.Disk.flash c.start.new.disk).reads in
-    let Left : Option Record → Digest → List ℕ → Type 0 = λ held digest before. KeptSo (LeavesUpdate c.args.layout.now c.args.places.now (update_tree c.args.manifest.now c.args.members.now) held (λ numbers. new_record held before (trimmed c.args.envelope.now.wrapper.now c.args.envelope.now.manifest.now) c.args.manifest.now.sequence digest numbers) before after c.start.result) (after ≡ before) c.start.result in
-    for_offer c.record_laws.ensures.answer (g.D.Disk.flash c.args.disk.now).reads c.args.envelope.now.wrapper.now
+    let Left : Option Record → Digest → List ℕ → Type 0 = λ held digest before. KeptSo (LeavesUpdate c.args.frame c.args.layout.now c.args.places.now (update_tree c.args.manifest.now c.args.members.now) held (λ numbers. new_record c.args.frame held before (trimmed c.args.envelope.now.wrapper.now c.args.envelope.now.manifest.now) c.args.manifest.now.sequence digest numbers) before after c.start.result) (after ≡ before) c.start.result in
+    for_offer c.record_laws.ensures.answer c.args.frame (g.D.Disk.flash c.args.disk.now).reads c.args.envelope.now.wrapper.now
     (λ held digest. Left held digest (g.D.Disk.flash c.args.disk.now).reads)
-    (held_of c.as_ref-held.result) c.stated_digest-digest.result (recorded_as (head_of VERSION_1 (g.D.Disk.flash c.args.disk.now).reads) c.as_ref-held.result c.in-Ok.pages.held c.as_ref-held.ensures.value (pages_first (g.D.Disk.extent c.args.disk.now) c.args.frame c.requires.frame (g.D.Disk.flash c.args.disk.now).reads c.in-Ok.pages (c.in-Ok.ensures.exact t)).held) c.stated_digest-digest.ensures
-    (subst (λ (l : List ℕ). Left (held_of c.as_ref-held.result) c.stated_digest-digest.result l) (c.in-Ok.ensures.same t).reads (subst (λ (tree : PlanTree). KeptSo (LeavesUpdate c.args.layout.now c.args.places.now tree (held_of c.as_ref-held.result) (λ numbers. new_record (held_of c.as_ref-held.result) (g.D.Disk.flash c.load_pages_by.new.disk).reads (trimmed c.args.envelope.now.wrapper.now c.args.envelope.now.manifest.now) c.args.manifest.now.sequence c.stated_digest-digest.result numbers) (g.D.Disk.flash c.load_pages_by.new.disk).reads after c.start.result) (after ≡ (g.D.Disk.flash c.load_pages_by.new.disk).reads) c.start.result) c.update_plan-plan.ensures
-    (subst (λ (l : List ℕ). KeptSo (LeavesUpdate c.args.layout.now c.args.places.now (plan_tree c.update_plan-plan.result) (held_of c.as_ref-held.result) (λ numbers. new_record (held_of c.as_ref-held.result) (g.D.Disk.flash c.load_pages_by.new.disk).reads l c.args.manifest.now.sequence c.stated_digest-digest.result numbers) (g.D.Disk.flash c.load_pages_by.new.disk).reads after c.start.result) (after ≡ (g.D.Disk.flash c.load_pages_by.new.disk).reads) c.start.result) (c.as_slice-whole.ensures ∙ c.in-Ok-installable.ensures.spelling) (c.start.ensures.left t))))
+    (held_of c.as_ref-held.result) c.stated_digest-digest.result (recorded_as c.args.frame (head_of c.args.frame (g.D.Disk.flash c.args.disk.now).reads) c.as_ref-held.result c.in-Ok.pages.held c.as_ref-held.ensures.value (c.in-Ok.ensures.exact t).held) c.stated_digest-digest.ensures
+    (subst (λ (l : List ℕ). Left (held_of c.as_ref-held.result) c.stated_digest-digest.result l) (c.in-Ok.ensures.same t).reads (subst (λ (tree : PlanTree). KeptSo (LeavesUpdate c.args.frame c.args.layout.now c.args.places.now tree (held_of c.as_ref-held.result) (λ numbers. new_record c.args.frame (held_of c.as_ref-held.result) (g.D.Disk.flash c.load_pages_by.new.disk).reads (trimmed c.args.envelope.now.wrapper.now c.args.envelope.now.manifest.now) c.args.manifest.now.sequence c.stated_digest-digest.result numbers) (g.D.Disk.flash c.load_pages_by.new.disk).reads after c.start.result) (after ≡ (g.D.Disk.flash c.load_pages_by.new.disk).reads) c.start.result) c.update_plan-plan.ensures
+    (subst (λ (l : List ℕ). KeptSo (LeavesUpdate c.args.frame c.args.layout.now c.args.places.now (plan_tree c.update_plan-plan.result) (held_of c.as_ref-held.result) (λ numbers. new_record c.args.frame (held_of c.as_ref-held.result) (g.D.Disk.flash c.load_pages_by.new.disk).reads l c.args.manifest.now.sequence c.stated_digest-digest.result numbers) (g.D.Disk.flash c.load_pages_by.new.disk).reads after c.start.result) (after ≡ (g.D.Disk.flash c.load_pages_by.new.disk).reads) c.start.result) (c.as_slice-whole.ensures ∙ c.in-Ok-installable.ensures.spelling) (c.start.ensures.left t))))
 
 pub returns-in-Err-clause-later : goal.returns-in-Err-clause-later
 returns-in-Err-clause-later g c t = (c.in-Err.ensures.same t).images.later
@@ -147,11 +145,11 @@ returns-clause-grows g c t =
 pub returns-clause-sound : goal.returns-clause-sound
 returns-clause-sound g c t settled =
     let still = settled_still (g.D.Disk.flash c.args.disk.now) (g.D.Disk.flash c.load_pages_by.new.disk) (g.D.Disk.extent c.args.disk.now) (subst (λ (n : ℕ). IsFlash (g.D.Disk.flash c.load_pages_by.new.disk) n) c.in-Ok.ensures.size (g.met.D.Disk.obeys c.load_pages_by.new.disk t)) (c.in-Ok.ensures.same t) settled in
-    for_offer c.record_laws.ensures.answer (g.D.Disk.flash c.args.disk.now).reads c.args.envelope.now.wrapper.now
-    (λ held digest. ((numbers : List ℕ) → AreChosen c.args.layout.now c.args.places.now (update_tree c.args.manifest.now c.args.members.now) (active_slots held) numbers → MayBeInstalled (g.D.Disk.flash c.args.disk.now).reads (trimmed c.args.envelope.now.wrapper.now c.args.envelope.now.manifest.now) (new_record held (g.D.Disk.flash c.args.disk.now).reads (trimmed c.args.envelope.now.wrapper.now c.args.envelope.now.manifest.now) c.args.manifest.now.sequence digest numbers)) → Passes (g.D.Disk.flash c.args.disk.now) (g.D.Disk.flash c.start.new.disk) Sound)
-    (held_of c.as_ref-held.result) c.stated_digest-digest.result (recorded_as (head_of VERSION_1 (g.D.Disk.flash c.args.disk.now).reads) c.as_ref-held.result c.in-Ok.pages.held c.as_ref-held.ensures.value (pages_first (g.D.Disk.extent c.args.disk.now) c.args.frame c.requires.frame (g.D.Disk.flash c.args.disk.now).reads c.in-Ok.pages (c.in-Ok.ensures.exact t)).held) c.stated_digest-digest.ensures
-    (λ may. sound_from (g.D.Disk.flash c.args.disk.now) (g.D.Disk.flash c.load_pages_by.new.disk) (g.D.Disk.flash c.start.new.disk) (c.in-Ok.ensures.same t) settled (c.start.ensures.sound t still (λ numbers chosen. subst (λ (l : List ℕ). MayBeInstalled (g.D.Disk.flash c.load_pages_by.new.disk).reads l (new_record (held_of c.as_ref-held.result) (g.D.Disk.flash c.load_pages_by.new.disk).reads l c.args.manifest.now.sequence c.stated_digest-digest.result numbers)) (sym (c.as_slice-whole.ensures ∙ c.in-Ok-installable.ensures.spelling))
-    (subst (λ (l : List ℕ). MayBeInstalled l (trimmed c.args.envelope.now.wrapper.now c.args.envelope.now.manifest.now) (new_record (held_of c.as_ref-held.result) l (trimmed c.args.envelope.now.wrapper.now c.args.envelope.now.manifest.now) c.args.manifest.now.sequence c.stated_digest-digest.result numbers)) (sym (c.in-Ok.ensures.same t).reads) (may numbers (subst (λ (tree : PlanTree). AreChosen c.args.layout.now c.args.places.now tree (active_slots (held_of c.as_ref-held.result)) numbers) c.update_plan-plan.ensures chosen))))))
+    for_offer c.record_laws.ensures.answer c.args.frame (g.D.Disk.flash c.args.disk.now).reads c.args.envelope.now.wrapper.now
+    (λ held digest. ((numbers : List ℕ) → AreChosen c.args.layout.now c.args.places.now (update_tree c.args.manifest.now c.args.members.now) (active_slots held) numbers → MayBeInstalled c.args.frame (g.D.Disk.flash c.args.disk.now).reads (trimmed c.args.envelope.now.wrapper.now c.args.envelope.now.manifest.now) (new_record c.args.frame held (g.D.Disk.flash c.args.disk.now).reads (trimmed c.args.envelope.now.wrapper.now c.args.envelope.now.manifest.now) c.args.manifest.now.sequence digest numbers)) → Passes (g.D.Disk.flash c.args.disk.now) (g.D.Disk.flash c.start.new.disk) Sound)
+    (held_of c.as_ref-held.result) c.stated_digest-digest.result (recorded_as c.args.frame (head_of c.args.frame (g.D.Disk.flash c.args.disk.now).reads) c.as_ref-held.result c.in-Ok.pages.held c.as_ref-held.ensures.value (c.in-Ok.ensures.exact t).held) c.stated_digest-digest.ensures
+    (λ may. sound_from (g.D.Disk.flash c.args.disk.now) (g.D.Disk.flash c.load_pages_by.new.disk) (g.D.Disk.flash c.start.new.disk) (c.in-Ok.ensures.same t) settled (c.start.ensures.sound t still (λ numbers chosen. subst (λ (l : List ℕ). MayBeInstalled c.args.frame (g.D.Disk.flash c.load_pages_by.new.disk).reads l (new_record c.args.frame (held_of c.as_ref-held.result) (g.D.Disk.flash c.load_pages_by.new.disk).reads l c.args.manifest.now.sequence c.stated_digest-digest.result numbers)) (sym (c.as_slice-whole.ensures ∙ c.in-Ok-installable.ensures.spelling))
+    (subst (λ (l : List ℕ). MayBeInstalled c.args.frame l (trimmed c.args.envelope.now.wrapper.now c.args.envelope.now.manifest.now) (new_record c.args.frame (held_of c.as_ref-held.result) l (trimmed c.args.envelope.now.wrapper.now c.args.envelope.now.manifest.now) c.args.manifest.now.sequence c.stated_digest-digest.result numbers)) (sym (c.in-Ok.ensures.same t).reads) (may numbers (subst (λ (tree : PlanTree). AreChosen c.args.layout.now c.args.places.now tree (active_slots (held_of c.as_ref-held.result)) numbers) c.update_plan-plan.ensures chosen))))))
 
 pub returns-clause-follows : goal.returns-clause-follows
 returns-clause-follows g c t settled =
@@ -180,15 +178,15 @@ start-requires-clause-judged g c =
 
 pub start-requires-clause-fits : goal.start-requires-clause-fits
 start-requires-clause-fits g c =
-    subst (λ (l : List ℕ). length l ≤ 16384) (sym (c.as_slice-whole.ensures ∙ c.in-Ok-installable.ensures.spelling)) c.requires.fits
+    subst (λ (l : List ℕ). length l ≤ bank_size c.args.frame) (sym (c.as_slice-whole.ensures ∙ c.in-Ok-installable.ensures.spelling)) c.requires.fits
 
 -- ---- where it ends before anything was launched or written
 
 pub returns-in-Err-installable-clause-judged : goal.returns-in-Err-installable-clause-judged
 returns-in-Err-installable-clause-judged g c t =
-    for_offer c.record_laws.ensures.answer (g.D.Disk.flash c.args.disk.now).reads c.args.envelope.now.wrapper.now
+    for_offer c.record_laws.ensures.answer c.args.frame (g.D.Disk.flash c.args.disk.now).reads c.args.envelope.now.wrapper.now
     (λ held digest. JudgedSo c.args.manifest.now.sequence digest held c.in-Err-installable.end)
-    (held_of c.as_ref-held.result) c.stated_digest-digest.result (recorded_as (head_of VERSION_1 (g.D.Disk.flash c.args.disk.now).reads) c.as_ref-held.result c.in-Ok.pages.held c.as_ref-held.ensures.value (pages_first (g.D.Disk.extent c.args.disk.now) c.args.frame c.requires.frame (g.D.Disk.flash c.args.disk.now).reads c.in-Ok.pages (c.in-Ok.ensures.exact t)).held) c.stated_digest-digest.ensures
+    (held_of c.as_ref-held.result) c.stated_digest-digest.result (recorded_as c.args.frame (head_of c.args.frame (g.D.Disk.flash c.args.disk.now).reads) c.as_ref-held.result c.in-Ok.pages.held c.as_ref-held.ensures.value (c.in-Ok.ensures.exact t).held) c.stated_digest-digest.ensures
     c.in-Err-installable.ensures.judged
 
 pub returns-in-Err-installable-clause-counts : goal.returns-in-Err-installable-clause-counts
@@ -227,18 +225,18 @@ returns-in-Err-installable-clause-settled g c t =
 pub returns-in-Err-installable-clause-later : goal.returns-in-Err-installable-clause-later
 returns-in-Err-installable-clause-later g c t = (c.in-Ok.ensures.same t).images.later
 
--- ---- by the frame of version 1
+-- ---- by the frame
 
 pub start-requires-clause-layout : goal.start-requires-clause-layout
 start-requires-clause-layout g c =
-    subst (λ (n : ℕ). IsLayout VERSION_1 n c.args.layout.now) (sym c.in-Ok.ensures.size) (layout_first (g.D.Disk.extent c.args.disk.now) c.args.frame c.requires.frame c.args.layout.now c.requires.layout)
+    subst (λ (n : ℕ). IsLayout c.args.frame n c.args.layout.now) (sym c.in-Ok.ensures.size) c.requires.layout
 
 pub start-requires-clause-config : goal.start-requires-clause-config
 start-requires-clause-config g c t =
     let layout = c.args.layout.now in
-    subst (λ (n : ℕ). HasLayout n (g.D.Disk.flash c.load_pages_by.new.disk).reads layout) (sym c.in-Ok.ensures.size)
-    (subst (λ (l : List ℕ). HasLayout (g.D.Disk.extent c.args.disk.now) l layout) (sym (c.in-Ok.ensures.same t).reads) (config_first (g.D.Disk.extent c.args.disk.now) (g.D.Disk.flash c.args.disk.now).reads layout c.args.frame (c.requires.config t)))
+    subst (λ (n : ℕ). HasLayout c.args.frame n (g.D.Disk.flash c.load_pages_by.new.disk).reads layout) (sym c.in-Ok.ensures.size)
+    (subst (λ (l : List ℕ). HasLayout c.args.frame (g.D.Disk.extent c.args.disk.now) l layout) (sym (c.in-Ok.ensures.same t).reads) (c.requires.config t))
 
 pub start-requires-clause-loadable : goal.start-requires-clause-loadable
 start-requires-clause-loadable g c =
-    loadable_as c.as_ref-held.result c.in-Ok.pages.held c.as_ref-held.ensures.value (loadable_first (g.D.Disk.extent c.args.disk.now) c.args.frame c.requires.frame c.in-Ok.pages.held c.in-Ok.ensures.loadable)
+    loadable_as c.args.frame c.as_ref-held.result c.in-Ok.pages.held c.as_ref-held.ensures.value c.in-Ok.ensures.loadable

@@ -9,10 +9,11 @@ use Rattle.step_machine.specs.UrisSet.{HasFetch}
 use Rattle.suit_edge.specs.Flash.{IsFlash, IsSame, IsSettled, Keeps, Now, Passes}
 use Rattle.suit_edge.specs.FlashLaws.{grows_start, grows_then, same_flash, starts}
 use Rattle.suit_envelope.specs.declared.envelope.Envelope.{Envelope}
-use Rattle.flash_layout.specs.declared.frame.TheConstants.{VERSION_1}
+use Rattle.flash_layout.specs.declared.frame.Frame.{Frame}
 use Rattle.flash_layout.specs.declared.slot.Record.{Record}
 use Rattle.flash_layout.specs.Frames.{IsFrame, head_of}
-use Rattle.flash_layout.specs.FirstFrame.{has_room}
+use Rattle.flash_layout.specs.FirstFrame.{to_first}
+use Rattle.flash_layout.specs.Layouts.{IsLayout}
 use Rattle.rollback_record.specs.Committing.{HasSpare}
 use Rattle.rollback_record.specs.HeadRecord.{RecordOf}
 use Rattle.rollback_record.specs.SettledLaws.{each_sound}
@@ -29,7 +30,7 @@ use Rattle.step_machine.proofs.Asking.{asks_none}
 use Rattle.update_proc.proofs.Finished.{after, counts_after, held_as, installed_as, no_earlier, not_worn, plays_update, reads_same, starts_after, stopped_at, stopped_by, stopped_or_done, told_at, told_by, told_plays, unfaulted}
 use Rattle.update_proc.proofs.InUseSlots.{chosen_as, in_use_as_held}
 use Rattle.update_proc.proofs.Installs.{held_or_same}
-use Rattle.update_proc.proofs.MomentProofs.{behind}
+use Rattle.update_proc.proofs.MomentProofs.{beside}
 use Rattle.rollback_record.proofs.HeadSince.{follows_now}
 use Rattle.update_proc.proofs.Started.{active_b, contents_made, contents_since, follows_all, head_b, moment_at_end, moments_of, new_as, new_at_end, new_is, old_all, old_at_end, sound_all, was_b}
 use Rattle.update_proc.proofs.starting.start.Goals as goal
@@ -38,7 +39,9 @@ abbrev held_of : Option (Bor Record) → Option Record
 held_of held = option_map (λ r. r.now) held
 
 pub choose_slots-slots-requires-clause-layout : goal.choose_slots-slots-requires-clause-layout
-choose_slots-slots-requires-clause-layout g c = (g.D.Disk.extent c.args.disk.now, c.requires.layout)
+choose_slots-slots-requires-clause-layout g c =
+    let size = g.D.Disk.extent c.args.disk.now in
+    (size, to_first size c.args.accepted.now.frame c.requires.frame (λ (f : Frame). IsLayout f size c.args.layout.now) c.requires.layout)
 
 pub choose_slots-slots-requires-clause-places : goal.choose_slots-slots-requires-clause-places
 choose_slots-slots-requires-clause-places g c = c.requires.distinct.few
@@ -108,7 +111,7 @@ pub program_of-program-requires-clause-manifest : goal.program_of-program-requir
 program_of-program-requires-clause-manifest g c = (c.requires.said.0, c.requires.said.2)
 
 pub run_plan-end-requires-clause-standings : goal.run_plan-end-requires-clause-standings
-run_plan-end-requires-clause-standings g c = c.in-Ok.ensures.fit VERSION_1 (g.D.Disk.extent c.args.disk.now) c.requires.layout
+run_plan-end-requires-clause-standings g c = c.in-Ok.ensures.fit c.args.accepted.now.frame (g.D.Disk.extent c.args.disk.now) c.requires.layout
 
 pub run_plan-end-requires-clause-plan : goal.run_plan-end-requires-clause-plan
 run_plan-end-requires-clause-plan g c = subst IsPlan (sym (c.program_of-program.ensures c.requires.said.0 c.requires.said.1 c.requires.said.2 c.requires.said.3 ∙ sym c.requires.said.4)) c.requires.plan
@@ -118,9 +121,9 @@ run_plan-end-requires-clause-count g c = ap (λ (x : PlanTree). x.count) (c.prog
 
 pub finish-requires-clause-ready : goal.finish-requires-clause-ready
 finish-requires-clause-ready g c = record {
-  large = subst (λ (n : ℕ). 49152 ≤ n) (sym c.run_plan-end.ensures.size) (has_room (g.D.Disk.extent c.args.disk.now) c.args.accepted.now.frame c.requires.frame);
+  frame_is = subst (λ (n : ℕ). IsFrame n c.args.accepted.now.frame) (sym c.run_plan-end.ensures.size) c.requires.frame;
   loadable = c.requires.loadable;
-  worn = not_worn (held_of c.args.accepted.now.held) c.args.accepted.now.sequence c.args.accepted.now.digest c.requires.loadable c.requires.judged;
+  worn = not_worn c.args.accepted.now.frame (held_of c.args.accepted.now.held) c.args.accepted.now.sequence c.args.accepted.now.digest c.requires.loadable c.requires.judged;
   fits = c.requires.fits;
 }
 
@@ -129,21 +132,21 @@ finish-requires-clause-frame g c = subst (λ (n : ℕ). IsFrame n c.args.accepte
 
 pub finish-requires-clause-held : goal.finish-requires-clause-held
 finish-requires-clause-held g c t =
-    let chosen = (chosen_as c.args.layout.now c.args.places.now (plan_tree c.args.accepted.now.plan.now) c.choose_slots-slots.ensures.chosen.0 (active_slots (held_of c.args.accepted.now.held)) c.choose_slots-slots.result.number (in_use_as_held (g.D.Disk.extent c.args.disk.now) (g.D.Disk.flash c.args.disk.now).reads c.args.layout.now (c.requires.config t).0 (held_of c.args.accepted.now.held) (c.requires.config t).1 (c.requires.held t) c.requires.loadable c.choose_slots-slots.ensures.chosen.0 c.choose_slots-slots.ensures.chosen.1) c.choose_slots-slots.ensures.chosen.2) in
+    let chosen = (chosen_as c.args.layout.now c.args.places.now (plan_tree c.args.accepted.now.plan.now) c.choose_slots-slots.ensures.chosen.0 (active_slots (held_of c.args.accepted.now.held)) c.choose_slots-slots.result.number (in_use_as_held c.args.accepted.now.frame (g.D.Disk.extent c.args.disk.now) (g.D.Disk.flash c.args.disk.now).reads c.args.layout.now (c.requires.config t).0 (held_of c.args.accepted.now.held) (c.requires.config t).1 (c.requires.held t) c.requires.loadable c.choose_slots-slots.ensures.chosen.0 c.choose_slots-slots.ensures.chosen.1) c.choose_slots-slots.ensures.chosen.2) in
     let law_b = (subst (λ (n : ℕ). IsFlash (g.D.Disk.flash c.run_plan-end.new.disk) n) c.run_plan-end.ensures.size (g.met.D.Disk.obeys c.run_plan-end.new.disk t)) in
-    was_b c.sound_laws.ensures c.moment_laws.ensures c.choice_laws.ensures (g.D.Disk.extent c.args.disk.now) (has_room (g.D.Disk.extent c.args.disk.now) c.args.accepted.now.frame c.requires.frame) c.args.layout.now c.requires.layout c.args.places.now (plan_tree c.args.accepted.now.plan.now) (held_of c.args.accepted.now.held) c.requires.loadable c.choose_slots-slots.result.number c.in-Ok.world.standings.items c.requires.distinct c.choose_slots-slots.ensures.choice c.in-Ok.ensures.stand chosen (g.D.Disk.flash c.args.disk.now) (g.D.Disk.flash c.run_plan-end.new.disk) (g.met.D.Disk.obeys c.args.disk.now t) law_b (c.requires.config t).0 (c.requires.config t).1 (c.requires.held t) (subst (λ (x : PlanTree). Keeps (OutsideTargets x c.in-Ok.world.standings.items) (g.D.Disk.flash c.args.disk.now) (g.D.Disk.flash c.run_plan-end.new.disk)) (c.program_of-program.ensures c.requires.said.0 c.requires.said.1 c.requires.said.2 c.requires.said.3 ∙ sym c.requires.said.4) (c.run_plan-end.ensures.keeps t))
+    was_b c.sound_laws.ensures c.moment_laws.ensures c.choice_laws.ensures c.args.accepted.now.frame (g.D.Disk.extent c.args.disk.now) c.requires.frame c.args.layout.now c.requires.layout c.args.places.now (plan_tree c.args.accepted.now.plan.now) (held_of c.args.accepted.now.held) c.requires.loadable c.choose_slots-slots.result.number c.in-Ok.world.standings.items c.requires.distinct c.choose_slots-slots.ensures.choice c.in-Ok.ensures.stand chosen (g.D.Disk.flash c.args.disk.now) (g.D.Disk.flash c.run_plan-end.new.disk) (g.met.D.Disk.obeys c.args.disk.now t) law_b (c.requires.config t).0 (c.requires.config t).1 (c.requires.held t) (subst (λ (x : PlanTree). Keeps (OutsideTargets x c.in-Ok.world.standings.items) (g.D.Disk.flash c.args.disk.now) (g.D.Disk.flash c.run_plan-end.new.disk)) (c.program_of-program.ensures c.requires.said.0 c.requires.said.1 c.requires.said.2 c.requires.said.3 ∙ sym c.requires.said.4) (c.run_plan-end.ensures.keeps t))
 
 pub finish-requires-clause-spare : goal.finish-requires-clause-spare
 finish-requires-clause-spare g c t =
-    let chosen = (chosen_as c.args.layout.now c.args.places.now (plan_tree c.args.accepted.now.plan.now) c.choose_slots-slots.ensures.chosen.0 (active_slots (held_of c.args.accepted.now.held)) c.choose_slots-slots.result.number (in_use_as_held (g.D.Disk.extent c.args.disk.now) (g.D.Disk.flash c.args.disk.now).reads c.args.layout.now (c.requires.config t).0 (held_of c.args.accepted.now.held) (c.requires.config t).1 (c.requires.held t) c.requires.loadable c.choose_slots-slots.ensures.chosen.0 c.choose_slots-slots.ensures.chosen.1) c.choose_slots-slots.ensures.chosen.2) in
+    let chosen = (chosen_as c.args.layout.now c.args.places.now (plan_tree c.args.accepted.now.plan.now) c.choose_slots-slots.ensures.chosen.0 (active_slots (held_of c.args.accepted.now.held)) c.choose_slots-slots.result.number (in_use_as_held c.args.accepted.now.frame (g.D.Disk.extent c.args.disk.now) (g.D.Disk.flash c.args.disk.now).reads c.args.layout.now (c.requires.config t).0 (held_of c.args.accepted.now.held) (c.requires.config t).1 (c.requires.held t) c.requires.loadable c.choose_slots-slots.ensures.chosen.0 c.choose_slots-slots.ensures.chosen.1) c.choose_slots-slots.ensures.chosen.2) in
     let law_b = (subst (λ (n : ℕ). IsFlash (g.D.Disk.flash c.run_plan-end.new.disk) n) c.run_plan-end.ensures.size (g.met.D.Disk.obeys c.run_plan-end.new.disk t)) in
-    subst (λ (h : List ℕ). HasSpare VERSION_1 h (held_of c.args.accepted.now.held) c.args.accepted.now.spare) (sym (head_b c.sound_laws.ensures c.moment_laws.ensures c.choice_laws.ensures (g.D.Disk.extent c.args.disk.now) (has_room (g.D.Disk.extent c.args.disk.now) c.args.accepted.now.frame c.requires.frame) c.args.layout.now c.requires.layout c.args.places.now (plan_tree c.args.accepted.now.plan.now) (held_of c.args.accepted.now.held) c.requires.loadable c.choose_slots-slots.result.number c.in-Ok.world.standings.items c.requires.distinct c.choose_slots-slots.ensures.choice c.in-Ok.ensures.stand chosen (g.D.Disk.flash c.args.disk.now) (g.D.Disk.flash c.run_plan-end.new.disk) (g.met.D.Disk.obeys c.args.disk.now t) law_b (c.requires.config t).0 (c.requires.config t).1 (c.requires.held t) (subst (λ (x : PlanTree). Keeps (OutsideTargets x c.in-Ok.world.standings.items) (g.D.Disk.flash c.args.disk.now) (g.D.Disk.flash c.run_plan-end.new.disk)) (c.program_of-program.ensures c.requires.said.0 c.requires.said.1 c.requires.said.2 c.requires.said.3 ∙ sym c.requires.said.4) (c.run_plan-end.ensures.keeps t)))) (c.requires.spare t)
+    subst (λ (h : List ℕ). HasSpare c.args.accepted.now.frame h (held_of c.args.accepted.now.held) c.args.accepted.now.spare) (sym (head_b c.sound_laws.ensures c.moment_laws.ensures c.choice_laws.ensures c.args.accepted.now.frame (g.D.Disk.extent c.args.disk.now) c.requires.frame c.args.layout.now c.requires.layout c.args.places.now (plan_tree c.args.accepted.now.plan.now) (held_of c.args.accepted.now.held) c.requires.loadable c.choose_slots-slots.result.number c.in-Ok.world.standings.items c.requires.distinct c.choose_slots-slots.ensures.choice c.in-Ok.ensures.stand chosen (g.D.Disk.flash c.args.disk.now) (g.D.Disk.flash c.run_plan-end.new.disk) (g.met.D.Disk.obeys c.args.disk.now t) law_b (c.requires.config t).0 (c.requires.config t).1 (c.requires.held t) (subst (λ (x : PlanTree). Keeps (OutsideTargets x c.in-Ok.world.standings.items) (g.D.Disk.flash c.args.disk.now) (g.D.Disk.flash c.run_plan-end.new.disk)) (c.program_of-program.ensures c.requires.said.0 c.requires.said.1 c.requires.said.2 c.requires.said.3 ∙ sym c.requires.said.4) (c.run_plan-end.ensures.keeps t)))) (c.requires.spare t)
 
 pub finish-requires-clause-active : goal.finish-requires-clause-active
 finish-requires-clause-active g c t =
-    let chosen = (chosen_as c.args.layout.now c.args.places.now (plan_tree c.args.accepted.now.plan.now) c.choose_slots-slots.ensures.chosen.0 (active_slots (held_of c.args.accepted.now.held)) c.choose_slots-slots.result.number (in_use_as_held (g.D.Disk.extent c.args.disk.now) (g.D.Disk.flash c.args.disk.now).reads c.args.layout.now (c.requires.config t).0 (held_of c.args.accepted.now.held) (c.requires.config t).1 (c.requires.held t) c.requires.loadable c.choose_slots-slots.ensures.chosen.0 c.choose_slots-slots.ensures.chosen.1) c.choose_slots-slots.ensures.chosen.2) in
+    let chosen = (chosen_as c.args.layout.now c.args.places.now (plan_tree c.args.accepted.now.plan.now) c.choose_slots-slots.ensures.chosen.0 (active_slots (held_of c.args.accepted.now.held)) c.choose_slots-slots.result.number (in_use_as_held c.args.accepted.now.frame (g.D.Disk.extent c.args.disk.now) (g.D.Disk.flash c.args.disk.now).reads c.args.layout.now (c.requires.config t).0 (held_of c.args.accepted.now.held) (c.requires.config t).1 (c.requires.held t) c.requires.loadable c.choose_slots-slots.ensures.chosen.0 c.choose_slots-slots.ensures.chosen.1) c.choose_slots-slots.ensures.chosen.2) in
     let law_b = (subst (λ (n : ℕ). IsFlash (g.D.Disk.flash c.run_plan-end.new.disk) n) c.run_plan-end.ensures.size (g.met.D.Disk.obeys c.run_plan-end.new.disk t)) in
-    active_b c.sound_laws.ensures c.moment_laws.ensures c.choice_laws.ensures (g.D.Disk.extent c.args.disk.now) (has_room (g.D.Disk.extent c.args.disk.now) c.args.accepted.now.frame c.requires.frame) c.args.layout.now c.requires.layout c.args.places.now (plan_tree c.args.accepted.now.plan.now) (held_of c.args.accepted.now.held) c.requires.loadable c.choose_slots-slots.result.number c.in-Ok.world.standings.items c.requires.distinct c.choose_slots-slots.ensures.choice c.in-Ok.ensures.stand chosen (g.D.Disk.flash c.args.disk.now) (g.D.Disk.flash c.run_plan-end.new.disk) (g.met.D.Disk.obeys c.args.disk.now t) law_b (c.requires.config t).0 (c.requires.config t).1 (c.requires.held t) (subst (λ (x : PlanTree). Keeps (OutsideTargets x c.in-Ok.world.standings.items) (g.D.Disk.flash c.args.disk.now) (g.D.Disk.flash c.run_plan-end.new.disk)) (c.program_of-program.ensures c.requires.said.0 c.requires.said.1 c.requires.said.2 c.requires.said.3 ∙ sym c.requires.said.4) (c.run_plan-end.ensures.keeps t))
+    active_b c.sound_laws.ensures c.moment_laws.ensures c.choice_laws.ensures c.args.accepted.now.frame (g.D.Disk.extent c.args.disk.now) c.requires.frame c.args.layout.now c.requires.layout c.args.places.now (plan_tree c.args.accepted.now.plan.now) (held_of c.args.accepted.now.held) c.requires.loadable c.choose_slots-slots.result.number c.in-Ok.world.standings.items c.requires.distinct c.choose_slots-slots.ensures.choice c.in-Ok.ensures.stand chosen (g.D.Disk.flash c.args.disk.now) (g.D.Disk.flash c.run_plan-end.new.disk) (g.met.D.Disk.obeys c.args.disk.now t) law_b (c.requires.config t).0 (c.requires.config t).1 (c.requires.held t) (subst (λ (x : PlanTree). Keeps (OutsideTargets x c.in-Ok.world.standings.items) (g.D.Disk.flash c.args.disk.now) (g.D.Disk.flash c.run_plan-end.new.disk)) (c.program_of-program.ensures c.requires.said.0 c.requires.said.1 c.requires.said.2 c.requires.said.3 ∙ sym c.requires.said.4) (c.run_plan-end.ensures.keeps t))
 
 pub returns-clause-size : goal.returns-clause-size
 returns-clause-size g c = c.finish.ensures.size ∙ c.run_plan-end.ensures.size
@@ -166,18 +169,18 @@ returns-clause-later g c t = omega (arith, (c.run_plan-end.ensures.keeps t).imag
 
 pub returns-clause-sound : goal.returns-clause-sound
 returns-clause-sound g c t settled may =
-    let chosen = (chosen_as c.args.layout.now c.args.places.now (plan_tree c.args.accepted.now.plan.now) c.choose_slots-slots.ensures.chosen.0 (active_slots (held_of c.args.accepted.now.held)) c.choose_slots-slots.result.number (in_use_as_held (g.D.Disk.extent c.args.disk.now) (g.D.Disk.flash c.args.disk.now).reads c.args.layout.now (c.requires.config t).0 (held_of c.args.accepted.now.held) (c.requires.config t).1 (c.requires.held t) c.requires.loadable c.choose_slots-slots.ensures.chosen.0 c.choose_slots-slots.ensures.chosen.1) c.choose_slots-slots.ensures.chosen.2) in
+    let chosen = (chosen_as c.args.layout.now c.args.places.now (plan_tree c.args.accepted.now.plan.now) c.choose_slots-slots.ensures.chosen.0 (active_slots (held_of c.args.accepted.now.held)) c.choose_slots-slots.result.number (in_use_as_held c.args.accepted.now.frame (g.D.Disk.extent c.args.disk.now) (g.D.Disk.flash c.args.disk.now).reads c.args.layout.now (c.requires.config t).0 (held_of c.args.accepted.now.held) (c.requires.config t).1 (c.requires.held t) c.requires.loadable c.choose_slots-slots.ensures.chosen.0 c.choose_slots-slots.ensures.chosen.1) c.choose_slots-slots.ensures.chosen.2) in
     let law_b = (subst (λ (n : ℕ). IsFlash (g.D.Disk.flash c.run_plan-end.new.disk) n) c.run_plan-end.ensures.size (g.met.D.Disk.obeys c.run_plan-end.new.disk t)) in
     let law_d = (subst (λ (n : ℕ). IsFlash (g.D.Disk.flash c.finish.new.disk) n) (c.finish.ensures.size ∙ c.run_plan-end.ensures.size) (g.met.D.Disk.obeys c.finish.new.disk t)) in
-    sound_all c.sound_laws.ensures c.moment_laws.ensures c.choice_laws.ensures (g.D.Disk.extent c.args.disk.now) (has_room (g.D.Disk.extent c.args.disk.now) c.args.accepted.now.frame c.requires.frame) c.args.layout.now c.requires.layout c.args.places.now (plan_tree c.args.accepted.now.plan.now) (held_of c.args.accepted.now.held) c.requires.loadable c.choose_slots-slots.result.number c.in-Ok.world.standings.items c.requires.distinct c.choose_slots-slots.ensures.choice c.in-Ok.ensures.stand chosen (g.D.Disk.flash c.args.disk.now) (g.D.Disk.flash c.run_plan-end.new.disk) (g.met.D.Disk.obeys c.args.disk.now t) law_b (c.requires.config t).0 (c.requires.config t).1 (c.requires.held t) (subst (λ (x : PlanTree). Keeps (OutsideTargets x c.in-Ok.world.standings.items) (g.D.Disk.flash c.args.disk.now) (g.D.Disk.flash c.run_plan-end.new.disk)) (c.program_of-program.ensures c.requires.said.0 c.requires.said.1 c.requires.said.2 c.requires.said.3 ∙ sym c.requires.said.4) (c.run_plan-end.ensures.keeps t)) settled c.args.accepted.now.bytes.now c.args.accepted.now.sequence c.args.accepted.now.digest c.requires.fits (g.D.Disk.flash c.finish.new.disk) law_d (c.finish.ensures.sound t) (may c.choose_slots-slots.result.number chosen)
+    sound_all c.sound_laws.ensures c.moment_laws.ensures c.choice_laws.ensures c.args.accepted.now.frame (g.D.Disk.extent c.args.disk.now) c.requires.frame c.args.layout.now c.requires.layout c.args.places.now (plan_tree c.args.accepted.now.plan.now) (held_of c.args.accepted.now.held) c.requires.loadable c.choose_slots-slots.result.number c.in-Ok.world.standings.items c.requires.distinct c.choose_slots-slots.ensures.choice c.in-Ok.ensures.stand chosen (g.D.Disk.flash c.args.disk.now) (g.D.Disk.flash c.run_plan-end.new.disk) (g.met.D.Disk.obeys c.args.disk.now t) law_b (c.requires.config t).0 (c.requires.config t).1 (c.requires.held t) (subst (λ (x : PlanTree). Keeps (OutsideTargets x c.in-Ok.world.standings.items) (g.D.Disk.flash c.args.disk.now) (g.D.Disk.flash c.run_plan-end.new.disk)) (c.program_of-program.ensures c.requires.said.0 c.requires.said.1 c.requires.said.2 c.requires.said.3 ∙ sym c.requires.said.4) (c.run_plan-end.ensures.keeps t)) settled c.args.accepted.now.bytes.now c.args.accepted.now.sequence c.args.accepted.now.digest c.requires.fits (g.D.Disk.flash c.finish.new.disk) law_d (c.finish.ensures.sound t) (may c.choose_slots-slots.result.number chosen)
 
 pub returns-clause-follows : goal.returns-clause-follows
 returns-clause-follows g c t settled =
-    let chosen = (chosen_as c.args.layout.now c.args.places.now (plan_tree c.args.accepted.now.plan.now) c.choose_slots-slots.ensures.chosen.0 (active_slots (held_of c.args.accepted.now.held)) c.choose_slots-slots.result.number (in_use_as_held (g.D.Disk.extent c.args.disk.now) (g.D.Disk.flash c.args.disk.now).reads c.args.layout.now (c.requires.config t).0 (held_of c.args.accepted.now.held) (c.requires.config t).1 (c.requires.held t) c.requires.loadable c.choose_slots-slots.ensures.chosen.0 c.choose_slots-slots.ensures.chosen.1) c.choose_slots-slots.ensures.chosen.2) in
+    let chosen = (chosen_as c.args.layout.now c.args.places.now (plan_tree c.args.accepted.now.plan.now) c.choose_slots-slots.ensures.chosen.0 (active_slots (held_of c.args.accepted.now.held)) c.choose_slots-slots.result.number (in_use_as_held c.args.accepted.now.frame (g.D.Disk.extent c.args.disk.now) (g.D.Disk.flash c.args.disk.now).reads c.args.layout.now (c.requires.config t).0 (held_of c.args.accepted.now.held) (c.requires.config t).1 (c.requires.held t) c.requires.loadable c.choose_slots-slots.ensures.chosen.0 c.choose_slots-slots.ensures.chosen.1) c.choose_slots-slots.ensures.chosen.2) in
     let law_b = (subst (λ (n : ℕ). IsFlash (g.D.Disk.flash c.run_plan-end.new.disk) n) c.run_plan-end.ensures.size (g.met.D.Disk.obeys c.run_plan-end.new.disk t)) in
     let law_d = (subst (λ (n : ℕ). IsFlash (g.D.Disk.flash c.finish.new.disk) n) (c.finish.ensures.size ∙ c.run_plan-end.ensures.size) (g.met.D.Disk.obeys c.finish.new.disk t)) in
-    follows_all c.sound_laws.ensures c.moment_laws.ensures c.choice_laws.ensures (g.D.Disk.extent c.args.disk.now) (has_room (g.D.Disk.extent c.args.disk.now) c.args.accepted.now.frame c.requires.frame) c.args.layout.now c.requires.layout c.args.places.now (plan_tree c.args.accepted.now.plan.now) (held_of c.args.accepted.now.held) c.requires.loadable c.choose_slots-slots.result.number c.in-Ok.world.standings.items c.requires.distinct c.choose_slots-slots.ensures.choice c.in-Ok.ensures.stand chosen (g.D.Disk.flash c.args.disk.now) (g.D.Disk.flash c.run_plan-end.new.disk) (g.met.D.Disk.obeys c.args.disk.now t) law_b (c.requires.config t).0 (c.requires.config t).1 (c.requires.held t) (subst (λ (x : PlanTree). Keeps (OutsideTargets x c.in-Ok.world.standings.items) (g.D.Disk.flash c.args.disk.now) (g.D.Disk.flash c.run_plan-end.new.disk)) (c.program_of-program.ensures c.requires.said.0 c.requires.said.1 c.requires.said.2 c.requires.said.3 ∙ sym c.requires.said.4) (c.run_plan-end.ensures.keeps t)) settled c.args.accepted.now.bytes.now c.args.accepted.now.sequence c.args.accepted.now.digest c.requires.fits (g.D.Disk.flash c.finish.new.disk) law_d (c.finish.ensures.follows t)
-    (no_earlier (held_of c.args.accepted.now.held) (new_record (held_of c.args.accepted.now.held) (g.D.Disk.flash c.run_plan-end.new.disk).reads c.args.accepted.now.bytes.now c.args.accepted.now.sequence c.args.accepted.now.digest c.choose_slots-slots.result.number) c.args.accepted.now.sequence c.args.accepted.now.digest refl refl c.requires.judged)
+    follows_all c.sound_laws.ensures c.moment_laws.ensures c.choice_laws.ensures c.args.accepted.now.frame (g.D.Disk.extent c.args.disk.now) c.requires.frame c.args.layout.now c.requires.layout c.args.places.now (plan_tree c.args.accepted.now.plan.now) (held_of c.args.accepted.now.held) c.requires.loadable c.choose_slots-slots.result.number c.in-Ok.world.standings.items c.requires.distinct c.choose_slots-slots.ensures.choice c.in-Ok.ensures.stand chosen (g.D.Disk.flash c.args.disk.now) (g.D.Disk.flash c.run_plan-end.new.disk) (g.met.D.Disk.obeys c.args.disk.now t) law_b (c.requires.config t).0 (c.requires.config t).1 (c.requires.held t) (subst (λ (x : PlanTree). Keeps (OutsideTargets x c.in-Ok.world.standings.items) (g.D.Disk.flash c.args.disk.now) (g.D.Disk.flash c.run_plan-end.new.disk)) (c.program_of-program.ensures c.requires.said.0 c.requires.said.1 c.requires.said.2 c.requires.said.3 ∙ sym c.requires.said.4) (c.run_plan-end.ensures.keeps t)) settled c.args.accepted.now.bytes.now c.args.accepted.now.sequence c.args.accepted.now.digest c.requires.fits (g.D.Disk.flash c.finish.new.disk) law_d (c.finish.ensures.follows t)
+    (no_earlier (held_of c.args.accepted.now.held) (new_record c.args.accepted.now.frame (held_of c.args.accepted.now.held) (g.D.Disk.flash c.run_plan-end.new.disk).reads c.args.accepted.now.bytes.now c.args.accepted.now.sequence c.args.accepted.now.digest c.choose_slots-slots.result.number) c.args.accepted.now.sequence c.args.accepted.now.digest refl refl c.requires.judged)
 
 pub returns-clause-settled : goal.returns-clause-settled
 returns-clause-settled g c t =
@@ -189,10 +192,10 @@ returns-clause-grows g c t =
 
 pub returns-clause-keeps : goal.returns-clause-keeps
 returns-clause-keeps g c t settled =
-    let chosen = (chosen_as c.args.layout.now c.args.places.now (plan_tree c.args.accepted.now.plan.now) c.choose_slots-slots.ensures.chosen.0 (active_slots (held_of c.args.accepted.now.held)) c.choose_slots-slots.result.number (in_use_as_held (g.D.Disk.extent c.args.disk.now) (g.D.Disk.flash c.args.disk.now).reads c.args.layout.now (c.requires.config t).0 (held_of c.args.accepted.now.held) (c.requires.config t).1 (c.requires.held t) c.requires.loadable c.choose_slots-slots.ensures.chosen.0 c.choose_slots-slots.ensures.chosen.1) c.choose_slots-slots.ensures.chosen.2) in
+    let chosen = (chosen_as c.args.layout.now c.args.places.now (plan_tree c.args.accepted.now.plan.now) c.choose_slots-slots.ensures.chosen.0 (active_slots (held_of c.args.accepted.now.held)) c.choose_slots-slots.result.number (in_use_as_held c.args.accepted.now.frame (g.D.Disk.extent c.args.disk.now) (g.D.Disk.flash c.args.disk.now).reads c.args.layout.now (c.requires.config t).0 (held_of c.args.accepted.now.held) (c.requires.config t).1 (c.requires.held t) c.requires.loadable c.choose_slots-slots.ensures.chosen.0 c.choose_slots-slots.ensures.chosen.1) c.choose_slots-slots.ensures.chosen.2) in
     let law_b = (subst (λ (n : ℕ). IsFlash (g.D.Disk.flash c.run_plan-end.new.disk) n) c.run_plan-end.ensures.size (g.met.D.Disk.obeys c.run_plan-end.new.disk t)) in
     let law_d = (subst (λ (n : ℕ). IsFlash (g.D.Disk.flash c.finish.new.disk) n) (c.finish.ensures.size ∙ c.run_plan-end.ensures.size) (g.met.D.Disk.obeys c.finish.new.disk t)) in
-    let moments = moments_of c.sound_laws.ensures c.moment_laws.ensures c.choice_laws.ensures (g.D.Disk.extent c.args.disk.now) (has_room (g.D.Disk.extent c.args.disk.now) c.args.accepted.now.frame c.requires.frame) c.args.layout.now c.requires.layout c.args.places.now (plan_tree c.args.accepted.now.plan.now) (held_of c.args.accepted.now.held) c.requires.loadable c.choose_slots-slots.result.number c.in-Ok.world.standings.items c.requires.distinct c.choose_slots-slots.ensures.choice c.in-Ok.ensures.stand chosen (g.D.Disk.flash c.args.disk.now) (g.D.Disk.flash c.run_plan-end.new.disk) (g.met.D.Disk.obeys c.args.disk.now t) law_b (c.requires.config t).0 (c.requires.config t).1 (c.requires.held t) (subst (λ (x : PlanTree). Keeps (OutsideTargets x c.in-Ok.world.standings.items) (g.D.Disk.flash c.args.disk.now) (g.D.Disk.flash c.run_plan-end.new.disk)) (c.program_of-program.ensures c.requires.said.0 c.requires.said.1 c.requires.said.2 c.requires.said.3 ∙ sym c.requires.said.4) (c.run_plan-end.ensures.keeps t)) settled c.args.accepted.now.bytes.now c.args.accepted.now.sequence c.args.accepted.now.digest c.requires.fits (g.D.Disk.flash c.finish.new.disk) law_d (c.finish.ensures.any_moment t) in
+    let moments = moments_of c.sound_laws.ensures c.moment_laws.ensures c.choice_laws.ensures c.args.accepted.now.frame (g.D.Disk.extent c.args.disk.now) c.requires.frame c.args.layout.now c.requires.layout c.args.places.now (plan_tree c.args.accepted.now.plan.now) (held_of c.args.accepted.now.held) c.requires.loadable c.choose_slots-slots.result.number c.in-Ok.world.standings.items c.requires.distinct c.choose_slots-slots.ensures.choice c.in-Ok.ensures.stand chosen (g.D.Disk.flash c.args.disk.now) (g.D.Disk.flash c.run_plan-end.new.disk) (g.met.D.Disk.obeys c.args.disk.now t) law_b (c.requires.config t).0 (c.requires.config t).1 (c.requires.held t) (subst (λ (x : PlanTree). Keeps (OutsideTargets x c.in-Ok.world.standings.items) (g.D.Disk.flash c.args.disk.now) (g.D.Disk.flash c.run_plan-end.new.disk)) (c.program_of-program.ensures c.requires.said.0 c.requires.said.1 c.requires.said.2 c.requires.said.3 ∙ sym c.requires.said.4) (c.run_plan-end.ensures.keeps t)) settled c.args.accepted.now.bytes.now c.args.accepted.now.sequence c.args.accepted.now.digest c.requires.fits (g.D.Disk.flash c.finish.new.disk) law_d (c.finish.ensures.any_moment t) in
     let b = g.D.Disk.flash c.run_plan-end.new.disk in
     let d = g.D.Disk.flash c.finish.new.disk in
     let Done : List ℕ → Type 0 = (λ made. IsTrue g.H.Host.told → IsTrue g.L.Launcher.told → PlaysToEnd c.args.layout.now c.args.places.now (plan_tree c.args.accepted.now.plan.now) (held_of c.args.accepted.now.held) c.args.accepted.now.envelope.now.whole.now c.args.accepted.now.uris.now (g.H.Host.file c.args.host.now) (g.D.Disk.flash c.args.disk.now).reads (g.L.Launcher.launches c.args.launcher.now) (g.L.Launcher.launches c.run_plan-end.new.launcher) made) in
@@ -203,12 +206,12 @@ returns-clause-keeps g c t settled =
           (plays_update c.args.layout.now c.args.places.now (plan_tree c.args.accepted.now.plan.now) (held_of c.args.accepted.now.held) payloads c.in-Ok.world.uris.now c.args.accepted.now.uris.now (hosted g.H.Host.told (g.H.Host.file c.args.host.now) (g.H.Host.asked c.args.host.now) (g.H.Host.asked c.run_plan-end.new.host)) (g.D.Disk.flash c.args.disk.now).reads (g.D.Disk.flash c.run_plan-end.new.disk).reads (g.L.Launcher.launches c.args.launcher.now) (g.L.Launcher.launches c.run_plan-end.new.launcher) c.run_plan-end.result c.choose_slots-slots.result.number c.in-Ok.world.standings.items c.in-Ok.world.ram c.run_plan-end.new.world.ram chosen c.choose_slots-slots.ensures.choice c.in-Ok.ensures.stand c.in-Ok.ensures.ram c.in-Ok.ensures.uris
           (program_tree c.program_of-program.result) (c.program_of-program.ensures c.requires.said.0 c.requires.said.1 c.requires.said.2 c.requires.said.3 ∙ sym c.requires.said.4) (c.run_plan-end.ensures.plays refl refl t tl payloads (subst (λ (e : Option (Bor Envelope)). ArePayloads e payloads) (sym c.in-Ok.ensures.envelope) has)))),
     ) in
-    let others = contents_made c.sound_laws.ensures c.moment_laws.ensures c.choice_laws.ensures (g.D.Disk.extent c.args.disk.now) (has_room (g.D.Disk.extent c.args.disk.now) c.args.accepted.now.frame c.requires.frame) c.args.layout.now c.requires.layout c.args.places.now (plan_tree c.args.accepted.now.plan.now) (held_of c.args.accepted.now.held) c.requires.loadable c.choose_slots-slots.result.number c.in-Ok.world.standings.items c.requires.distinct c.choose_slots-slots.ensures.choice c.in-Ok.ensures.stand chosen (g.D.Disk.flash c.args.disk.now) (g.D.Disk.flash c.run_plan-end.new.disk) (g.met.D.Disk.obeys c.args.disk.now t) law_b (c.requires.config t).0 (c.requires.config t).1 (c.requires.held t) (subst (λ (x : PlanTree). Keeps (OutsideTargets x c.in-Ok.world.standings.items) (g.D.Disk.flash c.args.disk.now) (g.D.Disk.flash c.run_plan-end.new.disk)) (c.program_of-program.ensures c.requires.said.0 c.requires.said.1 c.requires.said.2 c.requires.said.3 ∙ sym c.requires.said.4) (c.run_plan-end.ensures.keeps t)) in
-    let stays = old_all c.sound_laws.ensures c.moment_laws.ensures c.choice_laws.ensures (g.D.Disk.extent c.args.disk.now) (has_room (g.D.Disk.extent c.args.disk.now) c.args.accepted.now.frame c.requires.frame) c.args.layout.now c.requires.layout c.args.places.now (plan_tree c.args.accepted.now.plan.now) (held_of c.args.accepted.now.held) c.requires.loadable c.choose_slots-slots.result.number c.in-Ok.world.standings.items c.requires.distinct c.choose_slots-slots.ensures.choice c.in-Ok.ensures.stand chosen (g.D.Disk.flash c.args.disk.now) (g.D.Disk.flash c.run_plan-end.new.disk) (g.met.D.Disk.obeys c.args.disk.now t) law_b (c.requires.config t).0 (c.requires.config t).1 (c.requires.held t) (subst (λ (x : PlanTree). Keeps (OutsideTargets x c.in-Ok.world.standings.items) (g.D.Disk.flash c.args.disk.now) (g.D.Disk.flash c.run_plan-end.new.disk)) (c.program_of-program.ensures c.requires.said.0 c.requires.said.1 c.requires.said.2 c.requires.said.3 ∙ sym c.requires.said.4) (c.run_plan-end.ensures.keeps t)) settled c.args.accepted.now.bytes.now c.args.accepted.now.sequence c.args.accepted.now.digest c.requires.fits (g.D.Disk.flash c.finish.new.disk) law_d in
-    let old_left = old_at_end c.sound_laws.ensures c.moment_laws.ensures c.choice_laws.ensures (g.D.Disk.extent c.args.disk.now) (has_room (g.D.Disk.extent c.args.disk.now) c.args.accepted.now.frame c.requires.frame) c.args.layout.now c.requires.layout c.args.places.now (plan_tree c.args.accepted.now.plan.now) (held_of c.args.accepted.now.held) c.requires.loadable c.choose_slots-slots.result.number c.in-Ok.world.standings.items c.requires.distinct c.choose_slots-slots.ensures.choice c.in-Ok.ensures.stand chosen (g.D.Disk.flash c.args.disk.now) (g.D.Disk.flash c.run_plan-end.new.disk) (g.met.D.Disk.obeys c.args.disk.now t) law_b (c.requires.config t).0 (c.requires.config t).1 (c.requires.held t) (subst (λ (x : PlanTree). Keeps (OutsideTargets x c.in-Ok.world.standings.items) (g.D.Disk.flash c.args.disk.now) (g.D.Disk.flash c.run_plan-end.new.disk)) (c.program_of-program.ensures c.requires.said.0 c.requires.said.1 c.requires.said.2 c.requires.said.3 ∙ sym c.requires.said.4) (c.run_plan-end.ensures.keeps t)) settled c.args.accepted.now.bytes.now c.args.accepted.now.sequence c.args.accepted.now.digest c.requires.fits (g.D.Disk.flash c.finish.new.disk) law_d in
-    let Kept : UpdateEnd → Type 0 = KeepsUpdate c.args.layout.now c.args.places.now (plan_tree c.args.accepted.now.plan.now) Done (held_of c.args.accepted.now.held) (λ numbers. new_record (held_of c.args.accepted.now.held) (g.D.Disk.flash c.args.disk.now).reads c.args.accepted.now.bytes.now c.args.accepted.now.sequence c.args.accepted.now.digest numbers) (g.D.Disk.flash c.args.disk.now) d in
+    let others = contents_made c.sound_laws.ensures c.moment_laws.ensures c.choice_laws.ensures c.args.accepted.now.frame (g.D.Disk.extent c.args.disk.now) c.requires.frame c.args.layout.now c.requires.layout c.args.places.now (plan_tree c.args.accepted.now.plan.now) (held_of c.args.accepted.now.held) c.requires.loadable c.choose_slots-slots.result.number c.in-Ok.world.standings.items c.requires.distinct c.choose_slots-slots.ensures.choice c.in-Ok.ensures.stand chosen (g.D.Disk.flash c.args.disk.now) (g.D.Disk.flash c.run_plan-end.new.disk) (g.met.D.Disk.obeys c.args.disk.now t) law_b (c.requires.config t).0 (c.requires.config t).1 (c.requires.held t) (subst (λ (x : PlanTree). Keeps (OutsideTargets x c.in-Ok.world.standings.items) (g.D.Disk.flash c.args.disk.now) (g.D.Disk.flash c.run_plan-end.new.disk)) (c.program_of-program.ensures c.requires.said.0 c.requires.said.1 c.requires.said.2 c.requires.said.3 ∙ sym c.requires.said.4) (c.run_plan-end.ensures.keeps t)) in
+    let stays = old_all c.sound_laws.ensures c.moment_laws.ensures c.choice_laws.ensures c.args.accepted.now.frame (g.D.Disk.extent c.args.disk.now) c.requires.frame c.args.layout.now c.requires.layout c.args.places.now (plan_tree c.args.accepted.now.plan.now) (held_of c.args.accepted.now.held) c.requires.loadable c.choose_slots-slots.result.number c.in-Ok.world.standings.items c.requires.distinct c.choose_slots-slots.ensures.choice c.in-Ok.ensures.stand chosen (g.D.Disk.flash c.args.disk.now) (g.D.Disk.flash c.run_plan-end.new.disk) (g.met.D.Disk.obeys c.args.disk.now t) law_b (c.requires.config t).0 (c.requires.config t).1 (c.requires.held t) (subst (λ (x : PlanTree). Keeps (OutsideTargets x c.in-Ok.world.standings.items) (g.D.Disk.flash c.args.disk.now) (g.D.Disk.flash c.run_plan-end.new.disk)) (c.program_of-program.ensures c.requires.said.0 c.requires.said.1 c.requires.said.2 c.requires.said.3 ∙ sym c.requires.said.4) (c.run_plan-end.ensures.keeps t)) settled c.args.accepted.now.bytes.now c.args.accepted.now.sequence c.args.accepted.now.digest c.requires.fits (g.D.Disk.flash c.finish.new.disk) law_d in
+    let old_left = old_at_end c.sound_laws.ensures c.moment_laws.ensures c.choice_laws.ensures c.args.accepted.now.frame (g.D.Disk.extent c.args.disk.now) c.requires.frame c.args.layout.now c.requires.layout c.args.places.now (plan_tree c.args.accepted.now.plan.now) (held_of c.args.accepted.now.held) c.requires.loadable c.choose_slots-slots.result.number c.in-Ok.world.standings.items c.requires.distinct c.choose_slots-slots.ensures.choice c.in-Ok.ensures.stand chosen (g.D.Disk.flash c.args.disk.now) (g.D.Disk.flash c.run_plan-end.new.disk) (g.met.D.Disk.obeys c.args.disk.now t) law_b (c.requires.config t).0 (c.requires.config t).1 (c.requires.held t) (subst (λ (x : PlanTree). Keeps (OutsideTargets x c.in-Ok.world.standings.items) (g.D.Disk.flash c.args.disk.now) (g.D.Disk.flash c.run_plan-end.new.disk)) (c.program_of-program.ensures c.requires.said.0 c.requires.said.1 c.requires.said.2 c.requires.said.3 ∙ sym c.requires.said.4) (c.run_plan-end.ensures.keeps t)) settled c.args.accepted.now.bytes.now c.args.accepted.now.sequence c.args.accepted.now.digest c.requires.fits (g.D.Disk.flash c.finish.new.disk) law_d in
+    let Kept : UpdateEnd → Type 0 = KeepsUpdate c.args.accepted.now.frame c.args.layout.now c.args.places.now (plan_tree c.args.accepted.now.plan.now) Done (held_of c.args.accepted.now.held) (λ numbers. new_record c.args.accepted.now.frame (held_of c.args.accepted.now.held) (g.D.Disk.flash c.args.disk.now).reads c.args.accepted.now.bytes.now c.args.accepted.now.sequence c.args.accepted.now.digest numbers) (g.D.Disk.flash c.args.disk.now) d in
     after c.run_plan-end.result c.finish.result _ _ c.finish.ensures.answer (λ answer. KeptSo (Kept answer) (IsSame (g.D.Disk.flash c.args.disk.now) d) answer)
-    (λ r same ended. record { numbers = c.choose_slots-slots.result.number; chosen = chosen; accepted = c.requires.judged; made = b.reads; others = others; any_moment = moments; whole = did ended; left = ((installed_as c.finish.result r (λ r. r ≡ new_record (held_of c.args.accepted.now.held) (g.D.Disk.flash c.run_plan-end.new.disk).reads c.args.accepted.now.bytes.now c.args.accepted.now.sequence c.args.accepted.now.digest c.choose_slots-slots.result.number) (c.finish.ensures.new t) same) ∙ new_is c.sound_laws.ensures c.moment_laws.ensures c.choice_laws.ensures (g.D.Disk.extent c.args.disk.now) (has_room (g.D.Disk.extent c.args.disk.now) c.args.accepted.now.frame c.requires.frame) c.args.layout.now c.requires.layout c.args.places.now (plan_tree c.args.accepted.now.plan.now) (held_of c.args.accepted.now.held) c.requires.loadable c.choose_slots-slots.result.number c.in-Ok.world.standings.items c.requires.distinct c.choose_slots-slots.ensures.choice c.in-Ok.ensures.stand chosen (g.D.Disk.flash c.args.disk.now) (g.D.Disk.flash c.run_plan-end.new.disk) (g.met.D.Disk.obeys c.args.disk.now t) law_b (c.requires.config t).0 (c.requires.config t).1 (c.requires.held t) (subst (λ (x : PlanTree). Keeps (OutsideTargets x c.in-Ok.world.standings.items) (g.D.Disk.flash c.args.disk.now) (g.D.Disk.flash c.run_plan-end.new.disk)) (c.program_of-program.ensures c.requires.said.0 c.requires.said.1 c.requires.said.2 c.requires.said.3 ∙ sym c.requires.said.4) (c.run_plan-end.ensures.keeps t)) settled c.args.accepted.now.bytes.now c.args.accepted.now.sequence c.args.accepted.now.digest c.requires.fits (g.D.Disk.flash c.finish.new.disk) law_d, new_at_end c.sound_laws.ensures c.moment_laws.ensures c.choice_laws.ensures (g.D.Disk.extent c.args.disk.now) (has_room (g.D.Disk.extent c.args.disk.now) c.args.accepted.now.frame c.requires.frame) c.args.layout.now c.requires.layout c.args.places.now (plan_tree c.args.accepted.now.plan.now) (held_of c.args.accepted.now.held) c.requires.loadable c.choose_slots-slots.result.number c.in-Ok.world.standings.items c.requires.distinct c.choose_slots-slots.ensures.choice c.in-Ok.ensures.stand chosen (g.D.Disk.flash c.args.disk.now) (g.D.Disk.flash c.run_plan-end.new.disk) (g.met.D.Disk.obeys c.args.disk.now t) law_b (c.requires.config t).0 (c.requires.config t).1 (c.requires.held t) (subst (λ (x : PlanTree). Keeps (OutsideTargets x c.in-Ok.world.standings.items) (g.D.Disk.flash c.args.disk.now) (g.D.Disk.flash c.run_plan-end.new.disk)) (c.program_of-program.ensures c.requires.said.0 c.requires.said.1 c.requires.said.2 c.requires.said.3 ∙ sym c.requires.said.4) (c.run_plan-end.ensures.keeps t)) settled c.args.accepted.now.bytes.now c.args.accepted.now.sequence c.args.accepted.now.digest c.requires.fits (g.D.Disk.flash c.finish.new.disk) law_d (c.finish.ensures.any_moment t) c.record_laws.ensures.answer r (installed_as c.finish.result r (λ r. r ≡ new_record (held_of c.args.accepted.now.held) (g.D.Disk.flash c.run_plan-end.new.disk).reads c.args.accepted.now.bytes.now c.args.accepted.now.sequence c.args.accepted.now.digest c.choose_slots-slots.result.number) (c.finish.ensures.new t) same) (installed_as c.finish.result r (λ r. RecordOf VERSION_1 (head_of VERSION_1 (g.D.Disk.flash c.finish.new.disk).reads) (Some r)) (c.finish.ensures.recorded t) same)) })
+    (λ r same ended. record { numbers = c.choose_slots-slots.result.number; chosen = chosen; accepted = c.requires.judged; made = b.reads; others = others; any_moment = moments; whole = did ended; left = ((installed_as c.finish.result r (λ r. r ≡ new_record c.args.accepted.now.frame (held_of c.args.accepted.now.held) (g.D.Disk.flash c.run_plan-end.new.disk).reads c.args.accepted.now.bytes.now c.args.accepted.now.sequence c.args.accepted.now.digest c.choose_slots-slots.result.number) (c.finish.ensures.new t) same) ∙ new_is c.sound_laws.ensures c.moment_laws.ensures c.choice_laws.ensures c.args.accepted.now.frame (g.D.Disk.extent c.args.disk.now) c.requires.frame c.args.layout.now c.requires.layout c.args.places.now (plan_tree c.args.accepted.now.plan.now) (held_of c.args.accepted.now.held) c.requires.loadable c.choose_slots-slots.result.number c.in-Ok.world.standings.items c.requires.distinct c.choose_slots-slots.ensures.choice c.in-Ok.ensures.stand chosen (g.D.Disk.flash c.args.disk.now) (g.D.Disk.flash c.run_plan-end.new.disk) (g.met.D.Disk.obeys c.args.disk.now t) law_b (c.requires.config t).0 (c.requires.config t).1 (c.requires.held t) (subst (λ (x : PlanTree). Keeps (OutsideTargets x c.in-Ok.world.standings.items) (g.D.Disk.flash c.args.disk.now) (g.D.Disk.flash c.run_plan-end.new.disk)) (c.program_of-program.ensures c.requires.said.0 c.requires.said.1 c.requires.said.2 c.requires.said.3 ∙ sym c.requires.said.4) (c.run_plan-end.ensures.keeps t)) settled c.args.accepted.now.bytes.now c.args.accepted.now.sequence c.args.accepted.now.digest c.requires.fits (g.D.Disk.flash c.finish.new.disk) law_d, new_at_end c.sound_laws.ensures c.moment_laws.ensures c.choice_laws.ensures c.args.accepted.now.frame (g.D.Disk.extent c.args.disk.now) c.requires.frame c.args.layout.now c.requires.layout c.args.places.now (plan_tree c.args.accepted.now.plan.now) (held_of c.args.accepted.now.held) c.requires.loadable c.choose_slots-slots.result.number c.in-Ok.world.standings.items c.requires.distinct c.choose_slots-slots.ensures.choice c.in-Ok.ensures.stand chosen (g.D.Disk.flash c.args.disk.now) (g.D.Disk.flash c.run_plan-end.new.disk) (g.met.D.Disk.obeys c.args.disk.now t) law_b (c.requires.config t).0 (c.requires.config t).1 (c.requires.held t) (subst (λ (x : PlanTree). Keeps (OutsideTargets x c.in-Ok.world.standings.items) (g.D.Disk.flash c.args.disk.now) (g.D.Disk.flash c.run_plan-end.new.disk)) (c.program_of-program.ensures c.requires.said.0 c.requires.said.1 c.requires.said.2 c.requires.said.3 ∙ sym c.requires.said.4) (c.run_plan-end.ensures.keeps t)) settled c.args.accepted.now.bytes.now c.args.accepted.now.sequence c.args.accepted.now.digest c.requires.fits (g.D.Disk.flash c.finish.new.disk) law_d (c.finish.ensures.any_moment t) c.record_laws.ensures.answer r (installed_as c.finish.result r (λ r. r ≡ new_record c.args.accepted.now.frame (held_of c.args.accepted.now.held) (g.D.Disk.flash c.run_plan-end.new.disk).reads c.args.accepted.now.bytes.now c.args.accepted.now.sequence c.args.accepted.now.digest c.choose_slots-slots.result.number) (c.finish.ensures.new t) same) (installed_as c.finish.result r (λ r. RecordOf c.args.accepted.now.frame (head_of c.args.accepted.now.frame (g.D.Disk.flash c.finish.new.disk).reads) (Some r)) (c.finish.ensures.recorded t) same)) })
     (λ place told ended. let still = stopped_at c.run_plan-end.result place (Passes b d (Now b)) (c.finish.ensures.still t) ended in
     record { numbers = c.choose_slots-slots.result.number; chosen = chosen; accepted = c.requires.judged; made = b.reads; others = others; any_moment = moments; whole = stays still; left = old_left (told_at c.finish.result place (d.reads ≡ b.reads) (c.finish.ensures.stays t) told) })
     (λ place cause told ended. let still = stopped_by c.run_plan-end.result place cause (Passes b d (Now b)) (c.finish.ensures.still t) ended in
@@ -221,7 +224,7 @@ returns-clause-keeps g c t settled =
       others = others;
       any_moment = moments;
       whole = stopped_or_done c.run_plan-end.result (Passes b d (Now b)) _ _ (c.finish.ensures.still t) stays did;
-      left = moment_at_end c.sound_laws.ensures c.moment_laws.ensures c.choice_laws.ensures (g.D.Disk.extent c.args.disk.now) (has_room (g.D.Disk.extent c.args.disk.now) c.args.accepted.now.frame c.requires.frame) c.args.layout.now c.requires.layout c.args.places.now (plan_tree c.args.accepted.now.plan.now) (held_of c.args.accepted.now.held) c.requires.loadable c.choose_slots-slots.result.number c.in-Ok.world.standings.items c.requires.distinct c.choose_slots-slots.ensures.choice c.in-Ok.ensures.stand chosen (g.D.Disk.flash c.args.disk.now) (g.D.Disk.flash c.run_plan-end.new.disk) (g.met.D.Disk.obeys c.args.disk.now t) law_b (c.requires.config t).0 (c.requires.config t).1 (c.requires.held t) (subst (λ (x : PlanTree). Keeps (OutsideTargets x c.in-Ok.world.standings.items) (g.D.Disk.flash c.args.disk.now) (g.D.Disk.flash c.run_plan-end.new.disk)) (c.program_of-program.ensures c.requires.said.0 c.requires.said.1 c.requires.said.2 c.requires.said.3 ∙ sym c.requires.said.4) (c.run_plan-end.ensures.keeps t)) settled c.args.accepted.now.bytes.now c.args.accepted.now.sequence c.args.accepted.now.digest c.requires.fits (g.D.Disk.flash c.finish.new.disk) law_d (c.finish.ensures.any_moment t);
+      left = moment_at_end c.sound_laws.ensures c.moment_laws.ensures c.choice_laws.ensures c.args.accepted.now.frame (g.D.Disk.extent c.args.disk.now) c.requires.frame c.args.layout.now c.requires.layout c.args.places.now (plan_tree c.args.accepted.now.plan.now) (held_of c.args.accepted.now.held) c.requires.loadable c.choose_slots-slots.result.number c.in-Ok.world.standings.items c.requires.distinct c.choose_slots-slots.ensures.choice c.in-Ok.ensures.stand chosen (g.D.Disk.flash c.args.disk.now) (g.D.Disk.flash c.run_plan-end.new.disk) (g.met.D.Disk.obeys c.args.disk.now t) law_b (c.requires.config t).0 (c.requires.config t).1 (c.requires.held t) (subst (λ (x : PlanTree). Keeps (OutsideTargets x c.in-Ok.world.standings.items) (g.D.Disk.flash c.args.disk.now) (g.D.Disk.flash c.run_plan-end.new.disk)) (c.program_of-program.ensures c.requires.said.0 c.requires.said.1 c.requires.said.2 c.requires.said.3 ∙ sym c.requires.said.4) (c.run_plan-end.ensures.keeps t)) settled c.args.accepted.now.bytes.now c.args.accepted.now.sequence c.args.accepted.now.digest c.requires.fits (g.D.Disk.flash c.finish.new.disk) law_d (c.finish.ensures.any_moment t);
     }))
 
 pub returns-in-Err-clause-left : goal.returns-in-Err-clause-left
@@ -229,24 +232,24 @@ returns-in-Err-clause-left g c t = refl
 
 pub returns-clause-left : goal.returns-clause-left
 returns-clause-left g c t =
-    let chosen = (chosen_as c.args.layout.now c.args.places.now (plan_tree c.args.accepted.now.plan.now) c.choose_slots-slots.ensures.chosen.0 (active_slots (held_of c.args.accepted.now.held)) c.choose_slots-slots.result.number (in_use_as_held (g.D.Disk.extent c.args.disk.now) (g.D.Disk.flash c.args.disk.now).reads c.args.layout.now (c.requires.config t).0 (held_of c.args.accepted.now.held) (c.requires.config t).1 (c.requires.held t) c.requires.loadable c.choose_slots-slots.ensures.chosen.0 c.choose_slots-slots.ensures.chosen.1) c.choose_slots-slots.ensures.chosen.2) in
+    let chosen = (chosen_as c.args.layout.now c.args.places.now (plan_tree c.args.accepted.now.plan.now) c.choose_slots-slots.ensures.chosen.0 (active_slots (held_of c.args.accepted.now.held)) c.choose_slots-slots.result.number (in_use_as_held c.args.accepted.now.frame (g.D.Disk.extent c.args.disk.now) (g.D.Disk.flash c.args.disk.now).reads c.args.layout.now (c.requires.config t).0 (held_of c.args.accepted.now.held) (c.requires.config t).1 (c.requires.held t) c.requires.loadable c.choose_slots-slots.ensures.chosen.0 c.choose_slots-slots.ensures.chosen.1) c.choose_slots-slots.ensures.chosen.2) in
     let law_b = (subst (λ (n : ℕ). IsFlash (g.D.Disk.flash c.run_plan-end.new.disk) n) c.run_plan-end.ensures.size (g.met.D.Disk.obeys c.run_plan-end.new.disk t)) in
     let numbers = c.choose_slots-slots.result.number in
-    let new = λ (numbers : List ℕ). new_record (held_of c.args.accepted.now.held) (g.D.Disk.flash c.args.disk.now).reads c.args.accepted.now.bytes.now c.args.accepted.now.sequence c.args.accepted.now.digest numbers in
-    let contents = contents_since c.sound_laws.ensures c.moment_laws.ensures c.choice_laws.ensures (g.D.Disk.extent c.args.disk.now) (has_room (g.D.Disk.extent c.args.disk.now) c.args.accepted.now.frame c.requires.frame) c.args.layout.now c.requires.layout c.args.places.now (plan_tree c.args.accepted.now.plan.now) (held_of c.args.accepted.now.held) c.requires.loadable c.choose_slots-slots.result.number c.in-Ok.world.standings.items c.requires.distinct c.choose_slots-slots.ensures.choice c.in-Ok.ensures.stand chosen (g.D.Disk.flash c.args.disk.now) (g.D.Disk.flash c.run_plan-end.new.disk) (g.met.D.Disk.obeys c.args.disk.now t) law_b (c.requires.config t).0 (c.requires.config t).1 (c.requires.held t) (subst (λ (x : PlanTree). Keeps (OutsideTargets x c.in-Ok.world.standings.items) (g.D.Disk.flash c.args.disk.now) (g.D.Disk.flash c.run_plan-end.new.disk)) (c.program_of-program.ensures c.requires.said.0 c.requires.said.1 c.requires.said.2 c.requires.said.3 ∙ sym c.requires.said.4) (c.run_plan-end.ensures.keeps t)) (g.D.Disk.flash c.finish.new.disk).reads (c.finish.ensures.behind t) in
-    let same_new = new_as c.sound_laws.ensures c.moment_laws.ensures c.choice_laws.ensures (g.D.Disk.extent c.args.disk.now) (has_room (g.D.Disk.extent c.args.disk.now) c.args.accepted.now.frame c.requires.frame) c.args.layout.now c.requires.layout c.args.places.now (plan_tree c.args.accepted.now.plan.now) (held_of c.args.accepted.now.held) c.requires.loadable c.choose_slots-slots.result.number c.in-Ok.world.standings.items c.requires.distinct c.choose_slots-slots.ensures.choice c.in-Ok.ensures.stand chosen (g.D.Disk.flash c.args.disk.now) (g.D.Disk.flash c.run_plan-end.new.disk) (g.met.D.Disk.obeys c.args.disk.now t) law_b (c.requires.config t).0 (c.requires.config t).1 (c.requires.held t) (subst (λ (x : PlanTree). Keeps (OutsideTargets x c.in-Ok.world.standings.items) (g.D.Disk.flash c.args.disk.now) (g.D.Disk.flash c.run_plan-end.new.disk)) (c.program_of-program.ensures c.requires.said.0 c.requires.said.1 c.requires.said.2 c.requires.said.3 ∙ sym c.requires.said.4) (c.run_plan-end.ensures.keeps t)) c.args.accepted.now.bytes.now c.args.accepted.now.sequence c.args.accepted.now.digest in
-    let held_at = was_b c.sound_laws.ensures c.moment_laws.ensures c.choice_laws.ensures (g.D.Disk.extent c.args.disk.now) (has_room (g.D.Disk.extent c.args.disk.now) c.args.accepted.now.frame c.requires.frame) c.args.layout.now c.requires.layout c.args.places.now (plan_tree c.args.accepted.now.plan.now) (held_of c.args.accepted.now.held) c.requires.loadable c.choose_slots-slots.result.number c.in-Ok.world.standings.items c.requires.distinct c.choose_slots-slots.ensures.choice c.in-Ok.ensures.stand chosen (g.D.Disk.flash c.args.disk.now) (g.D.Disk.flash c.run_plan-end.new.disk) (g.met.D.Disk.obeys c.args.disk.now t) law_b (c.requires.config t).0 (c.requires.config t).1 (c.requires.held t) (subst (λ (x : PlanTree). Keeps (OutsideTargets x c.in-Ok.world.standings.items) (g.D.Disk.flash c.args.disk.now) (g.D.Disk.flash c.run_plan-end.new.disk)) (c.program_of-program.ensures c.requires.said.0 c.requires.said.1 c.requires.said.2 c.requires.said.3 ∙ sym c.requires.said.4) (c.run_plan-end.ensures.keeps t)) in
-    let Left : UpdateEnd → Type 0 = LeavesUpdate c.args.layout.now c.args.places.now (plan_tree c.args.accepted.now.plan.now) (held_of c.args.accepted.now.held) new (g.D.Disk.flash c.args.disk.now).reads (g.D.Disk.flash c.finish.new.disk).reads in
+    let new = λ (numbers : List ℕ). new_record c.args.accepted.now.frame (held_of c.args.accepted.now.held) (g.D.Disk.flash c.args.disk.now).reads c.args.accepted.now.bytes.now c.args.accepted.now.sequence c.args.accepted.now.digest numbers in
+    let contents = contents_since c.sound_laws.ensures c.moment_laws.ensures c.choice_laws.ensures c.args.accepted.now.frame (g.D.Disk.extent c.args.disk.now) c.requires.frame c.args.layout.now c.requires.layout c.args.places.now (plan_tree c.args.accepted.now.plan.now) (held_of c.args.accepted.now.held) c.requires.loadable c.choose_slots-slots.result.number c.in-Ok.world.standings.items c.requires.distinct c.choose_slots-slots.ensures.choice c.in-Ok.ensures.stand chosen (g.D.Disk.flash c.args.disk.now) (g.D.Disk.flash c.run_plan-end.new.disk) (g.met.D.Disk.obeys c.args.disk.now t) law_b (c.requires.config t).0 (c.requires.config t).1 (c.requires.held t) (subst (λ (x : PlanTree). Keeps (OutsideTargets x c.in-Ok.world.standings.items) (g.D.Disk.flash c.args.disk.now) (g.D.Disk.flash c.run_plan-end.new.disk)) (c.program_of-program.ensures c.requires.said.0 c.requires.said.1 c.requires.said.2 c.requires.said.3 ∙ sym c.requires.said.4) (c.run_plan-end.ensures.keeps t)) (g.D.Disk.flash c.finish.new.disk).reads (c.finish.ensures.behind t) in
+    let same_new = new_as c.sound_laws.ensures c.moment_laws.ensures c.choice_laws.ensures c.args.accepted.now.frame (g.D.Disk.extent c.args.disk.now) c.requires.frame c.args.layout.now c.requires.layout c.args.places.now (plan_tree c.args.accepted.now.plan.now) (held_of c.args.accepted.now.held) c.requires.loadable c.choose_slots-slots.result.number c.in-Ok.world.standings.items c.requires.distinct c.choose_slots-slots.ensures.choice c.in-Ok.ensures.stand chosen (g.D.Disk.flash c.args.disk.now) (g.D.Disk.flash c.run_plan-end.new.disk) (g.met.D.Disk.obeys c.args.disk.now t) law_b (c.requires.config t).0 (c.requires.config t).1 (c.requires.held t) (subst (λ (x : PlanTree). Keeps (OutsideTargets x c.in-Ok.world.standings.items) (g.D.Disk.flash c.args.disk.now) (g.D.Disk.flash c.run_plan-end.new.disk)) (c.program_of-program.ensures c.requires.said.0 c.requires.said.1 c.requires.said.2 c.requires.said.3 ∙ sym c.requires.said.4) (c.run_plan-end.ensures.keeps t)) c.args.accepted.now.bytes.now c.args.accepted.now.sequence c.args.accepted.now.digest in
+    let held_at = was_b c.sound_laws.ensures c.moment_laws.ensures c.choice_laws.ensures c.args.accepted.now.frame (g.D.Disk.extent c.args.disk.now) c.requires.frame c.args.layout.now c.requires.layout c.args.places.now (plan_tree c.args.accepted.now.plan.now) (held_of c.args.accepted.now.held) c.requires.loadable c.choose_slots-slots.result.number c.in-Ok.world.standings.items c.requires.distinct c.choose_slots-slots.ensures.choice c.in-Ok.ensures.stand chosen (g.D.Disk.flash c.args.disk.now) (g.D.Disk.flash c.run_plan-end.new.disk) (g.met.D.Disk.obeys c.args.disk.now t) law_b (c.requires.config t).0 (c.requires.config t).1 (c.requires.held t) (subst (λ (x : PlanTree). Keeps (OutsideTargets x c.in-Ok.world.standings.items) (g.D.Disk.flash c.args.disk.now) (g.D.Disk.flash c.run_plan-end.new.disk)) (c.program_of-program.ensures c.requires.said.0 c.requires.said.1 c.requires.said.2 c.requires.said.3 ∙ sym c.requires.said.4) (c.run_plan-end.ensures.keeps t)) in
+    let Left : UpdateEnd → Type 0 = LeavesUpdate c.args.accepted.now.frame c.args.layout.now c.args.places.now (plan_tree c.args.accepted.now.plan.now) (held_of c.args.accepted.now.held) new (g.D.Disk.flash c.args.disk.now).reads (g.D.Disk.flash c.finish.new.disk).reads in
     after c.run_plan-end.result c.finish.result _ _ c.finish.ensures.answer (λ answer. KeptSo (Left answer) ((g.D.Disk.flash c.finish.new.disk).reads ≡ (g.D.Disk.flash c.args.disk.now).reads) answer)
-    (λ r same ended. let is = installed_as c.finish.result r (λ r. r ≡ new_record (held_of c.args.accepted.now.held) (g.D.Disk.flash c.run_plan-end.new.disk).reads c.args.accepted.now.bytes.now c.args.accepted.now.sequence c.args.accepted.now.digest numbers) (c.finish.ensures.new t) same ∙ same_new in
-    record { numbers = numbers; chosen = chosen; accepted = c.requires.judged; contents = contents; left = (is, subst (λ (n : Record). RecordOf VERSION_1 (head_of VERSION_1 (g.D.Disk.flash c.finish.new.disk).reads) (Some n)) is (installed_as c.finish.result r (λ r. RecordOf VERSION_1 (head_of VERSION_1 (g.D.Disk.flash c.finish.new.disk).reads) (Some r)) (c.finish.ensures.recorded t) same)) })
-    (λ place told ended. record { numbers = numbers; chosen = chosen; accepted = c.requires.judged; contents = contents; left = held_as (held_of c.args.accepted.now.held) _ _ (told_at c.finish.result place ((g.D.Disk.flash c.finish.new.disk).reads ≡ (g.D.Disk.flash c.run_plan-end.new.disk).reads) (c.finish.ensures.stays t) told) held_at })
-    (λ place cause told ended. record { numbers = numbers; chosen = chosen; accepted = c.requires.judged; contents = contents; left = held_as (held_of c.args.accepted.now.held) _ _ (told_by c.finish.result place cause ((g.D.Disk.flash c.finish.new.disk).reads ≡ (g.D.Disk.flash c.run_plan-end.new.disk).reads) (c.finish.ensures.stays t) told) held_at })
-    (λ unfaulted. inr (record { numbers = numbers; chosen = chosen; accepted = c.requires.judged; contents = contents; left = held_or_same (held_of c.args.accepted.now.held) _ _ (g.D.Disk.flash c.finish.new.disk).reads same_new (c.finish.ensures.reads t) }))
+    (λ r same ended. let is = installed_as c.finish.result r (λ r. r ≡ new_record c.args.accepted.now.frame (held_of c.args.accepted.now.held) (g.D.Disk.flash c.run_plan-end.new.disk).reads c.args.accepted.now.bytes.now c.args.accepted.now.sequence c.args.accepted.now.digest numbers) (c.finish.ensures.new t) same ∙ same_new in
+    record { numbers = numbers; chosen = chosen; accepted = c.requires.judged; contents = contents; left = (is, subst (λ (n : Record). RecordOf c.args.accepted.now.frame (head_of c.args.accepted.now.frame (g.D.Disk.flash c.finish.new.disk).reads) (Some n)) is (installed_as c.finish.result r (λ r. RecordOf c.args.accepted.now.frame (head_of c.args.accepted.now.frame (g.D.Disk.flash c.finish.new.disk).reads) (Some r)) (c.finish.ensures.recorded t) same)) })
+    (λ place told ended. record { numbers = numbers; chosen = chosen; accepted = c.requires.judged; contents = contents; left = held_as c.args.accepted.now.frame (held_of c.args.accepted.now.held) _ _ (told_at c.finish.result place ((g.D.Disk.flash c.finish.new.disk).reads ≡ (g.D.Disk.flash c.run_plan-end.new.disk).reads) (c.finish.ensures.stays t) told) held_at })
+    (λ place cause told ended. record { numbers = numbers; chosen = chosen; accepted = c.requires.judged; contents = contents; left = held_as c.args.accepted.now.frame (held_of c.args.accepted.now.held) _ _ (told_by c.finish.result place cause ((g.D.Disk.flash c.finish.new.disk).reads ≡ (g.D.Disk.flash c.run_plan-end.new.disk).reads) (c.finish.ensures.stays t) told) held_at })
+    (λ unfaulted. inr (record { numbers = numbers; chosen = chosen; accepted = c.requires.judged; contents = contents; left = held_or_same c.args.accepted.now.frame (held_of c.args.accepted.now.held) _ _ (g.D.Disk.flash c.finish.new.disk).reads same_new (c.finish.ensures.reads t) }))
 
 pub returns-clause-plays : goal.returns-clause-plays
 returns-clause-plays g c t tl payloads has =
-    let chosen = (chosen_as c.args.layout.now c.args.places.now (plan_tree c.args.accepted.now.plan.now) c.choose_slots-slots.ensures.chosen.0 (active_slots (held_of c.args.accepted.now.held)) c.choose_slots-slots.result.number (in_use_as_held (g.D.Disk.extent c.args.disk.now) (g.D.Disk.flash c.args.disk.now).reads c.args.layout.now (c.requires.config t).0 (held_of c.args.accepted.now.held) (c.requires.config t).1 (c.requires.held t) c.requires.loadable c.choose_slots-slots.ensures.chosen.0 c.choose_slots-slots.ensures.chosen.1) c.choose_slots-slots.ensures.chosen.2) in
+    let chosen = (chosen_as c.args.layout.now c.args.places.now (plan_tree c.args.accepted.now.plan.now) c.choose_slots-slots.ensures.chosen.0 (active_slots (held_of c.args.accepted.now.held)) c.choose_slots-slots.result.number (in_use_as_held c.args.accepted.now.frame (g.D.Disk.extent c.args.disk.now) (g.D.Disk.flash c.args.disk.now).reads c.args.layout.now (c.requires.config t).0 (held_of c.args.accepted.now.held) (c.requires.config t).1 (c.requires.held t) c.requires.loadable c.choose_slots-slots.ensures.chosen.0 c.choose_slots-slots.ensures.chosen.1) c.choose_slots-slots.ensures.chosen.2) in
     let law_b = (subst (λ (n : ℕ). IsFlash (g.D.Disk.flash c.run_plan-end.new.disk) n) c.run_plan-end.ensures.size (g.met.D.Disk.obeys c.run_plan-end.new.disk t)) in
     let law_d = (subst (λ (n : ℕ). IsFlash (g.D.Disk.flash c.finish.new.disk) n) (c.finish.ensures.size ∙ c.run_plan-end.ensures.size) (g.met.D.Disk.obeys c.finish.new.disk t)) in
     let Plays : List ℕ → PlanEnd → Type 0 = λ made end. PlaysUpdate c.args.layout.now c.args.places.now (plan_tree c.args.accepted.now.plan.now) (held_of c.args.accepted.now.held) (sources payloads c.args.accepted.now.uris.now (hosted g.H.Host.told (g.H.Host.file c.args.host.now) (g.H.Host.asked c.args.host.now) (g.H.Host.asked c.run_plan-end.new.host))) (g.D.Disk.flash c.args.disk.now).reads made (g.L.Launcher.launches c.args.launcher.now) (g.L.Launcher.launches c.run_plan-end.new.launcher) end in
@@ -254,7 +257,7 @@ returns-clause-plays g c t tl payloads has =
     (program_tree c.program_of-program.result) (c.program_of-program.ensures c.requires.said.0 c.requires.said.1 c.requires.said.2 c.requires.said.3 ∙ sym c.requires.said.4) (c.run_plan-end.ensures.plays refl refl t tl payloads (subst (λ (e : Option (Bor Envelope)). ArePayloads e payloads) (sym c.in-Ok.ensures.envelope) has)) in
     after c.run_plan-end.result c.finish.result _ _ c.finish.ensures.answer
     (λ answer. PlayedSo Plays ((g.D.Disk.flash c.finish.new.disk).reads ≡ (g.D.Disk.flash c.args.disk.now).reads) c.args.layout.now (g.D.Disk.flash c.finish.new.disk).reads (g.L.Launcher.launches c.args.launcher.now) (g.L.Launcher.launches c.run_plan-end.new.launcher) answer)
-    (λ r same ended. record { made = (g.D.Disk.flash c.run_plan-end.new.disk).reads; plays = subst (Plays (g.D.Disk.flash c.run_plan-end.new.disk).reads) ended play; left = behind (g.D.Disk.extent c.args.disk.now) c.args.layout.now c.requires.layout (c.requires.config t).1.typed.entries (g.D.Disk.flash c.run_plan-end.new.disk).reads (g.D.Disk.flash c.finish.new.disk).reads law_b.fits (c.finish.ensures.behind t) })
+    (λ r same ended. record { made = (g.D.Disk.flash c.run_plan-end.new.disk).reads; plays = subst (Plays (g.D.Disk.flash c.run_plan-end.new.disk).reads) ended play; left = beside c.args.accepted.now.frame (g.D.Disk.extent c.args.disk.now) c.args.layout.now c.requires.frame c.requires.layout (c.requires.config t).1.typed.entries (g.D.Disk.flash c.run_plan-end.new.disk).reads (g.D.Disk.flash c.finish.new.disk).reads law_b.fits (c.finish.ensures.behind t) })
     (λ place told ended. record { made = (g.D.Disk.flash c.run_plan-end.new.disk).reads; plays = subst (Plays (g.D.Disk.flash c.run_plan-end.new.disk).reads) ended play; left = reads_same c.args.layout.now (g.D.Disk.flash c.run_plan-end.new.disk).reads (g.D.Disk.flash c.finish.new.disk).reads (told_at c.finish.result place ((g.D.Disk.flash c.finish.new.disk).reads ≡ (g.D.Disk.flash c.run_plan-end.new.disk).reads) (c.finish.ensures.stays t) told) })
     (λ place cause told ended. record { made = (g.D.Disk.flash c.run_plan-end.new.disk).reads; plays = subst (Plays (g.D.Disk.flash c.run_plan-end.new.disk).reads) ended play; left = reads_same c.args.layout.now (g.D.Disk.flash c.run_plan-end.new.disk).reads (g.D.Disk.flash c.finish.new.disk).reads (told_by c.finish.result place cause ((g.D.Disk.flash c.finish.new.disk).reads ≡ (g.D.Disk.flash c.run_plan-end.new.disk).reads) (c.finish.ensures.stays t) told) })
     (λ unfaulted. inr ((g.D.Disk.flash c.run_plan-end.new.disk).reads, c.run_plan-end.result, play, unfaulted))
