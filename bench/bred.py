@@ -8,6 +8,7 @@ follows from the tree, so a repetition can be filled up to what is judged. By th
     ("run", nodes) ("tries", branches)    a branch may be None
     ("again", count, nodes)        so many times in a row"""
 
+import functools
 import hashlib
 import random
 
@@ -16,7 +17,9 @@ from inputs import byte_string, head, parts_of
 
 WIDEST, LONGEST, LONGEST_FILE = worst.WIDEST, 16_200, 1_040_000
 DEEPEST = 7
-PLACES = ("invoke", "behind", "twice", "severed", "shared", "told")
+PLACES = ("invoke", "behind", "twice", "severed", "shared", "told", "beside")
+# Overrides of eight keys, which are long when they are read, and each of which takes one step.
+LONG_COUNT = 56_000
 TESTS, ACTS = (3, 1, 2, 24, 5, 6), (18, 23, 31, 21, 22)
 NUMBERS, IDENTITIES, BYTES = (5, 14, 22), (1, 2, 24), (18, 23, 21)
 LENGTHS = (1, 2, 31, 64, 65, 300, 1_000, 1_100, 1_900, 4_000, 4_096, 4_097, 13_000)
@@ -58,6 +61,7 @@ MATCH, WRITE, INVOKE, SWAP = ("test", 3), ("act", 18), ("act", 23), ("act", 31)
 EACH = ("v", 0)
 ENDING = (pick(0), size(3), sets((3, IMAGE)), MATCH, INVOKE)
 OPEN = (pick(0), size(77), INVOKE)
+EIGHT = sets((5, 0), (12, True), (13, True), (14, 1), (18, ("bytes", 1, 0)), (21, ("bytes", 97, 0)), (22, 0), (23, ("bytes", 1, 0)))
 
 
 # ---- how wide they are, and how long
@@ -202,6 +206,12 @@ def lengths(nodes, shift):
     return commands, length
 
 
+@functools.lru_cache
+def long_member():
+    one = worst.spelled(commands_of((EIGHT,)))[1:]
+    return byte_string(head(4, 2 * LONG_COUNT) + one * LONG_COUNT)
+
+
 class Plan:
     """Commands, in which member they stand, and of how many components."""
 
@@ -238,6 +248,11 @@ class Plan:
         if self.place == "severed":
             pairs.append(b"\x14\x82\x2f" + byte_string(hashlib.sha256(spelled[0]).digest()))
             beside = b"\x14" + spelled[0]
+        elif self.place == "beside":
+            # A long member that only the other procedure runs.
+            long = long_member()
+            pairs += [b"\x09" + spelled[0], b"\x14\x82\x2f" + byte_string(hashlib.sha256(long).digest())]
+            beside = b"\x14" + long
         elif self.place == "twice":
             pairs.append(b"\x07" + spelled[0])
         elif self.place == "behind":
