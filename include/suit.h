@@ -71,7 +71,7 @@ struct suit_record {
   uint32_t bank;          /* 0 or 1 */
   uint32_t digest_length; /* 32, 48 or 64 bytes: by SHA-256, SHA-384 or SHA-512 */
   uint8_t digest[64];     /* of the manifest, with zeros behind it */
-  uint8_t active[8];      /* the slot in use of each component of the layout, 0 or 1 */
+  uint8_t active[32];     /* the slot in use of each component of the layout, 0 or 1; 0 behind the last */
 };
 
 /* SUIT_DONE, and *place stays as it was; or SUIT_REFUSED where the bytes spell no envelope or its manifest is refused: then *place

@@ -1,7 +1,7 @@
 //! Where the parts of a flash stand, and how large they are.
 
 ghost use Rattle.std.specs.Prelude.{◌≡◌, ◌<◌, ◌≤◌, ◌+◌, ◌*◌, ◌^◌};
-ghost use Rattle.flash_layout.specs.Frames.{bank_place, bank_size, by_version, config_size, head_size, record_place};
+ghost use Rattle.flash_layout.specs.Frames.{bank_place, bank_size, by_version, config_size, head_size, most, page_bytes, record_place};
 
 /// Where the head of a flash is, and which version its layout has. The head is a configuration page, two record pages and
 /// two banks, one behind another.
@@ -31,8 +31,11 @@ pub const BANK_SIZE: u64 = 16_384;
 /// Where the slots of a layout begin at the earliest.
 pub const SLOTS_START: u64 = 49_152;
 
-/// How many components a layout may have.
+/// How many components a layout of version 1 may have.
 pub const MAX_ENTRIES: usize = 8;
+
+/// How many components a layout may have, whatever its version.
+pub const MOST_ENTRIES: usize = 32;
 
 /// The bytes of a slot's length.
 pub const LENGTH_SIZE: u64 = 8;
@@ -43,11 +46,14 @@ pub const ENTRY_SIZE: usize = 142;
 /// The bytes before the components: gate, version, two counts, and the key.
 pub const FRONT_SIZE: usize = 68;
 
-/// The bytes of all components.
+/// The bytes of all components of version 1.
 pub const ENTRIES_SIZE: usize = ENTRY_SIZE * MAX_ENTRIES;
 
-/// The bytes of the configuration page that are read: all others are left as they are.
+/// The bytes of the configuration page of version 1 that are read: all others are left as they are.
 pub const PAGE_BYTES: usize = FRONT_SIZE + ENTRIES_SIZE;
+
+/// Those of each version, at most.
+pub const MOST_BYTES: usize = FRONT_SIZE + ENTRY_SIZE * MOST_ENTRIES;
 
 /// Where the gate of the configuration page is.
 pub const CONFIG_GATE: u64 = VERSION_1.base;
@@ -61,6 +67,26 @@ pub fn head_size(frame: Frame) -> u64
     } else {
         147_456
     }
+}
+
+/// How many components a layout may have.
+pub fn most(frame: Frame) -> usize
+    ensures is { result ≡ most frame }
+    ensures few { result ≤ MOST_ENTRIES }
+{
+    if frame.version == 1 {
+        MAX_ENTRIES
+    } else {
+        MOST_ENTRIES
+    }
+}
+
+/// How many bytes of the configuration page are read.
+pub fn page_bytes(frame: Frame) -> usize
+    ensures is { result ≡ page_bytes frame }
+    ensures few { result ≤ MOST_BYTES }
+{
+    FRONT_SIZE + ENTRY_SIZE * most(frame)
 }
 
 // How many bytes the configuration page has.

@@ -31,7 +31,8 @@ pub use describing::layout_of;
 pub use formatting::{Formatted, format};
 pub use frame::{
     BANK_SIZE, CONFIG_GATE, ENTRY_SIZE, FRONT_SIZE, Frame, HEAD_SIZE, LENGTH_SIZE, MAX_ENTRIES,
-    PAGE_BYTES, PAGE_SIZE, SLOTS_START, VERSION_1, bank, bank_size, head_size, record_page,
+    MOST_BYTES, MOST_ENTRIES, PAGE_BYTES, PAGE_SIZE, SLOTS_START, VERSION_1, bank, bank_size,
+    head_size, most, page_bytes, record_page,
 };
 pub use key::{Key, is_key};
 pub use law::{config_laws, frame_laws, load_laws, page_laws, slot_laws};

@@ -1,6 +1,6 @@
 //! The parts of the flash beside the configuration.
 
-use crate::frame::MAX_ENTRIES;
+use crate::frame::MOST_ENTRIES;
 use suit_params::Digest;
 
 /// A range of the flash that holds a component's content: its length, and so many bytes of room.
@@ -30,5 +30,5 @@ pub struct Record {
     /// The digest of the manifest.
     pub digest: Digest,
     /// The slot of each component of the layout that is in use, 0 or 1; 0 behind the last.
-    pub active: [u8; MAX_ENTRIES],
+    pub active: [u8; MOST_ENTRIES],
 }

@@ -1,16 +1,18 @@
 -- Places, slots and spots of the components of a manifest.
-use Rattle.std.proofs.Common.{◌≡◌, ◌≢◌, inl, ◌<◌, ◌≤◌, ℕ, suc, List, [], ◌∷◌, length, map, get_or, take, Some, None, refl, sym, ◌∙◌, ap, subst, arith, get_or-take}
+use Rattle.std.proofs.Common.{◌≡◌, ◌≢◌, ◌<◌, ◌≤◌, ℕ, suc, List, [], ◌∷◌, length, map, get_or, take, Some, None, refl, sym, ◌∙◌, ap, subst, arith, get_or-take}
 use Rattle.std.specs.Prelude.{◌==◌, ◌&&◌, if◌then◌else◌}
 use Rattle.std.specs.List.{All, AllByRecursion}
 use Rattle.std.proofs.lemmas.Option.{slice_get-get_or}
 use Rattle.std.proofs.lemmas.List.{length-map, length-take-le}
 use Rattle.suit_commands.specs.Tree.{PlanTree}
 use Rattle.suit_manifest.specs.Components.{AreApart}
-use Rattle.flash_layout.specs.declared.frame.TheConstants.{VERSION_1}
+use Rattle.flash_layout.specs.declared.frame.Frame.{Frame}
 use Rattle.flash_layout.specs.declared.layout.Entry.{Entry}
 use Rattle.flash_layout.specs.declared.layout.Memory.{Memory}
 use Rattle.flash_layout.specs.declared.layout.Memory.TheVariants as memory
 use Rattle.flash_layout.specs.declared.place.Places.{Places}
+use Rattle.flash_layout.specs.FrameFacts.{FrameFacts}
+use Rattle.flash_layout.specs.Frames.{head_size}
 use Rattle.flash_layout.specs.Layouts.{IsBehindHead, IsInFlash, IsLayout, IsOfMemory, IsTypedEntry, slot_size, starts_in}
 use Rattle.flash_layout.specs.Placement.{ArePlaces, HaveOtherPlaces}
 use Rattle.rollback_record.specs.Committing.{InHead}
@@ -23,6 +25,8 @@ use Rattle.path_model.specs.Path.{AreIdentities, IsIdentity}
 use Rattle.invoke_proc.specs.Booting.{StandActive}
 use Rattle.step_machine.specs.Typing.{HasIdentifiers}
 use Rattle.step_machine.specs.InUse.{AreInUse}
+use Rattle.step_machine.proofs.Fitting.{few_entries}
+use Rattle.step_machine.proofs.Lifting.{clear_outside}
 
 -- ---- places
 
@@ -66,7 +70,7 @@ all_identities : (standings : List Standing) → ((k : ℕ) (d : Standing) → k
 all_identities [] all = tt
 all_identities (s ∷ standings) all = (all 0 s (omega arith), all_identities standings (λ k d below. all (suc k) d (omega arith)))
 
-module _ (size : ℕ) (layout : List Entry) (is : IsLayout VERSION_1 size layout) where
+module _ (frame : Frame) (size : ℕ) (layout : List Entry) (is : IsLayout frame size layout) where
   few_at : (i : ℕ) (e : Entry) → i < length layout → (1 ≤ (get_or layout i e).slots) × ((get_or layout i e).slots ≤ 2)
   few_at i e inside = let at = get_or layout i e in slots_few size at at.memory (is.each i e inside).held
 
@@ -77,35 +81,38 @@ module _ (size : ℕ) (layout : List Entry) (is : IsLayout VERSION_1 size layout
 
   pub is_choice : (active : List ℕ) (slots : SlotChoice) → AreInUse layout active slots.number → IsChoice layout slots
   is_choice active slots are = record {
-    few = is.few;
+    few = few_entries frame size layout is;
     one = in_use active slots are;
     two = λ i e inside. (few_at i e inside).1;
+    rest = are.rest;
   }
 
   -- ---- spots
 
-  starts_behind : (e : Entry) (n : ℕ) → IsInFlash size e → e.memory ≡ memory.Flash → length e.starts ≡ 2 → n < e.slots → 49152 ≤ get_or e.starts n 0
+  starts_behind : (e : Entry) (n : ℕ) → IsInFlash size e → e.memory ≡ memory.Flash → length e.starts ≡ 2 → n < e.slots → IsBehindHead size (get_or e.starts n 0) (slot_size e)
   starts_behind e n held flash long below =
       let fits : e.slots ≤ length e.starts = omega (arith, long, held.1) in
       let starts : All (λ p. IsBehindHead size p (slot_size e)) (take e.slots e.starts) =
       subst (λ (m : Memory). All (λ p. IsBehindHead size p (slot_size e)) (starts_in m (take e.slots e.starts))) flash held.4 in
-      subst (λ (p : ℕ). 49152 ≤ p) (get_or-take e.slots e.starts n 0 below) (starts n 0 (omega (arith, below, length-take-le e.slots e.starts fits))).0
+      subst (λ (p : ℕ). IsBehindHead size p (slot_size e)) (get_or-take e.slots e.starts n 0 below) (starts n 0 (omega (arith, below, length-take-le e.slots e.starts fits)))
 
   -- the head lies outside the slots
-  outside_of : (e : Entry) (m : Memory) (index n i : ℕ) → e.memory ≡ m → IsOfMemory size e m → length e.starts ≡ 2 → n < e.slots → InHead VERSION_1 i
+  outside_of : FrameFacts size frame → (e : Entry) (m : Memory) (index n i : ℕ) → e.memory ≡ m → IsOfMemory size e m → length e.starts ≡ 2 → n < e.slots → InHead frame i
       → OutsideSpot (spot_of m e index n) i
-  outside_of e memory.Flash index n i same held long below inside = inl (omega (arith, inside.1, starts_behind e n held same long below))
-  outside_of e memory.Ram index n i same held long below inside = tt
+  outside_of here e memory.Flash index n i same held long below inside =
+      let clear = here.clear (get_or e.starts n 0) (slot_size e) (starts_behind e n held same long below) in
+      clear_outside (get_or e.starts n 0) (slot_size e) frame.base (head_size frame) (clear.1, clear.0) i inside.0 inside.1
+  outside_of here e memory.Ram index n i same held long below inside = tt
 
-  pub head_outside : (plan : PlanTree) (places : Places) (slots : SlotChoice) (standings : List Standing) → All IsTypedEntry layout → AreDistinct layout places
-      → IsChoice layout slots → StandAs layout places slots standings → (i : ℕ) → InHead VERSION_1 i → OutsideTargets plan standings i
-  head_outside plan places slots standings typed distinct choice stand i inside k d below target =
+  pub head_outside : FrameFacts size frame → (plan : PlanTree) (places : Places) (slots : SlotChoice) (standings : List Standing) → All IsTypedEntry layout → AreDistinct layout places
+      → IsChoice layout slots → StandAs layout places slots standings → (i : ℕ) → InHead frame i → OutsideTargets plan standings i
+  head_outside here plan places slots standings typed distinct choice stand i inside k d below target =
       let short : k < places.count = omega (arith, below, stand.count) in
       let index = get_or places.layout_index k 0 in
       let e = get_or layout index none in
       let there = distinct.inside k short in
       subst (λ (s : Standing). OutsideSpot s.spot i) (sym (stand.each k d none short))
-      (outside_of e e.memory index (get_or slots.number index 0) i refl (is.each index none there).held (typed index none there).starts (choice.one index none there) inside)
+      (outside_of here e e.memory index (get_or slots.number index 0) i refl (is.each index none there).held (typed index none there).starts (choice.one index none there) inside)
 
   -- ---- identities
 
@@ -136,8 +143,8 @@ module _ (size : ℕ) (layout : List Entry) (is : IsLayout VERSION_1 size layout
     chosen_there : IsChoice layout s.slots
     chosen_there = is_choice active s.slots s.chosen
 
-    pub head_stays : (plan : PlanTree) → All IsTypedEntry layout → (i : ℕ) → InHead VERSION_1 i → OutsideTargets plan standings i
-    head_stays plan typed = head_outside plan s.places s.slots standings typed distinct_there chosen_there s.stand
+    pub head_stays : FrameFacts size frame → (plan : PlanTree) → All IsTypedEntry layout → (i : ℕ) → InHead frame i → OutsideTargets plan standings i
+    head_stays here plan typed = head_outside here plan s.places s.slots standings typed distinct_there chosen_there s.stand
 
     pub identities_there : (plan : PlanTree) → All HasIdentifiers layout → plan.count ≡ length ids → AreIdentities plan (map (λ (s : Standing). s.identity) standings)
     identities_there plan typed count = are_identities s.places s.slots standings typed distinct_there chosen_there s.stand plan (omega (arith, count, s.stand.count, s.placed.count))

@@ -23,7 +23,9 @@ use Rattle.flash_layout.specs.declared.layout.Entry.{Entry}
 use Rattle.flash_layout.specs.declared.slot.Record.{Record}
 use Rattle.flash_layout.specs.ConfigLaws.{OneAnswer as OneConfigAnswer}
 use Rattle.flash_layout.specs.Configs.{Blank, ConfigOf, Configured}
-use Rattle.flash_layout.specs.Frames.{head_of}
+use Rattle.flash_layout.specs.FirstFrame.{to_first}
+use Rattle.flash_layout.specs.FrameFacts.{facts}
+use Rattle.flash_layout.specs.Frames.{IsFrame, head_of}
 use Rattle.flash_layout.specs.Layouts.{IsLayout, IsTypedEntry}
 use Rattle.flash_layout.specs.ToldFrames.{IsTold}
 use Rattle.rollback_record.specs.Committing.{InHead}
@@ -122,8 +124,8 @@ module _ (safe : SafeLaunches) (faulted : FaultedSafeLaunches) (plan : PlanTree)
   have_digests (plays.ConditionFailed place) end = of_play end.2
   have_digests (plays.DirectiveFailed place cause) end = of_stop place cause end
 
-module _ (safe : SafeLaunches) (faulted : FaultedSafeLaunches) (manifests : ManifestLaws) (size : ℕ) (layout : List Entry) (is : IsLayout VERSION_1 size layout)
-    (typed : All HasIdentifiers layout) (frame : Frame) (key : Key) (files : List ℕ → Option (List ℕ)) (before after : List ℕ) (launched now : List Launch) where
+module _ (safe : SafeLaunches) (faulted : FaultedSafeLaunches) (manifests : ManifestLaws) (frame : Frame) (size : ℕ) (layout : List Entry) (is : IsLayout frame size layout)
+    (typed : All HasIdentifiers layout) (key : Key) (files : List ℕ → Option (List ℕ)) (before after : List ℕ) (launched now : List Launch) where
   pub gains : (end : PlanEnd) → (p : PlaysBoot frame layout key files before after launched now end) → Safe (invocation_tree p.manifest) → GainsSafe launched now
   gains end p safe_plan =
       let holds = p.starts.started.1.spell.says in
@@ -133,7 +135,7 @@ module _ (safe : SafeLaunches) (faulted : FaultedSafeLaunches) (manifests : Mani
         added = p.on.plays.added;
         safe =
             have_digests safe faulted (invocation_tree p.manifest) (setting_of p.on.standings [] [] (steady files)) (contents_of p.on.standings (empty_ram layout) before) safe_plan
-            (identities_there size layout is p.manifest.components p.installed.active p.on.standings grammar.few grammar.apart p.on.stand (invocation_tree p.manifest) typed refl)
+            (identities_there frame size layout is p.manifest.components p.installed.active p.on.standings grammar.few grammar.apart p.on.stand (invocation_tree p.manifest) typed refl)
             (record { contents = contents_of p.on.standings p.on.ram after; launches = map launched_as p.on.plays.gained; asked = p.on.plays.asks }) end p.on.plays.ends;
       }
 
@@ -152,25 +154,29 @@ module _ (safe : SafeLaunches) (faulted : FaultedSafeLaunches) (manifests : Mani
 
 -- ---- the head
 
-module _ (manifests : ManifestLaws) (size : ℕ) (layout : List Entry) (is : IsLayout VERSION_1 size layout) (typed : All IsTypedEntry layout) (frame : Frame) (key : Key) (a b : Flash) where
-  boot_kept : KeepsBoot frame layout key a b → Keeps (InHead VERSION_1) a b
+module _ (manifests : ManifestLaws) (frame : Frame) (size : ℕ) (is_frame : IsFrame size frame) (layout : List Entry) (is : IsLayout frame size layout) (typed : All IsTypedEntry layout) (key : Key) (a b : Flash) where
+  boot_kept : KeepsBoot frame layout key a b → Keeps (InHead frame) a b
   boot_kept kept =
       let holds = kept.starts.started.1.spell.says in
       let grammar = manifests.grammatical kept.starts.said.manifest_place holds.item kept.manifest holds.says_so in
       let plan = invocation_tree kept.manifest in
-      keeps_fewer (InHead VERSION_1) (OutsideTargets plan kept.others.standings)
-      (head_stays size layout is kept.manifest.components kept.installed.active kept.others.standings grammar.few grammar.apart kept.others.stand plan typed)
+      keeps_fewer (InHead frame) (OutsideTargets plan kept.others.standings)
+      (head_stays frame size layout is kept.manifest.components kept.installed.active kept.others.standings grammar.few grammar.apart kept.others.stand (facts size frame is_frame) plan typed)
       a b kept.others.keeps
 
-  pub head_kept : (answer : BootEnd) → KeptSo (KeepsBoot frame layout key a b) (IsSame a b) answer → Keeps (InHead VERSION_1) a b
+  head_kept : (answer : BootEnd) → KeptSo (KeepsBoot frame layout key a b) (IsSame a b) answer → Keeps (InHead frame) a b
   head_kept ends.Ended k = boot_kept k
   head_kept (ends.Condition place) k = boot_kept k
   head_kept (ends.Stopped place cause) k = boot_kept k
-  head_kept ends.FlashFault k = ⊎_elim (λ same. keeps_same (InHead VERSION_1) a b same) (λ kept. boot_kept kept) k
-  head_kept ends.NothingInstalled k = keeps_same (InHead VERSION_1) a b k
-  head_kept (ends.BadBank r) k = keeps_same (InHead VERSION_1) a b k
-  head_kept (ends.NotAuthentic l) k = keeps_same (InHead VERSION_1) a b k
-  head_kept (ends.UnknownComponent i) k = keeps_same (InHead VERSION_1) a b k
+  head_kept ends.FlashFault k = ⊎_elim (λ same. keeps_same (InHead frame) a b same) (λ kept. boot_kept kept) k
+  head_kept ends.NothingInstalled k = keeps_same (InHead frame) a b k
+  head_kept (ends.BadBank r) k = keeps_same (InHead frame) a b k
+  head_kept (ends.NotAuthentic l) k = keeps_same (InHead frame) a b k
+  head_kept (ends.UnknownComponent i) k = keeps_same (InHead frame) a b k
+
+  -- what a configuration is read of stands in the head of version 1
+  pub front_kept : (answer : BootEnd) → KeptSo (KeepsBoot frame layout key a b) (IsSame a b) answer → Keeps (InHead VERSION_1) a b
+  front_kept answer kept = to_first size frame is_frame (λ (f : Frame). Keeps (InHead f) a b) (head_kept answer kept)
 
 -- at the end, where nothing is pending, or nothing was started
 pub settled_end : (a b : Flash) (size : ℕ) → IsFlash b size → Settled a → Passes a b Sound → IsSame a b ⊎ IsSettled b → Settled b

@@ -1,7 +1,5 @@
 //! A command over a port.
 
-ghost use Rattle.flash_layout.specs.declared.frame.TheConstants.{VERSION_1};
-ghost use Rattle.flash_layout.specs.Frames.{head_size};
 ghost use Rattle.port_c.specs.Commands.{HasRun, HasRunThere};
 ghost use Rattle.std.specs.Prelude.{◌≡◌, ◌<◌, ◌≤◌, ◌⊎◌, ℤ, IfOk, OnErr, pos};
 ghost use Rattle.suit_cli.specs.Program.{IsStatus, world};
@@ -22,7 +20,7 @@ fn command<H: Host, D: Disk, L: Launcher, K: Sink>(
     launcher: &mut L,
     out: &mut K,
 ) -> Result<Status, AllocError>
-    requires { head_size VERSION_1 ≤ D.extent flash.old }
+    requires { HEAD_SIZE ≤ D.extent flash.old }
     ensures ran { IfOk result (λ status. HasRun bytes.now
         (world (⟦<H as SeenHost>⟧.seen host.old (⟦<D as SeenDisk>⟧.seen flash.old))
         (⟦<L as SeenLauncher>⟧.seen launcher.old) (⟦<K as SeenSink>⟧.seen out.old)
@@ -42,8 +40,8 @@ fn command<H: Host, D: Disk, L: Launcher, K: Sink>(
 /// fewer than 49,152 bytes, and 11 where memory runs out for the words; then no message is sent.
 #[unsafe(no_mangle)]
 pub extern "C" fn suit_command(alloc: Global, words: &[u8], port: i32, flash_size: u64) -> i32
-    ensures small { flash_size < head_size VERSION_1 → result ≡ pos 8 }
-    ensures runs { head_size VERSION_1 ≤ flash_size
+    ensures small { flash_size < HEAD_SIZE → result ≡ pos 8 }
+    ensures runs { HEAD_SIZE ≤ flash_size
         → HasRunThere words.now result ⊎ (result ≡ pos 11) }
 {
     if flash_size < u64::from(HEAD_SIZE) {

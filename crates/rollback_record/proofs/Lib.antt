@@ -1,4 +1,5 @@
 pub mod Answered
+pub mod Widths
 pub mod Fields
 pub mod ConfigSlots
 pub mod SlotCounts

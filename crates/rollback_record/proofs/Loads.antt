@@ -8,7 +8,7 @@ use Rattle.suit_edge.specs.Gate.{IsGate}
 use Rattle.flash_layout.specs.declared.frame.Frame.{Frame}
 use Rattle.flash_layout.specs.declared.slot.Record.{Record}
 use Rattle.flash_layout.specs.Frames.{config_page_of, head_size, record_from}
-use Rattle.rollback_record.specs.RecordPage.{IsPageBeside, IsRecordPage}
+use Rattle.rollback_record.specs.RecordPage.{IsPageBeside, IsRecordPage, record_length}
 use Rattle.rollback_record.specs.Committing.{HasPages, IsSpare}
 use Rattle.rollback_record.specs.HeadRecord.{Counts, HaveRead, IsLoadable, RecordOf, beside_higher, higher, record_bytes}
 
@@ -113,7 +113,7 @@ module _ (frame : Frame) (h first second : List ℕ) (whole : head_size frame �
   gate_at : (w : ℕ) (bytes : List ℕ) → bytes ≡ record_bytes frame h w → get_or bytes 0 0 ≡ get_or h (record_from frame w) 0
   gate_at w bytes is =
       let at : record_from frame w + 0 ≡ record_from frame w = omega arith in
-      ap (λ (l : List ℕ). get_or l 0 0) is ∙ get_or-between h (record_from frame w) (record_from frame w + 99) 0 0 (omega arith) ∙ ap (λ (k : ℕ). get_or h k 0) at
+      ap (λ (l : List ℕ). get_or l 0 0) is ∙ get_or-between h (record_from frame w) (record_from frame w + record_length frame) 0 0 (omega arith) ∙ ap (λ (k : ℕ). get_or h k 0) at
 
   pub first_gate : (w : ℕ) → w ≡ 0 → get_or first 0 0 ≡ get_or h (record_from frame w) 0
   first_gate w is = gate_at 0 first read.first_is ∙ ap (λ (k : ℕ). get_or h (record_from frame k) 0) (sym is)

@@ -12,10 +12,11 @@ use Rattle.flash_layout.specs.declared.slot.Record.{Record}
 use Rattle.flash_layout.specs.FrameFacts.{FrameFacts}
 use Rattle.flash_layout.specs.FrameFacts as places
 use Rattle.flash_layout.specs.Frames.{config_page_of, head_of, head_size, page_bytes, record_place}
-use Rattle.rollback_record.specs.RecordPage.{IsTypedRecord, IsInRange, IsRecordPage, record_body}
+use Rattle.rollback_record.specs.RecordPage.{IsTypedRecord, IsInRange, IsRecordPage, record_body, record_length}
 use Rattle.rollback_record.specs.HeadRecord.{record_bytes, Counts, HoldsRecord, RecordOf}
 use Rattle.rollback_record.specs.Committing.{InHead, IsNext, IsSpare}
 use Rattle.rollback_record.proofs.Fields.{one_record}
+use Rattle.rollback_record.proofs.Widths.{most_few}
 
 -- ---- by the frame of version 1
 
@@ -41,8 +42,8 @@ module _ (size : ℕ) (frame : Frame) (is : FrameFacts size frame) where
   pub head_long : (image : List ℕ) → frame.base + head_size frame ≤ length image → head_size frame ≤ length (head_of frame image)
   head_long image long = omega (arith, places.head_long size frame is image long)
 
-  pub bytes_in : (image : List ℕ) (w : ℕ) → w < 2 → record_bytes frame (head_of frame image) w ≡ slice_range image (page w) (page w + 99)
-  bytes_in image w two = places.record_there size frame is image w 99 two (omega arith)
+  pub bytes_in : (image : List ℕ) (w : ℕ) → w < 2 → record_bytes frame (head_of frame image) w ≡ slice_range image (page w) (page w + record_length frame)
+  bytes_in image w two = places.record_there size frame is image w (record_length frame) two (omega (arith, most_few frame))
 
   -- ---- pages that count
 
@@ -58,12 +59,12 @@ module _ (size : ℕ) (frame : Frame) (is : FrameFacts size frame) where
   pub gate_open : (c : List ℕ) (w : ℕ) (r : Record) → w < 2 → Counts frame (head c) w r → get_or c (page w) 0 ≡ 0xA5
   gate_open c w r two count =
       let at : page w + 0 ≡ page w = omega arith in
-      ap (λ (k : ℕ). get_or c k 0) (sym at) ∙ sym (get_or-between c (page w) (page w + 99) 0 0 (omega arith)) ∙ ap (λ (l : List ℕ). get_or l 0 0) (sym (bytes_in c w two)) ∙ ap (λ (l : List ℕ). get_or l 0 0) count.page.bytes
+      ap (λ (k : ℕ). get_or c k 0) (sym at) ∙ sym (get_or-between c (page w) (page w + record_length frame) 0 0 (omega arith)) ∙ ap (λ (l : List ℕ). get_or l 0 0) (sym (bytes_in c w two)) ∙ ap (λ (l : List ℕ). get_or l 0 0) count.page.bytes
 
   -- ---- one page is written
 
   module _ (a c : List ℕ) (w : ℕ) (large : frame.base + head_size frame ≤ length a) (long : length c ≡ length a) (two : w < 2)
-      (apart : (i : ℕ) → InHead frame i → Outside (page w) 99 i → get_or c i 0 ≡ get_or a i 0) where
+      (apart : (i : ℕ) → InHead frame i → Outside (page w) (record_length frame) i → get_or c i 0 ≡ get_or a i 0) where
     large_c : frame.base + head_size frame ≤ length c
     large_c = omega (arith, long, large)
 
@@ -74,18 +75,18 @@ module _ (size : ℕ) (frame : Frame) (is : FrameFacts size frame) where
         (λ i low high. apart i (low, omega (arith, high, is.page, is.head)) (inl (omega (arith, high, is.page)))))
         ∙ sym (places.page_there size frame is c)
 
-    beside : (v i : ℕ) → v + w ≡ 1 → page v ≤ i → i < page v + 99 → Outside (page w) 99 i
+    beside : (v i : ℕ) → v + w ≡ 1 → page v ≤ i → i < page v + record_length frame → Outside (page w) (record_length frame) i
     beside v i other low high = ⊎_elim (λ h. inl h) (λ h. inr (behind h)) (cases_lt i (page w))
       where
-        behind : page w ≤ i → page w + 99 ≤ i
-        behind h = omega (arith, other, low, high, h)
+        behind : page w ≤ i → page w + record_length frame ≤ i
+        behind h = omega (arith, other, low, high, h, most_few frame)
 
     other_same : (v : ℕ) → v + w ≡ 1 → record_bytes frame (head a) v ≡ record_bytes frame (head c) v
     other_same v other =
         let few : v < 2 = omega (arith, other) in
         bytes_in a v few
-        ∙ sym (same_range c a (page v) (page v + 99) long (omega (arith, large_c, few, is.head))
-        (λ i low high. apart i (omega (arith, low), omega (arith, high, few, is.head)) (beside v i other low high)))
+        ∙ sym (same_range c a (page v) (page v + record_length frame) long (omega (arith, large_c, few, is.head, most_few frame))
+        (λ i low high. apart i (omega (arith, low), omega (arith, high, few, is.head, most_few frame)) (beside v i other low high)))
         ∙ sym (bytes_in c v few)
 
     to_new : (v : ℕ) (r : Record) → v + w ≡ 1 → Counts frame (head a) v r → Counts frame (head c) v r
@@ -130,7 +131,7 @@ module _ (size : ℕ) (frame : Frame) (is : FrameFacts size frame) where
         back = omega (arith, two)
 
     -- the page is the new record's
-    pub fresh : (o : Option Record) (new : Record) → IsNext o new → IsTypedRecord new → IsInRange frame (config_page_of frame (head a)) new → record_bytes frame (head c) w ≡ 0xA5 ∷ record_body new
+    pub fresh : (o : Option Record) (new : Record) → IsNext o new → IsTypedRecord new → IsInRange frame (config_page_of frame (head a)) new → record_bytes frame (head c) w ≡ 0xA5 ∷ record_body frame new
         → IsSpare frame (head a) o w → RecordOf frame (head a) o → HoldsRecord frame (head c) new
     fresh None new next typed fields bytes spare none = record {
       which = w;

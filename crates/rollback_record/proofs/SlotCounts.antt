@@ -8,30 +8,31 @@ use Rattle.flash_layout.specs.declared.layout.Entry.{Entry}
 use Rattle.flash_layout.specs.declared.layout.Memory.TheVariants as memory
 use Rattle.flash_layout.specs.declared.slot.Record.{Record}
 use Rattle.flash_layout.specs.Configs.{ConfigOf, Configured}
-use Rattle.flash_layout.specs.Frames.{config_page_of, head_of}
+use Rattle.flash_layout.specs.Frames.{config_page_of, head_of, most}
 use Rattle.rollback_record.specs.RecordPage.{CountSlots, HasSlot, IsActiveSlot, IsPageBeside, IsRecordPage}
 use Rattle.rollback_record.proofs.ConfigSlots.{has_two, second_slot}
+use Rattle.rollback_record.proofs.Widths.{most_few}
 
-module _ (frame : Frame) (config slots : List ℕ) (counts : CountSlots config slots) where
-  to_active : (i slot : ℕ) → i < 8 → HasSlot (get_or slots i 0) slot → IsActiveSlot config i slot
-  to_active i slot low (inl first) = inl first
-  to_active i slot low (inr (second, two)) = inr (second, (counts i low).0 two)
+module _ (frame : Frame) (config slots : List ℕ) (counts : CountSlots frame config slots) where
+  to_active : (i slot : ℕ) → HasSlot frame slots i slot → IsActiveSlot frame config i slot
+  to_active i slot (inl first) = inl first
+  to_active i slot (inr second) = inr (second.0, second.1, (counts i second.1).0 second.2)
 
-  from_active : (i slot : ℕ) → i < 8 → IsActiveSlot config i slot → HasSlot (get_or slots i 0) slot
-  from_active i slot low (inl first) = inl first
-  from_active i slot low (inr (second, two)) = inr (second, (counts i low).1 two)
+  from_active : (i slot : ℕ) → IsActiveSlot frame config i slot → HasSlot frame slots i slot
+  from_active i slot (inl first) = inl first
+  from_active i slot (inr second) = inr (second.0, second.1, (counts i second.1).1 second.2)
 
   to_page : (page : List ℕ) (r : Record) → IsPageBeside frame slots page r → IsRecordPage frame config page r
   to_page page r is = record {
     typed = is.typed;
-    fields = record { bank = is.fields.bank; size = is.fields.size; active = λ i low. to_active i (get_or r.active i 0) low (is.fields.active i low) };
+    fields = record { bank = is.fields.bank; size = is.fields.size; active = λ i low. to_active i (get_or r.active i 0) (is.fields.active i low) };
     bytes = is.bytes;
   }
 
   from_page : (page : List ℕ) (r : Record) → IsRecordPage frame config page r → IsPageBeside frame slots page r
   from_page page r is = record {
     typed = is.typed;
-    fields = record { bank = is.fields.bank; size = is.fields.size; active = λ i low. from_active i (get_or r.active i 0) low (is.fields.active i low) };
+    fields = record { bank = is.fields.bank; size = is.fields.size; active = λ i low. from_active i (get_or r.active i 0) (is.fields.active i low) };
     bytes = is.bytes;
   }
 
@@ -48,11 +49,14 @@ some_entry = record { identifier = []; memory = memory.Ram; slots = 0; starts = 
 
 -- the slots of a layout are those of its configuration page
 pub of_layout : (frame : Frame) (size : ℕ) (image : List ℕ) (layout : List Entry) (key : Key) (slots : List ℕ) → ConfigOf size image (Configured layout key frame)
-    → ((i : ℕ) → i < 8 → (get_or slots i 0 ≡ 2) ↔ ((i < length layout) × ((d : Entry) → (get_or layout i d).slots ≡ 2))) → CountSlots (config_page_of frame (head_of frame image)) slots
+    → ((i : ℕ) → i < 32 → (get_or slots i 0 ≡ 2) ↔ ((i < length layout) × ((d : Entry) → (get_or layout i d).slots ≡ 2))) → CountSlots frame (config_page_of frame (head_of frame image)) slots
 of_layout frame size image layout key slots is counts = λ i low. (
-  λ two. let has = (counts i low).0 two in second_slot frame size (config_page_of frame (head_of frame image)) layout key is.page is.typed.entries is.typed.room i some_entry has.0 (has.1 some_entry),
-  λ second. (counts i low).1 (has_two frame size (config_page_of frame (head_of frame image)) layout key is.page is.typed.entries is.typed.room i second),
+  λ two. let has = (counts i (near i low)).0 two in second_slot frame size (config_page_of frame (head_of frame image)) layout key is.page is.typed.entries is.typed.room i some_entry has.0 (has.1 some_entry),
+  λ second. (counts i (near i low)).1 (has_two frame size (config_page_of frame (head_of frame image)) layout key is.page is.typed.entries is.typed.room i second),
 )
+  where
+    near : (i : ℕ) → i < most frame → i < 32
+    near i low = omega (arith, low, most_few frame)
 
 -- ---- one slot after another
 

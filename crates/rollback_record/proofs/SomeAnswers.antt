@@ -1,5 +1,5 @@
 -- The head of an image has a record, or none.
-use Rattle.std.proofs.Common.{◌≡◌, ◌⊎◌, ⊎_elim, inl, inr, ◌<◌, ◌≤◌, ℕ, zero, suc, List, ◌∷◌, length, get_or, Option, Some, None, refl, sym, subst, ◌∙◌, arith}
+use Rattle.std.proofs.Common.{◌≡◌, ◌⊎◌, ⊎_elim, inl, inr, ◌<◌, ◌≤◌, ℕ, zero, suc, ◌+◌, ◌*◌, List, ◌∷◌, length, get_or, Option, Some, None, refl, sym, subst, ◌∙◌, arith}
 use Rattle.std.proofs.lemmas.Bool.{cases_Bool, cases_eq, cases_lt}
 use Rattle.std.proofs.lemmas.Bool.Decides.{not_from_Decides}
 use Rattle.std.proofs.lemmas.Slice.Eq.{bytes_eq-Decides}
@@ -7,10 +7,10 @@ use Rattle.suit_params.specs.DigestBytes.{digest_bytes, digest_kind}
 use Rattle.suit_params.specs.DigestKinds.{size_of}
 use Rattle.flash_layout.specs.declared.frame.Frame.{Frame}
 use Rattle.flash_layout.specs.declared.slot.Record.{Record}
-use Rattle.flash_layout.specs.Frames.{bank_size, config_page_of, head_size}
+use Rattle.flash_layout.specs.Frames.{bank_size, config_page_of, head_size, most}
 use Rattle.rollback_record.specs.HeadRecord.{record_bytes, Counts, IsBelow, RecordOf}
 use Rattle.rollback_record.specs.RecordLaws.{SomeAnswer}
-use Rattle.rollback_record.specs.RecordPage.{IsActiveSlot, IsInRange, IsRecordPage, IsTypedRecord, fields_at, record_body}
+use Rattle.rollback_record.specs.RecordPage.{HasSecondSlot, IsActiveSlot, IsInRange, IsRecordPage, IsTypedRecord, fields_at, record_body}
 use Rattle.rollback_record.proofs.Fields.{one_record, page_read, some_never, some_same}
 
 -- ---- decided
@@ -58,17 +58,22 @@ typed r =
     like _ _
     (λ t. record { generation = t.0; sequence = t.1.0; size = t.1.1.0; digest = t.1.1.1.0; active = t.1.1.1.1 })
     (λ t. (t.generation, (t.sequence, (t.size, (t.digest, t.active)))))
-    (both _ _ (less r.generation _) (both _ _ (less r.sequence _) (both _ _ (less r.length _) (both _ _ (cases_eq (length (digest_bytes r.digest)) (size_of (digest_kind r.digest))) (cases_eq (length r.active) 8)))))
+    (both _ _ (less r.generation _) (both _ _ (less r.sequence _) (both _ _ (less r.length _) (both _ _ (cases_eq (length (digest_bytes r.digest)) (size_of (digest_kind r.digest))) (cases_eq (length r.active) 32)))))
 
-active : (config : List ℕ) (i slot : ℕ) → Decided (IsActiveSlot config i slot)
-active config i slot = either _ _ (cases_eq slot 0) (both _ _ (cases_eq slot 1) (both _ _ (less i _) (cases_eq _ 2)))
+second : (frame : Frame) (config : List ℕ) (i slot : ℕ) → Decided ((slot ≡ 1) × (i < most frame) × HasSecondSlot config i)
+second frame config i slot =
+    like _ _ (λ t. (t.0, t.1.0, t.1.1)) (λ t. (t.0, (t.1, t.2)))
+    (both _ _ (cases_eq slot 1) (both _ _ (less i (most frame)) (both _ _ (less i (get_or config 3 0)) (cases_eq (get_or config (142 * i + 69) 0) 2))))
+
+active : (frame : Frame) (config : List ℕ) (i slot : ℕ) → Decided (IsActiveSlot frame config i slot)
+active frame config i slot = either _ _ (cases_eq slot 0) (second frame config i slot)
 
 in_range : (frame : Frame) (config : List ℕ) (r : Record) → Decided (IsInRange frame config r)
 in_range frame config r =
     like _ _
     (λ t. record { bank = t.0; size = t.1.0; active = t.1.1 })
     (λ t. (t.bank, (t.size, t.active)))
-    (both _ _ (less r.bank 2) (both _ _ (at_most r.length (bank_size frame)) (below (λ i. IsActiveSlot config i (get_or r.active i 0)) (λ i. active config i (get_or r.active i 0)) 8)))
+    (both _ _ (less r.bank 2) (both _ _ (at_most r.length (bank_size frame)) (below (λ i. IsActiveSlot frame config i (get_or r.active i 0)) (λ i. active frame config i (get_or r.active i 0)) 32)))
 
 module _ (frame : Frame) (config page : List ℕ) where
   page_of : (r : Record) → Decided (IsRecordPage frame config page r)
@@ -76,7 +81,7 @@ module _ (frame : Frame) (config page : List ℕ) where
       like _ _
       (λ t. record { typed = t.0; fields = t.1.0; bytes = t.1.1 })
       (λ t. (t.typed, (t.fields, t.bytes)))
-      (both _ _ (typed r) (both _ _ (in_range frame config r) (same page (0xA5 ∷ record_body r))))
+      (both _ _ (typed r) (both _ _ (in_range frame config r) (same page (0xA5 ∷ record_body frame r))))
 
   -- whether it counts
   counted : Decided ((r : Record) × IsRecordPage frame config page r)

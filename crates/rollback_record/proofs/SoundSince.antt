@@ -7,8 +7,8 @@ use Rattle.flash_layout.specs.declared.frame.Frame.{Frame}
 use Rattle.flash_layout.specs.declared.slot.Record.{Record}
 use Rattle.flash_layout.specs.Frames.{IsFrame, head_of, record_place}
 use Rattle.flash_layout.specs.ToldFrames.{told_by}
-use Rattle.rollback_record.specs.declared.page.TheConstants.{RECORD_BYTES}
 use Rattle.rollback_record.specs.HeadRecord.{RecordOf}
+use Rattle.rollback_record.specs.RecordPage.{record_length}
 use Rattle.rollback_record.specs.Committing.{HasHeldOrNew, InHead, IsSpare, KeepsBesideSpare}
 use Rattle.rollback_record.specs.SettledLaws.{both}
 use Rattle.rollback_record.specs.SoundFlash.{Follows, IsNoEarlier, Sound}
@@ -22,7 +22,7 @@ spare_two frame head (Some r) w spare = spare.0
 module _ (size : ℕ) (frame : Frame) (is : IsFrame size frame) (a b : Flash) (held : Option Record) (new : Record) (law : IsFlash a size) (was : RecordOf frame (head_of frame a.reads) held)
     (firm : IsFirmOn (InHead frame) a) (run : Passes a b (HasHeldOrNew frame held new)) (kept : KeepsBesideSpare frame held a b) where
   abbrev Beside : List ℕ → Type 0
-  Beside image = ImageOn (Outside (record_place frame kept.which) RECORD_BYTES) a image
+  Beside image = ImageOn (Outside (record_place frame kept.which) (record_length frame)) a image
 
   frame_is : HasFrame frame a.reads
   frame_is = record { is = subst (λ (n : ℕ). IsFrame n frame) (sym law.fits) is; told = told_by size frame is (length a.reads) a.reads }

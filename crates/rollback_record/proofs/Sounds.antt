@@ -16,10 +16,12 @@ use Rattle.flash_layout.specs.FrameFacts.{FrameFacts, bank_high, bank_there, fac
 use Rattle.flash_layout.specs.Frames.{HasNoRecord, bank_of, bank_place, bank_size, config_page_of, head_of, head_size, record_from, record_place}
 use Rattle.rollback_record.specs.Committing.{InHead}
 use Rattle.rollback_record.specs.HeadRecord.{Counts, RecordOf}
+use Rattle.rollback_record.specs.RecordPage.{record_length}
 use Rattle.rollback_record.specs.SoundFlash.{Follows, FollowsBlank, FollowsOn, IsInstalled, IsNoEarlier, Sound, SoundBlank, SoundEmpty, SoundInstalled, recorded_bank}
 use Rattle.rollback_record.specs.SoundLaws.{HasNewInRange, IsCommitted, IsInstalledFor}
 use Rattle.rollback_record.proofs.OneAnswers.{one_answer}
 use Rattle.rollback_record.proofs.Pages.{config_same}
+use Rattle.rollback_record.proofs.Widths.{most_few}
 use Rattle.rollback_record.proofs.SoundBy.{SoundBy, BlankBy, EmptyBy, InstalledBy, sound_by}
 
 -- ---- no record
@@ -27,7 +29,7 @@ use Rattle.rollback_record.proofs.SoundBy.{SoundBy, BlankBy, EmptyBy, InstalledB
 gate_of : (frame : Frame) (head : List ℕ) (w : ℕ) (r : Record) → Counts frame head w r → get_or head (record_from frame w) 0 ≡ 0xA5
 gate_of frame head w r is =
     let at : record_from frame w + 0 ≡ record_from frame w = omega arith in
-    ap (λ (k : ℕ). get_or head k 0) (sym at) ∙ sym (get_or-between head (record_from frame w) (record_from frame w + 99) 0 0 (omega arith)) ∙ ap (λ (l : List ℕ). get_or l 0 0) is.page.bytes
+    ap (λ (k : ℕ). get_or head k 0) (sym at) ∙ sym (get_or-between head (record_from frame w) (record_from frame w + record_length frame) 0 0 (omega arith)) ∙ ap (λ (l : List ℕ). get_or l 0 0) is.page.bytes
 
 pub no_record : (frame : Frame) (head : List ℕ) → HasNoRecord frame head → RecordOf frame head None
 no_record frame head closed which r few is = ⊎_elim
@@ -122,7 +124,7 @@ module _ (size : ℕ) (frame : Frame) (placed : FrameFacts size frame) (a c : Li
 -- ---- a commit
 
 module _ (size : ℕ) (frame : Frame) (placed : FrameFacts size frame) (a c : List ℕ) (w : ℕ) (large : frame.base + head_size frame ≤ length a) (long : length c ≡ length a) (two : w < 2)
-    (apart : (i : ℕ) → InHead frame i → Outside (record_place frame w) 99 i → get_or c i 0 ≡ get_or a i 0) where
+    (apart : (i : ℕ) → InHead frame i → Outside (record_place frame w) (record_length frame) i → get_or c i 0 ≡ get_or a i 0) where
   page_same : config_page_of frame (head_of frame a) ≡ config_page_of frame (head_of frame c)
   page_same = config_same size frame placed a c w large long two apart
 
@@ -138,7 +140,7 @@ module _ (size : ℕ) (frame : Frame) (placed : FrameFacts size frame) (a c : Li
   bank_same : (b n : ℕ) → b < 2 → n ≤ bank_size frame → bank_of frame (head_of frame a) b n ≡ bank_of frame (head_of frame c) b n
   bank_same b n few short =
       same_bank size frame placed a c large long page_same gate_same b n few short
-      (λ i low high. apart i (omega (arith, low), omega (arith, high, short, bank_high size frame placed b few)) (inr (omega (arith, low, two))))
+      (λ i low high. apart i (omega (arith, low), omega (arith, high, short, bank_high size frame placed b few)) (inr (omega (arith, low, two, most_few frame))))
 
   installed_same : (layout : List Entry) (key : Key) (r : Record) → r.bank < 2 → r.length ≤ bank_size frame → IsInstalled layout key (recorded_bank frame (head_of frame a) r) r
       → IsInstalled layout key (recorded_bank frame (head_of frame c) r) r
@@ -187,7 +189,7 @@ module _ (frame : Frame) (held : Option Record) (new : Record) (before image : L
   there : FrameFacts (length before) frame
   there = facts (length before) frame is.frame_is.is
 
-  beside : (i : ℕ) → InHead frame i → Outside (record_place frame is.which) 99 i → get_or image i 0 ≡ get_or before i 0
+  beside : (i : ℕ) → InHead frame i → Outside (record_place frame is.which) (record_length frame) i → get_or image i 0 ≡ get_or before i 0
   beside i inside out = is.beside.same i (inside, out)
 
   pub committed : HasNewInRange frame before new → IsInstalledFor before new → Sound before → Sound image

@@ -13,10 +13,12 @@ use Rattle.flash_layout.specs.Frames.{bank_from, config_page_of, head_of, head_s
 use Rattle.rollback_record.specs.declared.spare.Spare.{Spare}
 use Rattle.rollback_record.specs.Committing.{HasSpare, IsSpare}
 use Rattle.rollback_record.specs.HeadRecord.{Counts, RecordOf, record_bytes}
+use Rattle.rollback_record.specs.RecordPage.{record_length}
 use Rattle.rollback_record.specs.SoundFlash.{Follows, FollowsBlank, FollowsOn, IsInstalled, Sound, SoundBlank, SoundEmpty, SoundInstalled, recorded_bank}
 use Rattle.rollback_record.specs.SoundLaws.{HasFrame, IsStillSound, SaysRecorded}
 use Rattle.rollback_record.proofs.OneAnswers.{one_answer}
 use Rattle.rollback_record.proofs.Pages.{bytes_in, counts_of}
+use Rattle.rollback_record.proofs.Widths.{most_few}
 use Rattle.rollback_record.proofs.SoundBy.{SoundBy, BlankBy, EmptyBy, InstalledBy, sound_by}
 use Rattle.rollback_record.proofs.Sounds.{same_bank, same_blank, same_config}
 
@@ -47,7 +49,7 @@ module _ (frame : Frame) (held : Option Record) (a c : List ℕ) (has : HasFrame
   bytes_same : (v : ℕ) → v < 2 → record_bytes frame (head_of frame a) v ≡ record_bytes frame (head_of frame c) v
   bytes_same v few =
       bytes_in (length a) frame is a v few
-      ∙ sym (same_range c a (record_place frame v) (record_place frame v + 99) same.size (omega (arith, large_c, few, is.head)) (λ i low high. front i (omega (arith, low)) (omega (arith, high, few, is.first_bank))))
+      ∙ sym (same_range c a (record_place frame v) (record_place frame v + record_length frame) same.size (omega (arith, large_c, few, is.head, most_few frame)) (λ i low high. front i (omega (arith, low)) (omega (arith, high, few, is.first_bank, most_few frame))))
       ∙ sym (bytes_in (length a) frame is c v few)
 
   counted : (v : ℕ) (r : Record) → v < 2 → Counts frame (head_of frame a) v r → Counts frame (head_of frame c) v r

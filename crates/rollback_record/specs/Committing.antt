@@ -6,10 +6,10 @@ use Rattle.suit_edge.specs.Ranges.{Within, Outside}
 use Rattle.flash_layout.specs.declared.frame.Frame.{Frame}
 use Rattle.flash_layout.specs.declared.slot.Record.{Record}
 use Rattle.flash_layout.specs.Frames.{head_of, head_size, record_from, record_place}
-use Rattle.rollback_record.specs.declared.page.TheConstants.{RECORD_BYTES}
 use Rattle.rollback_record.specs.declared.spare.RecordPages.{RecordPages}
 use Rattle.rollback_record.specs.declared.spare.Spare.{Spare}
 use Rattle.rollback_record.specs.HeadRecord.{Counts, RecordOf}
+use Rattle.rollback_record.specs.RecordPage.{record_length}
 
 -- the places of the head
 abbrev pub InHead : Frame → ℕ → Type 0
@@ -45,4 +45,4 @@ pub record HasPages (frame : Frame) (head : List ℕ) (pages : RecordPages) : Ty
 pub record KeepsBesideSpare (frame : Frame) (held : Option Record) (old new : Flash) : Type 0 where
   pub which : ℕ
   pub spare : IsSpare frame (head_of frame old.reads) held which
-  pub keeps : Keeps (Outside (record_place frame which) RECORD_BYTES) old new
+  pub keeps : Keeps (Outside (record_place frame which) (record_length frame)) old new

@@ -4,13 +4,12 @@ use Rattle.flash_layout.specs.declared.frame.Frame.{Frame}
 use Rattle.flash_layout.specs.declared.slot.Record.{Record}
 pub use Rattle.flash_layout.specs.FaultCounts.{ResultCounts}
 use Rattle.flash_layout.specs.Frames.{bank_size, config_page_of, head_size, record_from}
-use Rattle.rollback_record.specs.declared.page.TheConstants.{RECORD_BYTES}
-use Rattle.rollback_record.specs.RecordPage.{IsTypedRecord, IsRecordPage}
+use Rattle.rollback_record.specs.RecordPage.{IsTypedRecord, IsRecordPage, record_length}
 
 -- the bytes of a record page that are read
 abbrev pub record_bytes : Frame → List ℕ → ℕ → List ℕ
 record_bytes frame head which =
-    slice_range head (record_from frame which) (record_from frame which + RECORD_BYTES)
+    slice_range head (record_from frame which) (record_from frame which + record_length frame)
 
 -- that page of the head counts, and holds the record
 pub record Counts (frame : Frame) (head : List ℕ) (which : ℕ) (r : Record) : Type 0 where

@@ -1,5 +1,6 @@
--- A record page of the flash: a gate, and a record behind it. All numbers are big-endian.
-use Rattle.std.specs.Prelude.{◌≡◌, ◌↔◌, ◌⊎◌, ◌<◌, ◌≤◌, ◌+◌, ◌*◌, ◌^◌, ℕ, List, ◌∷◌, ◌++◌, Option, option_map, length, slice_index, slice_range}
+-- A record page of the flash: a gate, and a record behind it. All numbers are big-endian. In memory a record has an active
+-- slot for each of 32 components; its page bears those of as many as a layout of the flash may have, and all others are 0.
+use Rattle.std.specs.Prelude.{◌≡◌, ◌↔◌, ◌⊎◌, ◌<◌, ◌≤◌, ◌+◌, ◌*◌, ◌^◌, ℕ, List, ◌∷◌, ◌++◌, Option, option_map, drop, length, slice_index, slice_range, take}
 use Rattle.suit_params.specs.declared.digest.Digest.{Digest}
 use Rattle.suit_params.specs.DigestBytes.{digest_bytes, digest_by, IsLong}
 use Rattle.suit_params.specs.DigestKinds.{size_of, kind_of_length}
@@ -9,7 +10,11 @@ use Rattle.flash_layout.specs.declared.frame.TheConstants.{ENTRY_SIZE, FRONT_SIZ
 use Rattle.flash_layout.specs.declared.slot.Record.{Record}
 use Rattle.flash_layout.specs.ConfigPage.{number_bytes, padded}
 use Rattle.flash_layout.specs.PageReading.{number_at}
-use Rattle.flash_layout.specs.Frames.{bank_size}
+use Rattle.flash_layout.specs.Frames.{bank_size, most}
+
+-- how many of its bytes are read
+abbrev pub record_length : Frame → ℕ
+record_length frame = 91 + most frame
 
 -- ---- fields
 
@@ -20,8 +25,9 @@ HasSecondSlot config i =
     (i < slice_index config 3) × (slice_index config (ENTRY_SIZE * i + (FRONT_SIZE + 1)) ≡ 2)
 
 -- slot 0, or slot 1 of a component that has one
-abbrev pub IsActiveSlot : List ℕ → ℕ → ℕ → Type 0
-IsActiveSlot config i slot = (slot ≡ 0) ⊎ ((slot ≡ 1) × HasSecondSlot config i)
+abbrev pub IsActiveSlot : Frame → List ℕ → ℕ → ℕ → Type 0
+IsActiveSlot frame config i slot =
+    (slot ≡ 0) ⊎ ((slot ≡ 1) × (i < most frame) × HasSecondSlot config i)
 
 -- fields of the lengths and ranges of their types
 pub record IsTypedRecord (r : Record) : Type 0 where
@@ -29,13 +35,13 @@ pub record IsTypedRecord (r : Record) : Type 0 where
   pub sequence : r.sequence < 2 ^ 64
   pub size : r.length < 2 ^ 64
   pub digest : IsLong r.digest
-  pub active : length r.active ≡ 8
+  pub active : length r.active ≡ 32
 
 -- fields in range, on a flash with that configuration page
 pub record IsInRange (frame : Frame) (config : List ℕ) (r : Record) : Type 0 where
   pub bank : r.bank < 2
   pub size : r.length ≤ bank_size frame
-  pub active : (i : ℕ) → i < 8 → IsActiveSlot config i (slice_index r.active i)
+  pub active : (i : ℕ) → i < 32 → IsActiveSlot frame config i (slice_index r.active i)
 
 -- ---- bytes
 
@@ -50,37 +56,39 @@ abbrev pub digest_field : Digest → List ℕ
 digest_field digest = length (digest_bytes digest) ∷ padded 64 (digest_bytes digest)
 
 -- the bytes behind the gate
-unfoldable pub record_body : Record → List ℕ
-record_body r = numbers_field r ++ (bank_field r ++ (digest_field r.digest ++ r.active))
+unfoldable pub record_body : Frame → Record → List ℕ
+record_body frame r =
+    numbers_field r ++ (bank_field r ++ (digest_field r.digest ++ take (most frame) r.active))
 
 -- The page counts, and holds the record: its gate is open, and the fields are in range.
 pub record IsRecordPage (frame : Frame) (config page : List ℕ) (r : Record) : Type 0 where
   pub typed : IsTypedRecord r
   pub fields : IsInRange frame config r
-  pub bytes : page ≡ OPEN ∷ record_body r
+  pub bytes : page ≡ OPEN ∷ record_body frame r
 
 -- ---- by how many slots each component has
 
 -- slot 0, or slot 1 of a component with two
-abbrev pub HasSlot : ℕ → ℕ → Type 0
-HasSlot slots slot = (slot ≡ 0) ⊎ ((slot ≡ 1) × (slots ≡ 2))
+abbrev pub HasSlot : Frame → List ℕ → ℕ → ℕ → Type 0
+HasSlot frame slots i slot =
+    (slot ≡ 0) ⊎ ((slot ≡ 1) × (i < most frame) × (slice_index slots i ≡ 2))
 
 -- of the components of that configuration page those have a second slot that have two by this list
-abbrev pub CountSlots : List ℕ → List ℕ → Type 0
-CountSlots config slots =
-    (i : ℕ) → i < 8 → (slice_index slots i ≡ 2) ↔ HasSecondSlot config i
+abbrev pub CountSlots : Frame → List ℕ → List ℕ → Type 0
+CountSlots frame config slots =
+    (i : ℕ) → i < most frame → (slice_index slots i ≡ 2) ↔ HasSecondSlot config i
 
 -- fields in range, where components have so many slots
 pub record FitsSlots (frame : Frame) (slots : List ℕ) (r : Record) : Type 0 where
   pub bank : r.bank < 2
   pub size : r.length ≤ bank_size frame
-  pub active : (i : ℕ) → i < 8 → HasSlot (slice_index slots i) (slice_index r.active i)
+  pub active : (i : ℕ) → i < 32 → HasSlot frame slots i (slice_index r.active i)
 
 -- and the page counts
 pub record IsPageBeside (frame : Frame) (slots page : List ℕ) (r : Record) : Type 0 where
   pub typed : IsTypedRecord r
   pub fields : FitsSlots frame slots r
-  pub bytes : page ≡ OPEN ∷ record_body r
+  pub bytes : page ≡ OPEN ∷ record_body frame r
 
 -- ---- reading
 
@@ -98,7 +106,7 @@ fields_with page digest = record {
   bank = slice_index page 17;
   length = number_at (slice_range page 18 26);
   digest = digest;
-  active = slice_range page 91 99;
+  active = padded 32 (drop 91 page);
 }
 
 abbrev pub fields_at : List ℕ → Option Record

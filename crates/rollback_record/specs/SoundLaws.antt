@@ -10,10 +10,9 @@ use Rattle.flash_layout.specs.Configs.{ConfigOf, Configured}
 use Rattle.flash_layout.specs.Formats.{IsFormatted}
 use Rattle.flash_layout.specs.Frames.{HasNoRecord, IsFrame, bank_from, bank_place, config_page_of, head_of, record_place}
 use Rattle.flash_layout.specs.ToldFrames.{IsTold}
-use Rattle.rollback_record.specs.declared.page.TheConstants.{RECORD_BYTES}
 use Rattle.rollback_record.specs.HeadRecord.{RecordOf}
 use Rattle.rollback_record.specs.Committing.{HasHeldOrNew, InHead}
-use Rattle.rollback_record.specs.RecordPage.{IsInRange}
+use Rattle.rollback_record.specs.RecordPage.{IsInRange, record_length}
 use Rattle.rollback_record.specs.SoundFlash.{Follows, IsInstalled, IsNoEarlier, Sound, recorded_bank}
 
 -- the fields of the new record are in range, by the configuration page of the image
@@ -39,7 +38,7 @@ pub record IsCommitted (frame : Frame) (held : Option Record) (new : Record)
   pub which : ℕ
   pub two : which < 2
   pub beside :
-      SameOn (λ i. InHead frame i × Outside (record_place frame which) RECORD_BYTES i)
+      SameOn (λ i. InHead frame i × Outside (record_place frame which) (record_length frame) i)
       before image
   pub record_is : HasHeldOrNew frame held new image
 

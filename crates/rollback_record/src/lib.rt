@@ -15,7 +15,6 @@ pub use flash_layout::{FlashFault, Record};
 pub use judging::{Judged, judge};
 pub use law::record_laws;
 pub use load::{load_pages_by, load_record, load_record_by};
-pub use page::RECORD_BYTES;
 pub use sound_law::{installed_laws, sound_laws};
 pub use spare::{RecordPages, Spare};
 pub use writing::commit;

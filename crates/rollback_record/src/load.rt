@@ -2,31 +2,32 @@
 
 ghost use Rattle.flash_layout.specs.declared.key.Key.{Key};
 ghost use Rattle.flash_layout.specs.Configs.{ConfigOf, Configured};
-ghost use Rattle.flash_layout.specs.Frames.{IsFrame, config_page_of, head_of, head_size};
+ghost use Rattle.flash_layout.specs.Frames.{IsFrame, config_page_of, head_of, head_size, page_bytes};
 ghost use Rattle.rollback_record.specs.Committing.{HasPages};
 ghost use Rattle.rollback_record.specs.HeadRecord.{HaveRead, IsLoadable, RecordOf, ResultCounts, beside_higher, higher};
-ghost use Rattle.rollback_record.specs.RecordPage.{CountSlots};
-ghost use Rattle.std.specs.Prelude.{◌≡◌, ◌<◌, ◌≤◌, ℕ, IfOk, IfSome, IsTrue, List, length, slice_range};
+ghost use Rattle.rollback_record.specs.RecordPage.{CountSlots, record_length};
+ghost use Rattle.std.specs.Prelude.{◌≡◌, ◌<◌, ◌≤◌, ℕ, IfOk, IfSome, IsTrue, List, length};
 ghost use Rattle.suit_edge.specs.Edge.{IfDone};
 ghost use Rattle.suit_edge.specs.Faults.{EdgeCounts};
 ghost use Rattle.suit_edge.specs.Flash.{Grows, IsSame};
 
-use crate::page::{RECORD_BYTES, decode};
+use crate::page::{RECORD_ROOM, decode, record_length};
 use crate::slot_counts::{counts_in, counts_on};
 use crate::{RecordPages, Spare};
 use flash_layout::{
-    FlashFault, Frame, Layout, MAX_ENTRIES, PAGE_BYTES, Record, head_size, record_page,
+    FlashFault, Frame, Layout, MOST_BYTES, MOST_ENTRIES, Record, head_size, page_bytes, record_page,
 };
 use suit_edge::{Disk, Edge, gate_of};
 
-// Reads the configuration page, as far as eight components go.
-fn read_config<D: Disk>(disk: &mut D, frame: Frame, config: &mut [u8; PAGE_BYTES]) -> Edge
-    requires { IsFrame (D.extent disk.old) frame }
+// Reads the configuration page.
+fn read_config<D: Disk>(disk: &mut D, frame: Frame, config: &mut [u8]) -> Edge
+    requires frame { IsFrame (D.extent disk.old) frame }
+    requires long { length config.old ≡ page_bytes frame }
     ensures size { D.extent disk.new ≡ D.extent disk.old }
     ensures counts { EdgeCounts result (D.faults disk.old) (D.faults disk.new) }
     ensures bytes { IsTrue D.told
         → IfDone result
-        (config.new ≡ slice_range (head_of frame (D.flash disk.old).reads) 0 PAGE_BYTES) }
+        (config.new ≡ config_page_of frame (head_of frame (D.flash disk.old).reads)) }
     ensures same { IsTrue D.told → IsSame (D.flash disk.old) (D.flash disk.new) }
     ensures grows { IsTrue D.told → Grows (D.flash disk.old) (D.flash disk.new) }
 {
@@ -36,14 +37,30 @@ fn read_config<D: Disk>(disk: &mut D, frame: Frame, config: &mut [u8; PAGE_BYTES
     }
 }
 
-// Reads both record pages.
-fn read_pages<D: Disk>(
-    disk: &mut D,
-    frame: Frame,
-    first: &mut [u8; RECORD_BYTES],
-    second: &mut [u8; RECORD_BYTES],
-) -> Edge
+// How many slots each component has, by the configuration page as it is read.
+fn read_counts<D: Disk>(disk: &mut D, frame: Frame) -> Result<[u8; MOST_ENTRIES], FlashFault>
     requires { IsFrame (D.extent disk.old) frame }
+    ensures size { D.extent disk.new ≡ D.extent disk.old }
+    ensures counts { ResultCounts result (D.faults disk.old) (D.faults disk.new) }
+    ensures slots { IsTrue D.told
+        → IfOk result
+        (CountSlots frame (config_page_of frame (head_of frame (D.flash disk.old).reads))) }
+    ensures same { IsTrue D.told → IsSame (D.flash disk.old) (D.flash disk.new) }
+    ensures grows { IsTrue D.told → Grows (D.flash disk.old) (D.flash disk.new) }
+{
+    let mut room = [0u8; MOST_BYTES];
+    let config = &mut room[..page_bytes(frame)];
+    match read_config(disk, frame, config) {
+        Edge::Failed => Err(FlashFault),
+        Edge::Done => Ok(counts_on(frame, config)),
+    }
+}
+
+// Reads both record pages.
+fn read_pages<D: Disk>(disk: &mut D, frame: Frame, first: &mut [u8], second: &mut [u8]) -> Edge
+    requires frame { IsFrame (D.extent disk.old) frame }
+    requires first { length first.old ≡ record_length frame }
+    requires second { length second.old ≡ record_length frame }
     ensures size { D.extent disk.new ≡ D.extent disk.old }
     ensures counts { EdgeCounts result (D.faults disk.old) (D.faults disk.new) }
     ensures bytes { IsTrue D.told
@@ -82,17 +99,14 @@ fn higher_of(first: Option<Record>, second: Option<Record>) -> (Option<Record>, 
 }
 
 // Both pages, by the frame and where each component has so many slots.
-fn judge_pages(
-    frame: Frame,
-    slots: &[u8; MAX_ENTRIES],
-    first: &[u8; RECORD_BYTES],
-    second: &[u8; RECORD_BYTES],
-) -> RecordPages
+fn judge_pages(frame: Frame, slots: &[u8; MOST_ENTRIES], first: &[u8], second: &[u8]) -> RecordPages
+    requires first { length first.now ≡ record_length frame }
+    requires second { length second.now ≡ record_length frame }
     ensures loadable { IfSome result.held (IsLoadable frame) }
     ensures two { result.spare.which < 2 }
     ensures exact { (head : List ℕ) → head_size frame ≤ length head
         → HaveRead frame head first.now second.now
-        → CountSlots (config_page_of frame head) slots.now
+        → CountSlots frame (config_page_of frame head) slots.now
         → HasPages frame head result }
 {
     let (held, which) = higher_of(decode(frame, slots, first), decode(frame, slots, second));
@@ -108,7 +122,7 @@ fn judge_pages(
 fn load_beside<D: Disk>(
     disk: &mut D,
     frame: Frame,
-    slots: &[u8; MAX_ENTRIES],
+    slots: &[u8; MOST_ENTRIES],
 ) -> Result<RecordPages, FlashFault>
     requires { IsFrame (D.extent disk.old) frame }
     ensures size { D.extent disk.new ≡ D.extent disk.old }
@@ -116,19 +130,21 @@ fn load_beside<D: Disk>(
     ensures loadable { IfOk result (λ pages. IfSome pages.held (IsLoadable frame)) }
     ensures two { IfOk result (λ pages. pages.spare.which < 2) }
     ensures exact { IsTrue D.told
-        → CountSlots (config_page_of frame (head_of frame (D.flash disk.old).reads))
+        → CountSlots frame (config_page_of frame (head_of frame (D.flash disk.old).reads))
         slots.now
         → IfOk result (HasPages frame (head_of frame (D.flash disk.old).reads)) }
     ensures same { IsTrue D.told → IsSame (D.flash disk.old) (D.flash disk.new) }
     ensures grows { IsTrue D.told → Grows (D.flash disk.old) (D.flash disk.new) }
 {
-    let mut first = [0u8; RECORD_BYTES];
-    let mut second = [0u8; RECORD_BYTES];
-    match read_pages(disk, frame, &mut first, &mut second) {
+    let mut one = [0u8; RECORD_ROOM];
+    let mut other = [0u8; RECORD_ROOM];
+    let first = &mut one[..record_length(frame)];
+    let second = &mut other[..record_length(frame)];
+    match read_pages(disk, frame, first, second) {
         Edge::Failed => return Err(FlashFault),
         Edge::Done => {}
     }
-    Ok(judge_pages(frame, slots, &first, &second))
+    Ok(judge_pages(frame, slots, first, second))
 }
 
 /// The record that the flash with this frame holds, or `None` where no page counts, as on a flash that has no room
@@ -148,12 +164,7 @@ pub fn load_record<D: Disk>(disk: &mut D, frame: Frame) -> Result<Option<Record>
     if size < least {
         return Ok(None);
     }
-    let mut config = [0u8; PAGE_BYTES];
-    match read_config(disk, frame, &mut config) {
-        Edge::Failed => return Err(FlashFault),
-        Edge::Done => {}
-    }
-    let slots = counts_on(&config);
+    let slots = read_counts(disk, frame)?;
     let pages = load_beside(disk, frame, &slots)?;
     Ok(pages.held)
 }

@@ -1,19 +1,32 @@
 //! The bytes of a record page, and how they are read and put together without memory.
 
-ghost use Rattle.rollback_record.specs.RecordPage.{FitsSlots, HasSlot, IsPageBeside, bank_field, digest_at, digest_field, fields_at, fields_with, numbers_field, record_body};
-ghost use Rattle.std.specs.Prelude.{◌≡◌, ◌↔◌, ◌≤◌, ◌<◌, ◌+◌, ℕ, ◌∷◌, ◌++◌, Some, IfSome, IsTrue, length, slice_index};
+ghost use Rattle.flash_layout.specs.ConfigPage.{padded};
+ghost use Rattle.flash_layout.specs.Frames.{most};
+ghost use Rattle.rollback_record.specs.RecordPage.{FitsSlots, HasSlot, IsPageBeside, bank_field, digest_at, digest_field, fields_at, fields_with, numbers_field, record_body, record_length};
+ghost use Rattle.std.specs.Prelude.{◌≡◌, ◌↔◌, ◌≤◌, ◌<◌, ◌+◌, ℕ, ◌∷◌, ◌++◌, Some, IfSome, IsTrue, drop, length, slice_index, take};
 
 use crate::typing::typed;
-use flash_layout::{Frame, Page, Record, bank_size, read_number};
+use flash_layout::{Frame, MOST_ENTRIES, Page, Record, bank_size, most, read_number};
 use suit_edge::OPEN;
 use suit_params::{Digest, kind_of_length};
 
-/// The bytes of a record page that are read: the gate, and the record behind it.
-pub const RECORD_BYTES: usize = 99;
+// Where the slots in use stand on a record page.
+const ACTIVE_START: usize = 91;
+
+/// The bytes of a record page that are read, at most.
+pub(crate) const RECORD_ROOM: usize = ACTIVE_START + MOST_ENTRIES;
+
+/// How many bytes of a record page are read: the gate, and the record behind it.
+pub(crate) fn record_length(frame: Frame) -> usize
+    ensures is { result ≡ record_length frame }
+    ensures few { result ≤ RECORD_ROOM }
+{
+    ACTIVE_START + most(frame)
+}
 
 // Adds the generation and the number.
-fn put_numbers(page: &mut Page<RECORD_BYTES>, installed: &Record)
-    requires { length page.old + 16 ≤ RECORD_BYTES }
+fn put_numbers(page: &mut Page<RECORD_ROOM>, installed: &Record)
+    requires { length page.old + 16 ≤ RECORD_ROOM }
     ensures bytes { page.new ≡ page.old ++ numbers_field installed.now }
     ensures long { length page.new ≡ length page.old + 16 }
 {
@@ -22,8 +35,8 @@ fn put_numbers(page: &mut Page<RECORD_BYTES>, installed: &Record)
 }
 
 // Adds the bank, and how many of its bytes are used.
-fn put_bank(page: &mut Page<RECORD_BYTES>, installed: &Record)
-    requires { length page.old + 9 ≤ RECORD_BYTES }
+fn put_bank(page: &mut Page<RECORD_ROOM>, installed: &Record)
+    requires { length page.old + 9 ≤ RECORD_ROOM }
     ensures bytes { page.new ≡ page.old ++ bank_field installed.now }
     ensures long { length page.new ≡ length page.old + 9 }
 {
@@ -32,8 +45,8 @@ fn put_bank(page: &mut Page<RECORD_BYTES>, installed: &Record)
 }
 
 // Adds how many bytes the digest has, and the digest with zeros behind it.
-fn put_digest(page: &mut Page<RECORD_BYTES>, digest: &Digest)
-    requires { length page.old + 65 ≤ RECORD_BYTES }
+fn put_digest(page: &mut Page<RECORD_ROOM>, digest: &Digest)
+    requires { length page.old + 65 ≤ RECORD_ROOM }
     ensures bytes { page.new ≡ page.old ++ digest_field digest.now }
     ensures long { length page.new ≡ length page.old + 65 }
 {
@@ -41,24 +54,33 @@ fn put_digest(page: &mut Page<RECORD_BYTES>, digest: &Digest)
     page.put(&digest.padded());
 }
 
+// Adds the slots in use, of as many components as the page bears.
+fn put_active(page: &mut Page<RECORD_ROOM>, frame: Frame, active: &[u8; MOST_ENTRIES])
+    requires { length page.old ≡ ACTIVE_START }
+    ensures bytes { page.new ≡ page.old ++ take (most frame) active.now }
+    ensures long { length page.new ≡ record_length frame }
+{
+    page.put(&active[..most(frame)]);
+}
+
 /// The page of a record, with its gate open.
 #[tactic(auto, unfolding(crate::specs::RecordPage::record_body))]
-pub(crate) fn spell(installed: &Record) -> Page<RECORD_BYTES>
-    ensures bytes { result ≡ OPEN ∷ record_body installed.now }
-    ensures long { length result ≡ RECORD_BYTES }
+pub(crate) fn spell(frame: Frame, installed: &Record) -> Page<RECORD_ROOM>
+    ensures bytes { result ≡ OPEN ∷ record_body frame installed.now }
+    ensures long { length result ≡ record_length frame }
 {
     let mut page = Page::new();
     page.put(&[OPEN]);
     put_numbers(&mut page, installed);
     put_bank(&mut page, installed);
     put_digest(&mut page, &installed.digest);
-    page.put(&installed.active);
+    put_active(&mut page, frame, &installed.active);
     page
 }
 
 // The digest behind its length, where that is the length of one.
 fn read_digest(page: &[u8]) -> Option<Digest>
-    requires { length page.now ≡ RECORD_BYTES }
+    requires { ACTIVE_START ≤ length page.now }
     ensures { result ≡ digest_at page.now }
 {
     match kind_of_length(page[26] as usize) {
@@ -67,26 +89,38 @@ fn read_digest(page: &[u8]) -> Option<Digest>
     }
 }
 
+// The slots in use that a page bears, with zeros behind them.
+fn read_active(page: &[u8]) -> [u8; MOST_ENTRIES]
+    requires low { ACTIVE_START ≤ length page.now }
+    requires high { length page.now ≤ RECORD_ROOM }
+    ensures { result ≡ padded 32 (drop 91 page.now) }
+{
+    let borne = &page[ACTIVE_START..];
+    let mut active = [0; MOST_ENTRIES];
+    active[..borne.len()].copy_from_slice(borne);
+    active
+}
+
 // The other fields, without a judgement.
 fn read_with(page: &[u8], digest: Digest) -> Record
-    requires { length page.now ≡ RECORD_BYTES }
+    requires low { ACTIVE_START ≤ length page.now }
+    requires high { length page.now ≤ RECORD_ROOM }
     ensures { result ≡ fields_with page.now digest }
 {
-    let mut active = [0; 8];
-    active.copy_from_slice(&page[91..99]);
     Record {
         generation: read_number(&page[1..9]),
         sequence: read_number(&page[9..17]),
         bank: page[17],
         length: read_number(&page[18..26]),
         digest,
-        active,
+        active: read_active(page),
     }
 }
 
 // The fields, without a judgement.
 fn read_fields(page: &[u8]) -> Option<Record>
-    requires { length page.now ≡ RECORD_BYTES }
+    requires low { ACTIVE_START ≤ length page.now }
+    requires high { length page.now ≤ RECORD_ROOM }
     ensures { result ≡ fields_at page.now }
 {
     match read_digest(page) {
@@ -95,20 +129,21 @@ fn read_fields(page: &[u8]) -> Option<Record>
     }
 }
 
-// Whether a component with so many slots has this one.
-fn has_slot(slots: u8, slot: u8) -> bool
-    ensures { IsTrue result ↔ HasSlot slots slot }
+// Whether the component of that index has this slot, where each has so many.
+fn has_slot(frame: Frame, slots: &[u8; MOST_ENTRIES], i: usize, slot: u8) -> bool
+    requires { i < MOST_ENTRIES }
+    ensures { IsTrue result ↔ HasSlot frame slots.now i slot }
 {
-    slot == 0 || (slot == 1 && slots == 2)
+    slot == 0 || (slot == 1 && i < most(frame) && slots[i] == 2)
 }
 
-// Whether each component has its slot.
-fn are_active(slots: &[u8; 8], active: &[u8; 8]) -> bool
+// Whether each component has its slot. Behind the last that a page bears there are zeros.
+fn are_active(frame: Frame, slots: &[u8; MOST_ENTRIES], active: &[u8; MOST_ENTRIES]) -> bool
     ensures { IsTrue result
-        ↔ ((i : ℕ) → i < 8 → HasSlot (slice_index slots.now i) (slice_index active.now i)) }
+        ↔ ((i : ℕ) → i < 32 → HasSlot frame slots.now i (slice_index active.now i)) }
 {
-    for i in 0..8 {
-        if !has_slot(slots[i], active[i]) {
+    for i in 0..MOST_ENTRIES {
+        if !has_slot(frame, slots, i, active[i]) {
             return false;
         }
     }
@@ -116,29 +151,34 @@ fn are_active(slots: &[u8; 8], active: &[u8; 8]) -> bool
 }
 
 /// Whether the fields are in range, by the frame and where each component has so many slots.
-pub(crate) fn is_in_range(frame: Frame, slots: &[u8; 8], installed: &Record) -> bool
+pub(crate) fn is_in_range(frame: Frame, slots: &[u8; MOST_ENTRIES], installed: &Record) -> bool
     ensures { IsTrue result ↔ FitsSlots frame slots.now installed.now }
 {
     installed.bank < 2
         && installed.length <= bank_size(frame)
-        && are_active(slots, &installed.active)
+        && are_active(frame, slots, &installed.active)
 }
 
 /// Whether the bytes are the page of the record.
-pub(crate) fn is_page_of(page: &[u8], installed: &Record) -> bool
-    ensures { IsTrue result ↔ (page.now ≡ OPEN ∷ record_body installed.now) }
+pub(crate) fn is_page_of(frame: Frame, page: &[u8], installed: &Record) -> bool
+    ensures { IsTrue result ↔ (page.now ≡ OPEN ∷ record_body frame installed.now) }
 {
-    spell(installed).as_slice() == page
+    spell(frame, installed).as_slice() == page
 }
 
 // The record, where the page counts and holds it.
-fn judged(frame: Frame, slots: &[u8; 8], page: &[u8], installed: Record) -> Option<Record>
+fn judged(
+    frame: Frame,
+    slots: &[u8; MOST_ENTRIES],
+    page: &[u8],
+    installed: Record,
+) -> Option<Record>
     ensures some { IfSome result (λ r. IsPageBeside frame slots.now page.now r) }
     ensures every { IsPageBeside frame slots.now page.now installed
         → result ≡ Some installed }
 {
     typed(&installed);
-    if is_in_range(frame, slots, &installed) && is_page_of(page, &installed) {
+    if is_in_range(frame, slots, &installed) && is_page_of(frame, page, &installed) {
         Some(installed)
     } else {
         None
@@ -146,8 +186,8 @@ fn judged(frame: Frame, slots: &[u8; 8], page: &[u8], installed: Record) -> Opti
 }
 
 /// The record of a page that counts, where each component has so many slots, or `None` where the page does not count.
-pub(crate) fn decode(frame: Frame, slots: &[u8; 8], page: &[u8]) -> Option<Record>
-    requires { length page.now ≡ RECORD_BYTES }
+pub(crate) fn decode(frame: Frame, slots: &[u8; MOST_ENTRIES], page: &[u8]) -> Option<Record>
+    requires { length page.now ≡ record_length frame }
     ensures some { IfSome result (λ r. IsPageBeside frame slots.now page.now r) }
     ensures every { (r : Record) → IsPageBeside frame slots.now page.now r → result ≡ Some r }
 {

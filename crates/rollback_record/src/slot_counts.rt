@@ -1,14 +1,16 @@
 //! How many slots each component has. A record names one of them.
 
 ghost use Rattle.flash_layout.specs.declared.layout.Entry.{Entry};
+ghost use Rattle.flash_layout.specs.Frames.{most, page_bytes};
 ghost use Rattle.rollback_record.specs.RecordPage.{CountSlots, HasSecondSlot};
 ghost use Rattle.std.specs.Prelude.{◌≡◌, ◌↔◌, ◌<◌, ℕ, get_or, length, slice_index};
 
-use flash_layout::{ENTRY_SIZE, Entry, FRONT_SIZE, Layout, MAX_ENTRIES, PAGE_BYTES};
+use flash_layout::{ENTRY_SIZE, Entry, FRONT_SIZE, Frame, Layout, MOST_ENTRIES, most};
 
 // The slots of the component of that index by the configuration page; 0 where there is no such component.
-fn slots_on(config: &[u8; PAGE_BYTES], i: usize) -> u8
-    requires { i < 8 }
+fn slots_on(frame: Frame, config: &[u8], i: usize) -> u8
+    requires page { length config.now ≡ page_bytes frame }
+    requires few { i < most frame }
     ensures { (result ≡ 2) ↔ HasSecondSlot config.now i }
 {
     if i < config[3] as usize {
@@ -19,12 +21,13 @@ fn slots_on(config: &[u8; PAGE_BYTES], i: usize) -> u8
 }
 
 /// The slots of each component by the configuration page.
-pub(crate) fn counts_on(config: &[u8; PAGE_BYTES]) -> [u8; MAX_ENTRIES]
-    ensures { CountSlots config.now result }
+pub(crate) fn counts_on(frame: Frame, config: &[u8]) -> [u8; MOST_ENTRIES]
+    requires { length config.now ≡ page_bytes frame }
+    ensures { CountSlots frame config.now result }
 {
-    let mut slots = [0; MAX_ENTRIES];
-    for i in 0..MAX_ENTRIES {
-        slots[i] = slots_on(config, i);
+    let mut slots = [0; MOST_ENTRIES];
+    for i in 0..most(frame) {
+        slots[i] = slots_on(frame, config, i);
     }
     slots
 }
@@ -42,13 +45,13 @@ fn slots_in(entries: &[Entry], i: usize) -> u8
 }
 
 /// The slots of each component of a layout.
-pub(crate) fn counts_in(layout: &Layout) -> [u8; MAX_ENTRIES]
-    ensures { (i : ℕ) → i < 8 → (slice_index result i ≡ 2)
+pub(crate) fn counts_in(layout: &Layout) -> [u8; MOST_ENTRIES]
+    ensures { (i : ℕ) → i < 32 → (slice_index result i ≡ 2)
         ↔ ((i < length layout.now) × ((d : Entry) → (get_or layout.now i d).slots ≡ 2)) }
 {
     let entries = layout.as_slice();
-    let mut slots = [0; MAX_ENTRIES];
-    for i in 0..MAX_ENTRIES {
+    let mut slots = [0; MOST_ENTRIES];
+    for i in 0..MOST_ENTRIES {
         slots[i] = slots_in(entries, i);
     }
     slots

@@ -77,7 +77,7 @@ pub fn commit<D: Disk>(
     typed(new);
     let _size = disk.size();
     let gate = record_page(frame, spare.which);
-    let page = spell(new);
+    let page = spell(frame, new);
     let answer = write_known(disk, gate, spare.gate, gate + 1, page.behind_gate());
     result_of(answer)
 }

@@ -1,5 +1,5 @@
 -- The components of a world fit the device that its layout describes.
-use Rattle.std.proofs.Common.{◌≡◌, ◌≢◌, ◌≤◌, ◌<◌, ◌+◌, ℕ, zero, suc, List, [], ◌∷◌, None, get_or, length, take, refl, sym, ap, subst, ◌∙◌, arith, ⊎_elim, length-take-le}
+use Rattle.std.proofs.Common.{◌≡◌, ◌≢◌, ◌≤◌, ◌<◌, ◌+◌, ℕ, zero, suc, List, [], ◌∷◌, None, get_or, length, replicate, take, refl, sym, ap, subst, ◌∙◌, arith, ⊎_elim, length-take-le}
 use Rattle.std.proofs.lemmas.Bool.{cases_lt}
 use Rattle.std.proofs.lemmas.List.{get_or-map, length-map}
 use Rattle.std.specs.Prelude.{slice_index}
@@ -8,6 +8,7 @@ use Rattle.flash_layout.specs.declared.layout.Entry.{Entry}
 use Rattle.flash_layout.specs.declared.layout.Memory.{Memory}
 use Rattle.flash_layout.specs.declared.layout.Memory.TheVariants as memory
 use Rattle.flash_layout.specs.declared.place.Places.{Places}
+use Rattle.flash_layout.specs.Frames.{most}
 use Rattle.flash_layout.specs.Layouts.{IsLayout, IsOfMemory, AreApart, AreClear, slot_starts, starts_in}
 use Rattle.flash_slots.specs.RamContents.{Held, IsRamOf, capacity_in, empty, empty_ram, held_by, ram_capacity}
 use Rattle.step_machine.specs.declared.spot.Spot.{Spot}
@@ -17,6 +18,19 @@ use Rattle.step_machine.specs.declared.world.SlotChoice.{SlotChoice}
 use Rattle.step_machine.specs.Devices.{AreSpotsClear}
 use Rattle.step_machine.specs.Spots.{IsSpot, room_at}
 use Rattle.step_machine.specs.Worlds.{AreDistinct, AreStandings, HaveAtMost, HaveTwo, IsChoice, IsStandingAt, StandAs, StandAtMost, spot_of, standing_of}
+
+-- a choice has room for each component of a layout
+most_few : (frame : Frame) → most frame ≤ 32
+most_few frame = grind arith
+
+pub few_entries : (frame : Frame) (size : ℕ) (layout : List Entry) → IsLayout frame size layout → length layout ≤ 32
+few_entries frame size layout is = omega (arith, is.few, most_few frame)
+
+-- no place of zeros is set
+pub zero_at : (n i : ℕ) → get_or (replicate {A = ℕ} n 0) i 0 ≡ 0
+zero_at zero i = refl
+zero_at (suc n) zero = refl
+zero_at (suc n) (suc i) = zero_at n i
 
 -- memory is made for its layout
 pub made_empty : (layout : List Entry) → IsRamOf layout (empty_ram layout)

@@ -1,5 +1,6 @@
 -- The components of a procedure on a device: by its layout, and by the slots that they stand for.
 use Rattle.std.specs.Prelude.{◌≡◌, ◌≢◌, ◌<◌, ◌≤◌, ℕ, List, length, get_or, slice_index}
+use Rattle.flash_layout.specs.declared.frame.TheConstants.{MOST_ENTRIES}
 use Rattle.flash_layout.specs.declared.layout.Entry.{Entry}
 use Rattle.flash_layout.specs.declared.layout.Memory.{Memory}
 use Rattle.flash_layout.specs.declared.layout.Memory.TheVariants as memory
@@ -55,12 +56,13 @@ pub record AreDistinct (layout : List Entry) (places : Places) : Type 0 where
   pub other : (j k : ℕ) → j < k → k < places.count
       → slice_index places.layout_index j ≢ slice_index places.layout_index k
 
--- each component of the layout stands for one of its slots, of which there are at most two
+-- each component of the layout stands for one of its slots, of which there are at most two; behind the last there are zeros
 pub record IsChoice (layout : List Entry) (slots : SlotChoice) : Type 0 where
-  pub few : length layout ≤ 8
+  pub few : length layout ≤ MOST_ENTRIES
   pub one : (i : ℕ) (e : Entry) → i < length layout
       → slice_index slots.number i < (get_or layout i e).slots
   pub two : (i : ℕ) (e : Entry) → i < length layout → (get_or layout i e).slots ≤ 2
+  pub rest : (i : ℕ) → length layout ≤ i → slice_index slots.number i ≡ 0
 
 -- ---- the needs of a procedure
 

@@ -3,7 +3,7 @@
 ghost use Rattle.std.specs.Prelude.{◌≡◌, ◌≤◌, length};
 ghost use Rattle.step_machine.specs.InUse.{AreInUse, slot_in_use};
 
-use flash_layout::{Entry, Layout, MAX_ENTRIES};
+use flash_layout::{Entry, Layout, MOST_ENTRIES};
 
 // The slot of this number, where the component has a second one; otherwise its first.
 fn slot_in_use(entry: &Entry, number: u8) -> u8
@@ -17,12 +17,12 @@ fn slot_in_use(entry: &Entry, number: u8) -> u8
 }
 
 /// The slot of its number, for each component of the layout. Behind the last there are zeros.
-pub fn slots_in_use(layout: &Layout, active: &[u8; MAX_ENTRIES]) -> [u8; MAX_ENTRIES]
-    requires { length layout.now ≤ 8 }
+pub fn slots_in_use(layout: &Layout, active: &[u8; MOST_ENTRIES]) -> [u8; MOST_ENTRIES]
+    requires { length layout.now ≤ MOST_ENTRIES }
     ensures { AreInUse layout.now active.now result }
 {
     let entries = layout.as_slice();
-    let mut numbers = [0u8; MAX_ENTRIES];
+    let mut numbers = [0u8; MOST_ENTRIES];
     for i in 0..entries.len() {
         numbers[i] = slot_in_use(&entries[i], active[i]);
     }

@@ -8,16 +8,16 @@ ghost use Rattle.step_machine.specs.Worlds.{AreDistinct, AreStandings, HaveAtMos
 
 use crate::{Spot, Standing, Uris};
 use arrayvec::ArrayVec;
-use flash_layout::{Entry, Frame, Layout, MAX_COMPONENTS, Memory, Places, Slot};
+use flash_layout::{Entry, Frame, Layout, MAX_COMPONENTS, MOST_ENTRIES, Memory, Places, Slot};
 use flash_slots::Ram;
 use path_model::Identity;
 use std::alloc::{AllocError, Global};
 use suit_envelope::Envelope;
 
-/// The number of the slot that each component of the layout stands for, 0 or 1; 0 in working memory.
+/// The number of the slot that each component of the layout stands for, 0 or 1; 0 in working memory and behind the last.
 #[derive(Clone, Copy, Debug, PartialEq, Eq)]
 pub struct SlotChoice {
-    pub number: [u8; 8],
+    pub number: [u8; MOST_ENTRIES],
 }
 
 /// The frame of the flash, the components of a procedure and where their contents stand, the contents in working memory,

@@ -7,7 +7,7 @@ ghost use Rattle.suit_answers.specs.Answers.{code_of};
 ghost use Rattle.suit_c.specs.Recorded.{IsRecordAs, IsRecordedAs};
 ghost use Rattle.suit_answers.specs.declared.answer.Answer.TheVariants as answers;
 
-use flash_layout::{FlashFault, Record, VERSION_1};
+use flash_layout::{FlashFault, MOST_ENTRIES, Record, VERSION_1};
 use flash_view::ViewDisk;
 use rollback_record::load_record;
 use suit_answers::Answer;
@@ -28,8 +28,8 @@ pub struct SuitRecord {
     pub digest_length: u32,
     /// The digest of the manifest, with zeros behind it.
     pub digest: [u8; 64],
-    /// The slot in use of each component of the layout, 0 or 1.
-    pub active: [u8; 8],
+    /// The slot in use of each component of the layout, 0 or 1; 0 behind the last.
+    pub active: [u8; MOST_ENTRIES],
 }
 
 // A record for a caller in C.

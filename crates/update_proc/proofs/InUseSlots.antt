@@ -5,7 +5,6 @@ use Rattle.std.proofs.lemmas.List.{get_or_past}
 use Rattle.std.proofs.lemmas.Bool.{cases_lt}
 use Rattle.suit_commands.specs.Tree.{PlanTree}
 use Rattle.flash_layout.specs.declared.frame.Frame.{Frame}
-use Rattle.flash_layout.specs.declared.frame.TheConstants.{VERSION_1}
 use Rattle.flash_layout.specs.declared.key.Key.{Key}
 use Rattle.flash_layout.specs.declared.layout.Entry.{Entry}
 use Rattle.flash_layout.specs.declared.layout.Memory.{Memory}
@@ -17,6 +16,7 @@ use Rattle.flash_layout.specs.Frames.{config_page_of, head_of}
 use Rattle.flash_layout.specs.Layouts.{IsLayout, IsOfMemory}
 use Rattle.rollback_record.specs.HeadRecord.{IsLoadable, RecordOf}
 use Rattle.rollback_record.specs.RecordPage.{HasSecondSlot}
+use Rattle.step_machine.proofs.Fitting.{few_entries}
 use Rattle.step_machine.specs.Worlds.{IsChoice}
 use Rattle.update_proc.specs.Choices.{AreChosen, active_slots}
 use Rattle.step_machine.specs.InUse.{AreInUse}
@@ -51,18 +51,19 @@ module _ (layout : List Entry) (active numbers : List ℕ) (is : AreInUse layout
       (λ behind. omega (arith, is.rest i behind))
       (cases_lt i (length layout))
 
-module _ (size : ℕ) (layout : List Entry) (is : IsLayout VERSION_1 size layout) where
+module _ (frame : Frame) (size : ℕ) (layout : List Entry) (is : IsLayout frame size layout) where
   few_at : (i : ℕ) (e : Entry) → i < length layout → (1 ≤ (get_or layout i e).slots) × ((get_or layout i e).slots ≤ 2)
   few_at i e inside = let at = get_or layout i e in slots_few size at at.memory (is.each i e inside).held
 
   pub is_choice : (active within : List ℕ) (places : Places) (tree : PlanTree) (numbers : List ℕ) → AreInUse layout active within → AreChosen layout places tree within numbers → IsChoice layout (record { number = numbers })
   is_choice active within places tree numbers in_use chosen = record {
-    few = is.few;
+    few = few_entries frame size layout is;
     one = λ i e inside. ⊎_elim
         (λ same. subst (λ (n : ℕ). n < (get_or layout i e).slots) (sym (same ∙ in_use.each i e inside)) (some_slot (get_or layout i e).slots (get_or active i 0) (few_at i e inside).0))
         (λ other. omega (arith, other.1, other.0.1 e, at_most_one layout active within in_use i))
         (chosen.either i);
     two = λ i e inside. (few_at i e inside).1;
+    rest = λ i past. chosen.same i (λ has. omega (arith, past, has.1.0)) ∙ in_use.rest i past;
   }
 
 -- ---- the slots that the record says are in use
@@ -79,7 +80,7 @@ chosen_as layout places tree within active numbers same is = record {
 behind : (xs : List ℕ) (i : ℕ) → length xs ≤ i → get_or xs i 0 ≡ 0
 behind xs i far = get_or_past xs i 0 far
 
-held_long : (frame : Frame) (held : Option Record) → IfSome held (IsLoadable frame) → length (active_slots held) ≡ 8
+held_long : (frame : Frame) (held : Option Record) → IfSome held (IsLoadable frame) → length (active_slots held) ≡ 32
 held_long frame None few = refl
 held_long frame (Some r) few = few.typed.active
 
@@ -100,7 +101,7 @@ module _ (frame : Frame) (size : ℕ) (image : List ℕ) (layout : List Entry) (
   in_use_as_held i = ⊎_elim
       (λ near. ⊎_elim
       (λ first. low i first ∙ sym first)
-      (λ second. high i second.0 second.1 ∙ sym second.0)
+      (λ second. high i second.0 second.2 ∙ sym second.0)
       (held_active frame (head_of frame image) held was i near))
       (λ far. behind within i (omega (arith, is.size, far)) ∙ sym (behind (active_slots held) i (omega (arith, held_long frame held few, far))))
-      (cases_lt i 8)
+      (cases_lt i 32)

@@ -14,15 +14,15 @@ use Rattle.flash_layout.specs.Configs.{ConfigOf, Configured}
 use Rattle.flash_layout.specs.FrameFacts.{FrameFacts, bank_high, facts, page_there}
 use Rattle.flash_layout.specs.Frames.{IsFrame, bank_from, bank_place, bank_size, config_page_of, head_of, head_size, page_bytes, record_place}
 use Rattle.flash_layout.specs.ToldFrames.{by_told, told_by}
-use Rattle.rollback_record.specs.declared.page.TheConstants.{RECORD_BYTES}
 use Rattle.rollback_record.specs.declared.spare.Spare.{Spare}
 use Rattle.rollback_record.specs.Committing.{HasHeldOrNew, HasSpare, InHead, IsNext, IsSpare, KeepsBesideSpare}
 use Rattle.rollback_record.specs.HeadRecord.{IsLoadable, RecordOf}
-use Rattle.rollback_record.specs.RecordPage.{IsActiveSlot, IsInRange}
+use Rattle.rollback_record.specs.RecordPage.{IsActiveSlot, IsInRange, record_length}
 use Rattle.rollback_record.specs.SettledLaws.{both}
 use Rattle.rollback_record.specs.SoundFlash.{Follows, IsInstalled, IsNoEarlier, Sound, recorded_bank}
 use Rattle.rollback_record.specs.SoundLaws.{HasFrame, IsCommitted, IsStillSound, SaysRecorded, SoundLaws}
 use Rattle.rollback_record.proofs.StillSound as recorded
+use Rattle.rollback_record.proofs.Widths.{most_few}
 use Rattle.update_proc.specs.Banks.{BesideBank, bank_for, is_kept, other_bank}
 use Rattle.update_proc.specs.Records.{new_record, next_generation}
 use Rattle.update_proc.specs.Installing.{BesideHead, Filling, HasActiveSlots, IsFilled, IsInstalling, IsRecording, MayBeInstalled, Recording}
@@ -68,8 +68,8 @@ module _ (size : ℕ) (frame : Frame) (is : FrameFacts size frame) where
       outside_within (bank_place frame b) (length bytes) frame.base (head_size frame) (omega arith) (omega (arith, fits, bank_high size frame is b (other_two held))) i out
 
   -- and beside the record pages
-  pub beside_page : (which i : ℕ) → which < 2 → BesideHead frame i → Outside (record_place frame which) RECORD_BYTES i
-  beside_page which i two out = outside_within (record_place frame which) RECORD_BYTES frame.base (head_size frame) (omega arith) (omega (arith, two, is.head)) i out
+  pub beside_page : (which i : ℕ) → which < 2 → BesideHead frame i → Outside (record_place frame which) (record_length frame) i
+  beside_page which i two out = outside_within (record_place frame which) (record_length frame) frame.base (head_size frame) (omega arith) (omega (arith, two, is.head, most_few frame)) i out
 
   -- the configuration page is beside the banks
   config_beside : (held : Option Record) (bytes : List ℕ) → (i : ℕ) → i < frame.base + page_bytes frame → BesideBank frame held bytes i
@@ -119,7 +119,7 @@ module _ (frame : Frame) (held : Option Record) (bytes a c : List ℕ) (is : IsF
   in_range new bank size active = record {
     bank = bank;
     size = size;
-    active = λ i low. subst (λ (l : List ℕ). IsActiveSlot l i (get_or new.active i 0)) (sym config_same) (active i low);
+    active = λ i low. subst (λ (l : List ℕ). IsActiveSlot frame l i (get_or new.active i 0)) (sym config_same) (active i low);
   }
 
   -- the configuration was the same
@@ -199,14 +199,14 @@ module _ (frame : Frame) (held : Option Record) (new : Record) (bytes : List ℕ
   -- the commit
   recording : (d : Flash) → IsFilled frame held new bytes a.reads c.reads → IsFirmOn (λ i. Unit {0}) c → Passes c d (HasHeldOrNew frame held new) → KeepsBesideSpare frame held c d → Passes c d (IsInstalling frame held new bytes a)
   recording d filled firm run spare =
-      weakens c d (λ image. HasHeldOrNew frame held new image × ImageOn (Outside (record_place frame spare.which) RECORD_BYTES) c image) (IsInstalling frame held new bytes a)
+      weakens c d (λ image. HasHeldOrNew frame held new image × ImageOn (Outside (record_place frame spare.which) (record_length frame)) c image) (IsInstalling frame held new bytes a)
       (λ image p. Recording c.reads filled (record {
         which = spare.which;
         two = spare_two frame (head_of frame c.reads) held spare.which spare.spare;
         beside = record { size = p.1.same.size ∙ (firm p.1.from p.1.was).size; same = λ i k. p.1.same.same i k ∙ (firm p.1.from p.1.was).same i tt };
         record_is = p.0;
       }))
-      (both c d (HasHeldOrNew frame held new) (ImageOn (Outside (record_place frame spare.which) RECORD_BYTES) c) run spare.keeps.images)
+      (both c d (HasHeldOrNew frame held new) (ImageOn (Outside (record_place frame spare.which) (record_length frame)) c) run spare.keeps.images)
 
 -- ---- the record that is committed
 

@@ -3,6 +3,7 @@ use Rattle.std.specs.Prelude.{◌≡◌, ◌⊎◌, ◌<◌, ◌-◌, ℕ, List,
 use Rattle.suit_commands.specs.Tree.{PlanTree}
 use Rattle.suit_commands.specs.Bits.{HasBit}
 use Rattle.suit_commands.specs.Targets.{IsTarget}
+use Rattle.flash_layout.specs.declared.frame.TheConstants.{MOST_ENTRIES}
 use Rattle.flash_layout.specs.declared.layout.Entry.{Entry}
 use Rattle.flash_layout.specs.declared.layout.Memory.TheVariants as memory
 use Rattle.flash_layout.specs.declared.place.Places.{Places}
@@ -12,7 +13,7 @@ use Rattle.flash_layout.specs.Slots.{slot_at}
 
 -- the slot of each component of the layout that is in use; without a record the first one
 abbrev pub active_slots : Option Record → List ℕ
-active_slots None = replicate 8 0
+active_slots None = replicate MOST_ENTRIES 0
 active_slots (Some r) = r.active
 
 -- ---- components of the layout
@@ -38,7 +39,7 @@ HasOther layout i = (i < length layout) × ((e : Entry) → (get_or layout i e).
 -- A component that may be written stands for its other slot, where it has one. All others stand for the one in use.
 pub record AreChosen (layout : List Entry) (places : Places) (tree : PlanTree)
     (active numbers : List ℕ) : Type 0 where
-  pub size : length numbers ≡ 8
+  pub size : length numbers ≡ MOST_ENTRIES
   pub other : (i : ℕ) → IsWritten tree places i → HasOther layout i
       → slice_index numbers i ≡ 1 - slice_index active i
   pub same : (i : ℕ) → (IsWritten tree places i × HasOther layout i → ⊥)

@@ -3,15 +3,15 @@ use Rattle.std.specs.Prelude.{◌≡◌, ◌<◌, ◌≤◌, ◌^◌, ◌-◌, �
 use Rattle.suit_edge.specs.Flash.{Flash, ImageOn}
 use Rattle.suit_edge.specs.Ranges.{Outside, SameOn}
 use Rattle.flash_layout.specs.declared.frame.Frame.{Frame}
+use Rattle.flash_layout.specs.declared.frame.TheConstants.{MOST_ENTRIES}
 use Rattle.flash_layout.specs.declared.key.Key.{Key}
 use Rattle.flash_layout.specs.declared.layout.Entry.{Entry}
 use Rattle.flash_layout.specs.declared.slot.Record.{Record}
 use Rattle.flash_layout.specs.Configs.{ConfigOf, Configured}
 use Rattle.flash_layout.specs.Frames.{IsFrame, bank_size, config_page_of, head_of, head_size, record_place}
-use Rattle.rollback_record.specs.declared.page.TheConstants.{RECORD_BYTES}
 use Rattle.rollback_record.specs.Committing.{HasHeldOrNew}
 use Rattle.rollback_record.specs.HeadRecord.{IsLoadable}
-use Rattle.rollback_record.specs.RecordPage.{IsActiveSlot}
+use Rattle.rollback_record.specs.RecordPage.{IsActiveSlot, record_length}
 use Rattle.rollback_record.specs.SoundFlash.{IsInstalled, recorded_bank}
 use Rattle.update_proc.specs.Banks.{BesideBank}
 
@@ -35,7 +35,7 @@ pub record IsRecording (frame : Frame) (held : Option Record) (new : Record)
     (made image : List ℕ) : Type 0 where
   pub which : ℕ
   pub two : which < 2
-  pub beside : SameOn (Outside (record_place frame which) RECORD_BYTES) made image
+  pub beside : SameOn (Outside (record_place frame which) (record_length frame)) made image
   pub record_is : HasHeldOrNew frame held new image
 
 -- the bank is being written, or it is whole and the new record is being committed
@@ -47,11 +47,11 @@ pub data IsInstalling (frame : Frame) (held : Option Record) (new : Record) (byt
       → IsRecording frame held new made image
       → IsInstalling frame held new bytes start image
 
--- each component of a layout has the slot that is to be in use
+-- each component of a layout has the slot that is to be in use, and behind the last there are zeros
 abbrev pub HasActiveSlots : Frame → List ℕ → List ℕ → Type 0
 HasActiveSlots frame image active =
-    (i : ℕ) → i < 8
-    → IsActiveSlot (config_page_of frame (head_of frame image)) i (slice_index active i)
+    (i : ℕ) → i < MOST_ENTRIES
+    → IsActiveSlot frame (config_page_of frame (head_of frame image)) i (slice_index active i)
 
 -- a record after which another one may come
 abbrev pub IsNotWorn : Record → Type 0

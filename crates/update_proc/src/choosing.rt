@@ -7,7 +7,7 @@ ghost use Rattle.suit_commands.specs.Plans.{plan_tree};
 ghost use Rattle.update_proc.specs.ChoiceLaws.{ChoiceLaw};
 ghost use Rattle.update_proc.specs.Choices.{AreChosen, HasWritten};
 
-use flash_layout::{Layout, MAX_ENTRIES, Places};
+use flash_layout::{Layout, MOST_ENTRIES, Places};
 use suit_commands::{Plan, targets};
 
 // Whether a set has the component.
@@ -51,9 +51,9 @@ pub fn choose(
     layout: &Layout,
     places: &Places,
     plan: &Plan<'_>,
-    active: &[u8; MAX_ENTRIES],
-) -> [u8; MAX_ENTRIES]
-    requires layout { length layout.now ≤ 8 }
+    active: &[u8; MOST_ENTRIES],
+) -> [u8; MOST_ENTRIES]
+    requires layout { length layout.now ≤ MOST_ENTRIES }
     requires places { places.now.count ≤ 8 }
     requires plan { IsPlan (plan_tree plan.now) }
     requires active { (i : ℕ) → slice_index active.now i ≤ 1 }

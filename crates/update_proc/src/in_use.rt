@@ -1,6 +1,6 @@
 //! The slots that are in use.
 
-ghost use Rattle.flash_layout.specs.declared.frame.TheConstants.{VERSION_1};
+ghost use Rattle.flash_layout.specs.declared.frame.Frame.{Frame};
 ghost use Rattle.flash_layout.specs.Layouts.{IsLayout};
 ghost use Rattle.std.specs.Prelude.{◌≡◌, ◌≤◌, ℕ, List, length, option_map};
 ghost use Rattle.step_machine.specs.InUse.{AreInUse};
@@ -10,17 +10,17 @@ ghost use Rattle.suit_commands.specs.Plans.{plan_tree};
 ghost use Rattle.update_proc.specs.Choices.{AreChosen, active_slots};
 
 use crate::choose;
-use flash_layout::{Layout, MAX_ENTRIES, Places, Record};
+use flash_layout::{Layout, MOST_ENTRIES, Places, Record};
 use step_machine::{SlotChoice, slots_in_use};
 use suit_commands::Plan;
 
 // The slots that the record has in use; the first ones without a record.
-fn slots_held(layout: &Layout, held: Option<&Record>) -> [u8; MAX_ENTRIES]
-    requires { length layout.now ≤ 8 }
+fn slots_held(layout: &Layout, held: Option<&Record>) -> [u8; MOST_ENTRIES]
+    requires { length layout.now ≤ MOST_ENTRIES }
     ensures { AreInUse layout.now (active_slots (option_map (λ r. r.now) held.entry)) result }
 {
     match held {
-        None => slots_in_use(layout, &[0; MAX_ENTRIES]),
+        None => slots_in_use(layout, &[0; MOST_ENTRIES]),
         Some(held) => slots_in_use(layout, &held.active),
     }
 }
@@ -32,7 +32,7 @@ pub(crate) fn choose_slots(
     plan: &Plan<'_>,
     held: Option<&Record>,
 ) -> SlotChoice
-    requires layout { (size : ℕ) × IsLayout VERSION_1 size layout.now }
+    requires layout { (frame : Frame) × (size : ℕ) × IsLayout frame size layout.now }
     requires places { places.now.count ≤ 8 }
     requires plan { IsPlan (plan_tree plan.now) }
     ensures chosen { (active : List ℕ)

@@ -1,6 +1,6 @@
 //! An update to be installed.
 
-use flash_layout::MAX_ENTRIES;
+use flash_layout::MOST_ENTRIES;
 use suit_params::Digest;
 
 /// The fields of an update's record beside its generation and its envelope.
@@ -10,6 +10,6 @@ pub struct Offer {
     pub sequence: u64,
     /// The digest of the manifest.
     pub digest: Digest,
-    /// The slot of each component of the layout that is to be in use.
-    pub active: [u8; MAX_ENTRIES],
+    /// The slot of each component of the layout that is to be in use; 0 behind the last.
+    pub active: [u8; MOST_ENTRIES],
 }

@@ -1,13 +1,13 @@
 use Rattle.std.proofs.Common.{◌≡◌, ℕ, sym, subst}
 use Rattle.flash_layout.specs.Configs.{ConfigOf, Configured}
 use Rattle.flash_layout.specs.FirstFrame.{has_room}
-use Rattle.flash_layout.specs.ToldFrames.{allowed_by, told_by}
+use Rattle.flash_layout.specs.ToldFrames.{told_by}
 use Rattle.rollback_record.specs.SoundFlash.{Settled}
 use Rattle.invoke_proc.specs.Booting.{PlaysBoot}
 use Rattle.invoke_proc.proofs.HostNever.{never_host}
 use Rattle.invoke_proc.proofs.Played.{unfaulted}
 use Rattle.rollback_record.proofs.HeadSince.{follows_since, sound_since}
-use Rattle.invoke_proc.proofs.SoundBoot.{gains, head_kept, played_gains, safe_start, settled_end, unrefused}
+use Rattle.invoke_proc.proofs.SoundBoot.{front_kept, gains, played_gains, safe_start, settled_end, unrefused}
 use Rattle.invoke_proc.proofs.booting.boot.Goals as goal
 
 pub returns-clause-unrefused : goal.returns-clause-unrefused
@@ -36,21 +36,21 @@ returns-clause-safe g c td tl sound =
     let launched = g.L.Launcher.launches c.args.launcher.now in
     let now = g.L.Launcher.launches c.start_installed.new.launcher in
     let config = subst (λ (n : ℕ). ConfigOf n reads (Configured layout key c.args.frame)) (sym (g.met.D.Disk.obeys c.args.disk.now td).fits) (c.requires.held td) in
-    played_gains c.play_laws.ensures.safe c.play_laws.ensures.faulted_safe c.manifest_laws.ensures size layout (allowed_by (g.D.Disk.extent c.args.disk.now) c.args.layout.now c.args.key.now c.args.frame c.requires.allowed).layout_is c.has_identifiers.ensures c.args.frame key files reads after launched now
+    played_gains c.play_laws.ensures.safe c.play_laws.ensures.faulted_safe c.manifest_laws.ensures c.args.frame size layout c.requires.allowed.layout_is c.has_identifiers.ensures key files reads after launched now
     (PlaysBoot c.args.frame layout key files reads after launched now) (after ≡ reads) c.start_installed.result
-    (λ end p. gains c.play_laws.ensures.safe c.play_laws.ensures.faulted_safe c.manifest_laws.ensures size layout (allowed_by (g.D.Disk.extent c.args.disk.now) c.args.layout.now c.args.key.now c.args.frame c.requires.allowed).layout_is c.has_identifiers.ensures c.args.frame key files reads after launched now end p
+    (λ end p. gains c.play_laws.ensures.safe c.play_laws.ensures.faulted_safe c.manifest_laws.ensures c.args.frame size layout c.requires.allowed.layout_is c.has_identifiers.ensures key files reads after launched now end p
     (safe_start c.config_laws.ensures.answer c.record_laws.ensures.answer c.boot_laws.ensures c.args.frame layout key reads (told_by size c.args.frame c.requires.allowed.frame_is _ reads) config p.installed p.manifest sound p.starts))
     (c.start_installed.ensures.plays td tl)
 
 pub returns-clause-sound : goal.returns-clause-sound
 returns-clause-sound g c t settled =
     sound_since c.sound_laws.ensures (g.D.Disk.flash c.args.disk.now) (g.D.Disk.flash c.start_installed.new.disk) (g.D.Disk.extent c.args.disk.now) (g.met.D.Disk.obeys c.args.disk.now t) (has_room _ c.args.frame c.requires.allowed.frame_is) settled
-    (head_kept c.manifest_laws.ensures (g.D.Disk.extent c.args.disk.now) c.args.layout.now (allowed_by (g.D.Disk.extent c.args.disk.now) c.args.layout.now c.args.key.now c.args.frame c.requires.allowed).layout_is c.requires.allowed.typed.entries c.args.frame c.args.key.now (g.D.Disk.flash c.args.disk.now) (g.D.Disk.flash c.start_installed.new.disk) c.start_installed.result (c.start_installed.ensures.keeps t))
+    (front_kept c.manifest_laws.ensures c.args.frame (g.D.Disk.extent c.args.disk.now) c.requires.allowed.frame_is c.args.layout.now c.requires.allowed.layout_is c.requires.allowed.typed.entries c.args.key.now (g.D.Disk.flash c.args.disk.now) (g.D.Disk.flash c.start_installed.new.disk) c.start_installed.result (c.start_installed.ensures.keeps t))
 
 pub returns-clause-follows : goal.returns-clause-follows
 returns-clause-follows g c t settled =
     follows_since c.sound_laws.ensures (g.D.Disk.flash c.args.disk.now) (g.D.Disk.flash c.start_installed.new.disk) (g.D.Disk.extent c.args.disk.now) (g.met.D.Disk.obeys c.args.disk.now t) (has_room _ c.args.frame c.requires.allowed.frame_is) settled
-    (head_kept c.manifest_laws.ensures (g.D.Disk.extent c.args.disk.now) c.args.layout.now (allowed_by (g.D.Disk.extent c.args.disk.now) c.args.layout.now c.args.key.now c.args.frame c.requires.allowed).layout_is c.requires.allowed.typed.entries c.args.frame c.args.key.now (g.D.Disk.flash c.args.disk.now) (g.D.Disk.flash c.start_installed.new.disk) c.start_installed.result (c.start_installed.ensures.keeps t))
+    (front_kept c.manifest_laws.ensures c.args.frame (g.D.Disk.extent c.args.disk.now) c.requires.allowed.frame_is c.args.layout.now c.requires.allowed.layout_is c.requires.allowed.typed.entries c.args.key.now (g.D.Disk.flash c.args.disk.now) (g.D.Disk.flash c.start_installed.new.disk) c.start_installed.result (c.start_installed.ensures.keeps t))
 
 pub returns-clause-settled : goal.returns-clause-settled
 returns-clause-settled g c t settled =

@@ -2,10 +2,8 @@ use Rattle.std.proofs.Common.{◌≡◌, ◌∙◌, ℕ, sym, subst}
 use Rattle.manifest_view.specs.Views.{manifest_of}
 use Rattle.suit_edge.specs.Flash.{IsSame}
 use Rattle.suit_edge.specs.FlashLaws.{same_flash_then}
-use Rattle.flash_layout.specs.declared.frame.TheConstants.{VERSION_1}
 use Rattle.flash_layout.specs.Layouts.{IsLayout}
 use Rattle.flash_layout.specs.FirstFrame.{bank_fits}
-use Rattle.flash_layout.specs.ToldFrames.{allowed_by}
 use Rattle.invoke_proc.specs.declared.boot_end.BootEnd.{BootEnd}
 use Rattle.invoke_proc.specs.Booting.{Answers, KeepsBoot, KeepsOthers, PlayedSo, PlaysBoot, PlaysOn}
 use Rattle.invoke_proc.proofs.Booted as booted
@@ -103,6 +101,4 @@ find_bank-requires-clause-config g c t = (c.args.key.now, c.requires.held t)
 
 pub start-requires-clause-layout : goal.start-requires-clause-layout
 start-requires-clause-layout g c =
-    let size = g.D.Disk.extent c.args.disk.now in
-    let layout = c.args.layout.now in
-    subst (λ (n : ℕ). IsLayout VERSION_1 n layout) (sym c.find_bank.ensures.size) (allowed_by size layout c.args.key.now c.args.frame c.requires.allowed).layout_is
+    (c.args.frame, subst (λ (n : ℕ). IsLayout c.args.frame n c.args.layout.now) (sym c.find_bank.ensures.size) c.requires.allowed.layout_is)

@@ -30,8 +30,8 @@ begins g c t = record {
   fields = c.requires.fields t;
   gate_is = c.record_page-gate.ensures;
   place_is = refl;
-  body_is = behind_gate c.spell-page.result _ c.args.new.now c.spell-page.ensures.bytes c.behind_gate.ensures;
-  long = long_behind c.spell-page.result _ c.spell-page.ensures.long c.behind_gate.ensures;
+  body_is = behind_gate c.args.frame c.spell-page.result _ c.args.new.now c.spell-page.ensures.bytes c.behind_gate.ensures;
+  long = long_behind c.args.frame c.spell-page.result _ c.spell-page.ensures.long c.behind_gate.ensures;
 }
 
 pub write_known-answer-requires-clause-firm : goal.write_known-answer-requires-clause-firm

@@ -9,11 +9,8 @@ use Rattle.step_machine.specs.UrisSet.{HasFetch}
 use Rattle.suit_edge.specs.Flash.{IsFlash, IsSame, IsSettled, Keeps, Now, Passes}
 use Rattle.suit_edge.specs.FlashLaws.{grows_start, grows_then, same_flash, starts}
 use Rattle.suit_envelope.specs.declared.envelope.Envelope.{Envelope}
-use Rattle.flash_layout.specs.declared.frame.Frame.{Frame}
 use Rattle.flash_layout.specs.declared.slot.Record.{Record}
 use Rattle.flash_layout.specs.Frames.{IsFrame, head_of}
-use Rattle.flash_layout.specs.FirstFrame.{to_first}
-use Rattle.flash_layout.specs.Layouts.{IsLayout}
 use Rattle.rollback_record.specs.Committing.{HasSpare}
 use Rattle.rollback_record.specs.HeadRecord.{RecordOf}
 use Rattle.rollback_record.specs.SettledLaws.{each_sound}
@@ -40,8 +37,7 @@ held_of held = option_map (λ r. r.now) held
 
 pub choose_slots-slots-requires-clause-layout : goal.choose_slots-slots-requires-clause-layout
 choose_slots-slots-requires-clause-layout g c =
-    let size = g.D.Disk.extent c.args.disk.now in
-    (size, to_first size c.args.accepted.now.frame c.requires.frame (λ (f : Frame). IsLayout f size c.args.layout.now) c.requires.layout)
+    (c.args.accepted.now.frame, g.D.Disk.extent c.args.disk.now, c.requires.layout)
 
 pub choose_slots-slots-requires-clause-places : goal.choose_slots-slots-requires-clause-places
 choose_slots-slots-requires-clause-places g c = c.requires.distinct.few
