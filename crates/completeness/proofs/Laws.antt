@@ -6,8 +6,6 @@ use Rattle.suit_manifest.specs.MembersLaws.{MembersLaws}
 use Rattle.flash_layout.specs.declared.key.Key.{Key}
 use Rattle.flash_layout.specs.declared.layout.Entry.{Entry}
 use Rattle.flash_layout.specs.ConfigLaws.{OneAnswer as OneConfigAnswer}
-use Rattle.flash_layout.specs.Frames.{head_of}
-use Rattle.flash_layout.specs.declared.frame.TheConstants.{VERSION_1}
 use Rattle.rollback_record.specs.RecordLaws.{OneAnswer, SomeAnswer}
 use Rattle.invoke_proc.specs.BootLaws.{BootLaws}
 use Rattle.suit_cli.specs.Acceptance.{Accepted, IsAccepted}
@@ -53,12 +51,10 @@ completeness_laws configs records some envelopes manifests members boots updates
   update_ends = λ words l n b a sb sa result ready faultless runs. ends_well _ _ sb sa result runs.ended (λ done. ap ended_status done.ended_is) (λ starved. starved.lacks.status)
       (update_completes configs envelopes manifests members updates words l n b a ready runs.ended faultless runs.comes) runs.puts;
   only_update = λ words l n b a ended asks told comes zero.
-      let r = some VERSION_1 (head_of VERSION_1 b.flash.reads) in
-      only_update configs envelopes manifests members updates words l n b a r.0 told r.1 ended asks comes zero;
+      only_update configs envelopes manifests members updates some words l n b a told ended asks comes zero;
   update_says = λ words l n b a sb sa asks told runs.
-      let r = some VERSION_1 (head_of VERSION_1 b.flash.reads) in
       says_so (λ ready. Installs words l b ready n a) sb sa runs.ended
-      (only_update configs envelopes manifests members updates words l n b a r.0 told r.1 runs.ended asks runs.comes) runs.puts;
+      (only_update configs envelopes manifests members updates some words l n b a told runs.ended asks runs.comes) runs.puts;
   boot = λ words l n b a ended ready faultless comes. boot_completes configs records boots words l n b a ready ended faultless comes;
   boot_ends = λ words l n b a sb sa result ready faultless runs. ends_well _ _ sb sa result runs.ended (λ done. ap ended_status done.ended_is) (λ starved. starved.lacks.status)
       (boot_completes configs records boots words l n b a ready runs.ended faultless runs.comes) runs.puts;

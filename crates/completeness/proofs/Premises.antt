@@ -9,17 +9,17 @@ use Rattle.suit_envelope.specs.Envelopes.{EnvelopeSays, map_entries}
 use Rattle.suit_envelope.specs.Payloads.{HasPayloads, integrated_payloads}
 use Rattle.suit_envelope.specs.Said.{EnvelopeOf}
 use Rattle.flash_layout.specs.declared.frame.Frame.{Frame}
-use Rattle.flash_layout.specs.declared.frame.TheConstants.{VERSION_1}
 use Rattle.flash_layout.specs.declared.layout.Entry.{Entry}
 use Rattle.flash_layout.specs.declared.place.Places.{Places}
 use Rattle.flash_layout.specs.declared.slot.Record.{Record}
-use Rattle.flash_layout.specs.Frames.{head_of, most}
+use Rattle.flash_layout.specs.Frames.{head_of}
 use Rattle.flash_layout.specs.Placement.{ArePlaces}
 use Rattle.rollback_record.specs.HeadRecord.{RecordOf}
 use Rattle.step_machine.specs.declared.spot.Standing.{Standing}
 use Rattle.step_machine.specs.declared.world.SlotChoice.{SlotChoice}
 use Rattle.step_machine.specs.InUse.{AreInUse, slot_in_use}
 use Rattle.step_machine.specs.Worlds.{StandAs, standing_of}
+use Rattle.step_machine.proofs.Fitting.{few_entries}
 use Rattle.invoke_proc.proofs.Placed.{placed}
 use Rattle.update_proc.specs.Choices.{AreChosen, HasOther, IsWritten, active_slots}
 use Rattle.suit_cli.specs.Outside.{Outside}
@@ -67,7 +67,7 @@ unfolding pick
 pick_either (inl p) number = inr (p, refl)
 pick_either (inr denied) number = inl refl
 
-module _ (layout : List Entry) (places : Places) (tree : PlanTree) (active : List ℕ) (few : length layout ≤ 8) (eight : length active ≡ 8) where
+module _ (layout : List Entry) (places : Places) (tree : PlanTree) (active : List ℕ) (few : length layout ≤ 32) (long : length active ≡ 32) where
   abbrev decided : (i : ℕ) → Decided (IsWritten tree places i × HasOther layout i)
   decided i = both (written tree places i) (has_other layout i)
 
@@ -75,25 +75,25 @@ module _ (layout : List Entry) (places : Places) (tree : PlanTree) (active : Lis
   number i = pick (decided i) (get_or active i 0)
 
   abbrev numbers : List ℕ
-  numbers = map number (range_with_len 0 8)
+  numbers = map number (range_with_len 0 32)
 
-  at : (i : ℕ) → i < 8 → get_or numbers i 0 ≡ number i
-  at i lt = get_or-map-range_with_len number 0 8 i i 0 lt (omega arith)
+  at : (i : ℕ) → i < 32 → get_or numbers i 0 ≡ number i
+  at i lt = get_or-map-range_with_len number 0 32 i i 0 lt (omega arith)
 
-  past : (i : ℕ) → 8 ≤ i → get_or numbers i 0 ≡ get_or active i 0
-  past i le = get_or_past numbers i 0 (omega (arith, length-map-range_with_len number 0 8, le)) ∙ sym (get_or_past active i 0 (omega (arith, eight, le)))
+  past : (i : ℕ) → 32 ≤ i → get_or numbers i 0 ≡ get_or active i 0
+  past i le = get_or_past numbers i 0 (omega (arith, length-map-range_with_len number 0 32, le)) ∙ sym (get_or_past active i 0 (omega (arith, long, le)))
 
   pub chosen : (ns : List ℕ) × AreChosen layout places tree active ns
   chosen = (
     numbers,
     record {
-      size = length-map-range_with_len number 0 8;
+      size = length-map-range_with_len number 0 32;
       other = λ i w o. at i (omega (arith, few, o.0)) ∙ pick_other (decided i) (get_or active i 0) (w, o);
-      same = λ i never. elim (reaches i 8) [
+      same = λ i never. elim (reaches i 32) [
         | inl lt ↦ at i lt ∙ pick_same (decided i) (get_or active i 0) never
         | inr le ↦ past i le
       ];
-      either = λ i. elim (reaches i 8) [
+      either = λ i. elim (reaches i 32) [
         | inr le ↦ inl (past i le)
         | inl lt ↦ elim (pick_either (decided i) (get_or active i 0)) [
           | inl e ↦ inl (at i lt ∙ e)
@@ -120,26 +120,26 @@ unfolding inside_or
 is_past (inl is) number le = absurd (omega (arith, is, le))
 is_past (inr past) number le = refl
 
-module _ (layout : List Entry) (active : List ℕ) (few : length layout ≤ 8) where
+module _ (layout : List Entry) (active : List ℕ) (few : length layout ≤ 32) where
   abbrev used : ℕ → ℕ
   used i = inside_or (reaches i (length layout)) (slot_in_use (get_or layout i no_entry) (get_or active i 0))
 
   abbrev used_numbers : List ℕ
-  used_numbers = map used (range_with_len 0 8)
+  used_numbers = map used (range_with_len 0 32)
 
-  used_at : (i : ℕ) → i < 8 → get_or used_numbers i 0 ≡ used i
-  used_at i lt = get_or-map-range_with_len used 0 8 i i 0 lt (omega arith)
+  used_at : (i : ℕ) → i < 32 → get_or used_numbers i 0 ≡ used i
+  used_at i lt = get_or-map-range_with_len used 0 32 i i 0 lt (omega arith)
 
   pub in_use : (ns : List ℕ) × AreInUse layout active ns
   in_use = (
     used_numbers,
     record {
-      size = length-map-range_with_len used 0 8;
+      size = length-map-range_with_len used 0 32;
       each = λ i d lt. used_at i (omega (arith, few, lt)) ∙ is_inside (reaches i (length layout)) _ lt
           ∙ ap (λ (e : Entry). slot_in_use e (get_or active i 0)) (get_or_default layout i no_entry d lt);
-      rest = λ i le. elim (reaches i 8) [
+      rest = λ i le. elim (reaches i 32) [
         | inl lt ↦ used_at i lt ∙ is_past (reaches i (length layout)) _ le
-        | inr beyond ↦ get_or_past used_numbers i 0 (omega (arith, length-map-range_with_len used 0 8, beyond))
+        | inr beyond ↦ get_or_past used_numbers i 0 (omega (arith, length-map-range_with_len used 0 32, beyond))
       ];
     },
   )
@@ -171,21 +171,21 @@ module _ (layout : List Entry) (ids : List (List (List ℕ))) (places : Places) 
 payloads : (bytes : List ℕ) (said : EnvelopeSays) (envelope : EnvelopeOf bytes said) → HasPayloads bytes (integrated_payloads (map_entries envelope.says_so.map))
 payloads bytes said envelope = record { said = said; envelope = envelope; are = refl }
 
-held_long : (image : List ℕ) (held : Option Record) → RecordOf VERSION_1 (head_of VERSION_1 image) held → length (active_slots held) ≡ 8
-held_long image None recorded = length-replicate {A = ℕ} 8 0
-held_long image (Some r) recorded = recorded.counts.page.typed.active
+held_long : (frame : Frame) (image : List ℕ) (held : Option Record) → RecordOf frame (head_of frame image) held → length (active_slots held) ≡ 32
+held_long frame image None recorded = length-replicate {A = ℕ} 32 0
+held_long frame image (Some r) recorded = recorded.counts.page.typed.active
 
 pub can_set : (name : List ℕ) (before : Outside) → IsTrue before.flash.told → (o : Offers name before) → Sets o.layout o.bytes o.accepted o.held
 can_set name before told o =
-    let few : length o.layout ≤ 8 = (o.configured told).page.allowed.few in
+    let few = few_entries o.frame before.flash.size o.layout (o.configured told).page.allowed in
     let m = facts o.layout o.key o.bytes o.accepted o.is_accepted in
-    let c = chosen o.layout o.accepted.places (procedure_of o.accepted) (active_slots o.held) few (held_long before.flash.reads o.held o.recorded) in
+    let c = chosen o.layout o.accepted.places (procedure_of o.accepted) (active_slots o.held) few (held_long o.frame before.flash.reads o.held o.recorded) in
     let s = standings o.layout o.accepted.manifest.components o.accepted.places m.placed (record { number = c.0 }) in
     record { numbers = c.0; chosen = c.1; standings = s.0; stand = s.1; payloads = _; has = payloads o.bytes o.accepted.said m.envelope }
 
 pub can_activate : (before : Outside) → IsTrue before.flash.told → (r : Records before) → Activates r.layout r.installed r.is.said
 can_activate before told r =
-    let few : length r.layout ≤ 8 = subst (λ (f : Frame). length r.layout ≤ most f) (r.configured told).version (r.configured told).page.allowed.few in
+    let few = few_entries r.frame before.flash.size r.layout (r.configured told).page.allowed in
     let p = placed r.layout r.is.said.components r.is.components in
     let u = in_use r.layout r.installed.active few in
     let s = standings r.layout r.is.said.components p.0 p.1 (record { number = u.0 }) in

@@ -11,7 +11,7 @@ use Rattle.suit_manifest.specs.declared.manifest.Members.{Members}
 use Rattle.suit_manifest.specs.Procedures.{update_tree}
 use Rattle.path_model.specs.declared.cause.Cause.{Cause}
 use Rattle.path_model.specs.declared.cause.Cause.TheVariants as causes
-use Rattle.flash_layout.specs.declared.frame.TheConstants.{VERSION_1}
+use Rattle.flash_layout.specs.declared.frame.Frame.{Frame}
 use Rattle.flash_layout.specs.declared.layout.Entry.{Entry}
 use Rattle.flash_layout.specs.declared.place.Places.{Places}
 use Rattle.flash_layout.specs.declared.slot.Record.{Record}
@@ -73,7 +73,7 @@ module _ (sequence : ℕ) (digest : Digest) where
 module _ (layout : List Entry) (bytes : List ℕ) (s : EnvelopeSays) (m : Manifest) (x : Members) (p q : Places) (same : AreSame p q)
     (digest : Digest) (blocks : List (List ℕ)) (states : WrapperSays s.wrapper digest blocks) (inside : (k : ℕ) → k < p.count → get_or p.layout_index k 0 < length layout) (held : Option Record)
     (uris : List (List ℕ × List ℕ)) (l n : Launching) (b mid a : Outside) (sees : SeesSame b mid) (told : AreTold l b)
-    (recorded : RecordOf VERSION_1 (head_of VERSION_1 b.flash.reads) held) where
+    (frame : Frame) (recorded : RecordOf frame (head_of frame b.flash.reads) held) where
   abbrev Offered : Accepted
   Offered = record { said = s; manifest = m; places = p; members = x }
 
@@ -89,12 +89,12 @@ module _ (layout : List Entry) (bytes : List ℕ) (s : EnvelopeSays) (m : Manife
   mid_flash_told : IsTrue mid.flash.told
   mid_flash_told = subst IsTrue (sym sees.flash_told) told.flash
 
-  mid_recorded : RecordOf VERSION_1 (head_of VERSION_1 mid.flash.reads) held
-  mid_recorded = subst (λ (r : List ℕ). RecordOf VERSION_1 (head_of VERSION_1 r) held) (sym sees.reads) recorded
+  mid_recorded : RecordOf frame (head_of frame mid.flash.reads) held
+  mid_recorded = subst (λ (r : List ℕ). RecordOf frame (head_of frame r) held) (sym sees.reads) recorded
 
   -- its record, where the flash read so before and these slots are in use
   abbrev new_on : List ℕ → List ℕ → Record
-  new_on image numbers = new_of VERSION_1 Offered held image digest numbers
+  new_on image numbers = new_of frame Offered held image digest numbers
 
   module _ (sets : Sets layout bytes Offered held) where
     -- the play on the chosen slots
@@ -130,12 +130,12 @@ module _ (layout : List Entry) (bytes : List ℕ) (s : EnvelopeSays) (m : Manife
 
     pub record InstalledSo (end : UpdateEnd) : Type 0 where
       pub is : end ≡ ends.Installed (new_on b.flash.reads sets.numbers)
-      pub recorded_so : RecordOf VERSION_1 (head_of VERSION_1 a.flash.reads) (Some (new_on b.flash.reads sets.numbers))
+      pub recorded_so : RecordOf frame (head_of frame a.flash.reads) (Some (new_on b.flash.reads sets.numbers))
       pub completed : Completes (play_of layout bytes Offered held sets uris b)
       pub left : LeavesPlay sets.standings (play_of layout bytes Offered held sets uris b) l.launches n.launches a.flash.reads
       pub others : KeepsContents layout p Tree sets.numbers b.flash.reads a.flash.reads
 
-    pub installed_so : (r : Record) → IsUpdate (offer VERSION_1 layout bytes Found uris) l n mid a (ends.Installed r) → InstalledSo (ends.Installed r)
+    pub installed_so : (r : Record) → IsUpdate (offer frame layout bytes Found uris) l n mid a (ends.Installed r) → InstalledSo (ends.Installed r)
     installed_so r u =
         let played = u.plays mid_flash_told told.launcher held digest blocks mid_recorded states sets.payloads sets.has in
         let again = replayed played.made plays.Done played.plays in
@@ -145,7 +145,7 @@ module _ (layout : List Entry) (bytes : List ℕ) (s : EnvelopeSays) (m : Manife
         ap (λ (z : List ℕ). new_on mid.flash.reads z) numbers ∙ ap (λ (z : List ℕ). new_on z sets.numbers) sees.reads in
         record {
           is = ap ends.Installed (kept.left.0 ∙ new);
-          recorded_so = subst (λ (z : Record). RecordOf VERSION_1 (head_of VERSION_1 a.flash.reads) (Some z)) new kept.left.1;
+          recorded_so = subst (λ (z : Record). RecordOf frame (head_of frame a.flash.reads) (Some z)) new kept.left.1;
           completed = completes Tree _ _ _ _ _ again.plays_so;
           left = leaves Tree _ _ _ _ _ sets.standings again.ram a.flash.reads
               (same_contents layout p (record { number = sets.numbers }) sets.standings played.made a.flash.reads again.ram inside again.choice sets.stand played.left) again.plays_so;
@@ -178,7 +178,7 @@ module _ (layout : List Entry) (bytes : List ℕ) (s : EnvelopeSays) (m : Manife
       never_by_itself place causes.FlashFault st c = faultless.flash (subst (λ (z : ℕ). Faulted z a.flash.faults) sees.flash_faults c.1)
       never_by_itself place causes.LaunchFault st c = faultless.launcher c.2
 
-      pub way : (end : UpdateEnd) → IsUpdate (offer VERSION_1 layout bytes Found uris) l n mid a end → InstalledSo end ⊎ StarvedSo end
+      pub way : (end : UpdateEnd) → IsUpdate (offer frame layout bytes Found uris) l n mid a end → InstalledSo end ⊎ StarvedSo end
       way (ends.Installed r) u = inl (installed_so r u)
       way ends.NoMemory u = inr (record {
         is = refl;

@@ -9,7 +9,7 @@ use Rattle.suit_manifest.specs.declared.manifest.Members.{Members}
 use Rattle.suit_manifest.specs.ManifestLaws.{ManifestLaws}
 use Rattle.suit_manifest.specs.MembersApart.{HasMembers}
 use Rattle.suit_manifest.specs.MembersLaws.{MembersLaws}
-use Rattle.flash_layout.specs.declared.frame.TheConstants.{VERSION_1}
+use Rattle.flash_layout.specs.declared.frame.Frame.{Frame}
 use Rattle.flash_layout.specs.declared.key.Key.{Key}
 use Rattle.flash_layout.specs.declared.layout.Entry.{Entry}
 use Rattle.flash_layout.specs.declared.place.Places.{Places}
@@ -20,6 +20,7 @@ use Rattle.flash_layout.specs.Frames.{head_of}
 use Rattle.flash_layout.specs.Layouts.{IsLayout}
 use Rattle.flash_layout.specs.Placement.{ArePlaces}
 use Rattle.rollback_record.specs.HeadRecord.{RecordOf}
+use Rattle.rollback_record.specs.RecordLaws.{SomeAnswer}
 use Rattle.update_proc.specs.declared.update_end.UpdateEnd.{UpdateEnd}
 use Rattle.update_proc.specs.declared.update_end.UpdateEnd.TheVariants as ends
 use Rattle.suit_cli.specs.Acceptance.{Accepted, IsAccepted}
@@ -48,8 +49,8 @@ use Rattle.completeness.proofs.Begun.{never_fault, two_faults}
 use Rattle.completeness.proofs.SamePlaces.{AreSame, same_places}
 use Rattle.completeness.proofs.UpdatePlayed.{InstalledSo, SeesSame, installed_so, way}
 
-pub configured_once : (l m : List Entry) (k n : Key) → Configured l k VERSION_1 ≡ Configured m n VERSION_1 → (l ≡ m) × (k ≡ n)
-configured_once l m k n same = grind (arith, same)
+pub configured_once : (l m : List Entry) (k n : Key) (f g : Frame) → Configured l k f ≡ Configured m n g → (l ≡ m) × (k ≡ n) × (f ≡ g)
+configured_once l m k n f g same = grind (arith, same)
 
 task_once : (x y : List ℕ) (us vs : List (List ℕ × List ℕ)) → Some (RunUpdate x us) ≡ Some (RunUpdate y vs) → (x ≡ y) × (us ≡ vs)
 task_once x y us vs same = grind (arith, same)
@@ -108,8 +109,8 @@ module _ (configs : OneAnswer) (envelopes : EnvelopeLaws) (manifests : ManifestL
     O = ready.offers
 
     module _ (end : UpdateEnd) (lines : List ℕ) (u : Updates ready.name ready.uris l n b a end lines) where
-      config : (u.layout ≡ O.layout) × (u.key ≡ O.key)
-      config = configured_once u.layout O.layout u.key O.key (configs b.flash.size b.flash.reads (Configured u.layout u.key VERSION_1) (Configured O.layout O.key VERSION_1)
+      config : (u.layout ≡ O.layout) × (u.key ≡ O.key) × (u.frame ≡ O.frame)
+      config = configured_once u.layout O.layout u.key O.key u.frame O.frame (configs b.flash.size b.flash.reads (Configured u.layout u.key u.frame) (Configured O.layout O.key O.frame)
           (u.held.1 ready.told.flash) (O.configured ready.told.flash))
 
       same_bytes : u.bytes ≡ O.bytes
@@ -130,7 +131,7 @@ module _ (configs : OneAnswer) (envelopes : EnvelopeLaws) (manifests : ManifestL
       manifest_is = same_manifest envelopes manifests members O.layout O.key O.bytes b ready.told.host O.accepted u.accepted f g
 
       abbrev Update : Accepted → Type 0
-      Update z = IsUpdate (offer VERSION_1 O.layout O.bytes z ready.uris) l n u.middle a end
+      Update z = IsUpdate (offer O.frame O.layout O.bytes z ready.uris) l n u.middle a end
 
       update_there : Update (record { said = O.accepted.said; manifest = O.accepted.manifest; places = u.accepted.places; members = O.accepted.members })
       update_there =
@@ -141,19 +142,20 @@ module _ (configs : OneAnswer) (envelopes : EnvelopeLaws) (manifests : ManifestL
           (subst (λ (z : Manifest). Update (record { said = o.said; manifest = z; places = v.places; members = v.members })) manifest_is
           (subst (λ (z : EnvelopeSays). Update (record { said = z; manifest = v.manifest; places = v.places; members = v.members }))
           (same_said envelopes manifests members O.layout O.key O.bytes b ready.told.host o v f g)
-          (subst (λ (z : List ℕ). IsUpdate (offer VERSION_1 O.layout z v ready.uris) l n u.middle a end) same_bytes
-          (subst (λ (z : List Entry). IsUpdate (offer VERSION_1 z u.bytes v ready.uris) l n u.middle a end) config.0 u.update))))
+          (subst (λ (z : List ℕ). IsUpdate (offer O.frame O.layout z v ready.uris) l n u.middle a end) same_bytes
+          (subst (λ (z : List Entry). IsUpdate (offer O.frame z u.bytes v ready.uris) l n u.middle a end) config.0
+          (subst (λ (z : Frame). IsUpdate (offer z u.layout u.bytes v ready.uris) l n u.middle a end) config.2 u.update)))))
 
-      layout_is : IsLayout VERSION_1 b.flash.size O.layout
+      layout_is : IsLayout O.frame b.flash.size O.layout
       layout_is = (O.configured ready.told.flash).page.allowed
 
       same_there : AreSame O.accepted.places u.accepted.places
-      same_there = same_places VERSION_1 b.flash.size O.layout layout_is O.accepted.manifest.components O.accepted.places u.accepted.places f.placed
+      same_there = same_places O.frame b.flash.size O.layout layout_is O.accepted.manifest.components O.accepted.places u.accepted.places f.placed
           (subst (λ (z : Manifest). ArePlaces O.layout z.components u.accepted.places) manifest_is g.placed)
 
       installs : InstalledSo O.layout O.bytes O.accepted.said O.accepted.manifest O.accepted.members O.accepted.places u.accepted.places same_there O.digest O.stated.0 O.stated.1
           (inside_there O.layout O.accepted.manifest.components O.accepted.places f.placed) O.held ready.uris l n b u.middle a
-          (sees ready.name ready.uris l n b a end lines u ready.told) ready.told O.recorded ready.sets end → Installs words l b ready n a (Updated end lines)
+          (sees ready.name ready.uris l n b a end lines u ready.told) ready.told O.frame O.recorded ready.sets end → Installs words l b ready n a (Updated end lines)
       installs i =
           let new = record_for ready.name b O ready.sets.numbers in
           let line : lines ≡ update_line O.accepted.manifest.sequence (ends.Installed new) =
@@ -180,11 +182,11 @@ module _ (configs : OneAnswer) (envelopes : EnvelopeLaws) (manifests : ManifestL
           }))
           (way O.layout O.bytes O.accepted.said O.accepted.manifest O.accepted.members O.accepted.places u.accepted.places same_there O.digest O.stated.0 O.stated.1
           (inside_there O.layout O.accepted.manifest.components O.accepted.places f.placed) O.held ready.uris l n b u.middle a
-          (sees ready.name ready.uris l n b a end lines u ready.told) ready.told O.recorded ready.sets O.acceptable ready.completes faultless end update_there)
+          (sees ready.name ready.uris l n b a end lines u ready.told) ready.told O.frame O.recorded ready.sets O.acceptable ready.completes faultless end update_there)
 
     of_stages : (e : Ending) → answers words b a e → n ≡ l → IsFaultless l n b a → Installs words l b ready n a (Answered e) ⊎ LeavesFlash l n b a (Answered e)
     of_stages (Says reply) answer same faultless =
-        absurd (laws.accepted ready.name b a (O.layout, O.key, VERSION_1) O.bytes O.accepted reply ready.told.host ready.told.flash O.configured O.read O.is_accepted
+        absurd (laws.accepted ready.name b a (O.layout, O.key, O.frame) O.bytes O.accepted reply ready.told.host ready.told.flash O.configured O.read O.is_accepted
         (does_of words b a reply (RunUpdate ready.name ready.uris) ready.asks answer))
     of_stages (FaultOf object) answer same faultless = absurd (never_fault words l n b a (FaultOf object) answer tt faultless)
     of_stages NoMemory answer same faultless = inr (starved_leaves words l n b a ready.told answer same)
@@ -199,10 +201,17 @@ module _ (configs : OneAnswer) (envelopes : EnvelopeLaws) (manifests : ManifestL
 
   -- ---- and only there
 
-  module _ (words : List (List ℕ)) (l n : Launching) (b a : Outside) (held : Option Record) (told : AreTold l b) (recorded : RecordOf VERSION_1 (head_of VERSION_1 b.flash.reads) held) where
+  module _ (records : SomeAnswer) (words : List (List ℕ)) (l n : Launching) (b a : Outside) (told : AreTold l b) where
     module _ (name : List ℕ) (uris : List (List ℕ × List ℕ)) (r : Record) (lines : List ℕ) (u : Updates name uris l n b a (ends.Installed r) lines) (word : task_of words ≡ Some (RunUpdate name uris)) where
       abbrev V : Accepted
       V = u.accepted
+
+      -- the record that the flash has
+      abbrev held : Option Record
+      held = (records u.frame (head_of u.frame b.flash.reads)).0
+
+      recorded : RecordOf u.frame (head_of u.frame b.flash.reads) held
+      recorded = (records u.frame (head_of u.frame b.flash.reads)).1
 
       h : Meets u.layout u.key u.bytes V
       h = facts u.layout u.key u.bytes V u.is_accepted
@@ -219,13 +228,14 @@ module _ (configs : OneAnswer) (envelopes : EnvelopeLaws) (manifests : ManifestL
       middle_flash_told : IsTrue u.middle.flash.told
       middle_flash_told = subst IsTrue (sym seen.flash_told) told.flash
 
-      recorded_there : RecordOf VERSION_1 (head_of VERSION_1 u.middle.flash.reads) held
-      recorded_there = subst (λ (z : List ℕ). RecordOf VERSION_1 (head_of VERSION_1 z) held) (sym seen.reads) recorded
+      recorded_there : RecordOf u.frame (head_of u.frame u.middle.flash.reads) held
+      recorded_there = subst (λ (z : List ℕ). RecordOf u.frame (head_of u.frame z) held) (sym seen.reads) recorded
 
       offers : Offers name b
       offers = record {
         layout = u.layout;
         key = u.key;
+        frame = u.frame;
         configured = u.held.1;
         bytes = u.bytes;
         read = read_there name uris l n b a (ends.Installed r) lines u told;
@@ -247,9 +257,9 @@ module _ (configs : OneAnswer) (envelopes : EnvelopeLaws) (manifests : ManifestL
           record { numbers = played.numbers; chosen = played.chosen; standings = played.standings; stand = played.stand; payloads = payloads.0; has = payloads.1 }
 
       installed_there : InstalledSo u.layout u.bytes V.said V.manifest V.members V.places V.places itself h.authentic.digest h.authentic.blocks h.authentic.says
-          (inside_there u.layout V.manifest.components V.places h.placed) held uris l n b u.middle a seen told recorded sets (ends.Installed r)
+          (inside_there u.layout V.manifest.components V.places h.placed) held uris l n b u.middle a seen told u.frame recorded sets (ends.Installed r)
       installed_there = installed_so u.layout u.bytes V.said V.manifest V.members V.places V.places itself h.authentic.digest h.authentic.blocks h.authentic.says
-          (inside_there u.layout V.manifest.components V.places h.placed) held uris l n b u.middle a seen told recorded sets r u.update
+          (inside_there u.layout V.manifest.components V.places h.placed) held uris l n b u.middle a seen told u.frame recorded sets r u.update
 
       was_ready : ReadyToUpdate words l b
       unfolding offers

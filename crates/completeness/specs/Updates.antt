@@ -8,7 +8,7 @@ use Rattle.suit_manifest.specs.Procedures.{update_tree}
 use Rattle.path_model.specs.DevicePlays.{Device, played}
 use Rattle.path_model.specs.Plays.{Outcome}
 use Rattle.path_model.specs.Settings.{steady}
-use Rattle.flash_layout.specs.declared.frame.TheConstants.{VERSION_1}
+use Rattle.flash_layout.specs.declared.frame.Frame.{Frame}
 use Rattle.flash_layout.specs.declared.key.Key.{Key}
 use Rattle.flash_layout.specs.declared.layout.Entry.{Entry}
 use Rattle.flash_layout.specs.declared.slot.Record.{Record}
@@ -50,7 +50,8 @@ States a digest = (blocks : List (List ℕ)) × WrapperSays a.said.wrapper diges
 pub record Offers (name : List ℕ) (before : Outside) : Type 0 where
   pub layout : List Entry
   pub key : Key
-  pub configured : Holds before.flash (layout, key, VERSION_1)
+  pub frame : Frame
+  pub configured : Holds before.flash (layout, key, frame)
   pub bytes : List ℕ
   pub read : IsRead longest_file name before bytes
   pub accepted : Accepted
@@ -58,13 +59,13 @@ pub record Offers (name : List ℕ) (before : Outside) : Type 0 where
   pub digest : Digest
   pub stated : States accepted digest
   pub held : Option Record
-  pub recorded : RecordOf VERSION_1 (head_of VERSION_1 before.flash.reads) held
+  pub recorded : RecordOf frame (head_of frame before.flash.reads) held
   pub acceptable : IsAcceptable accepted.manifest.sequence digest held
 
 -- its record beside the held one, with these slots in use
 abbrev pub record_for : (name : List ℕ) (before : Outside) → Offers name before → List ℕ → Record
 record_for name before o numbers =
-    new_of VERSION_1 o.accepted o.held before.flash.reads o.digest numbers
+    new_of o.frame o.accepted o.held before.flash.reads o.digest numbers
 
 -- ---- the play
 
@@ -114,7 +115,7 @@ pub record Installs (words : List (List ℕ)) (launched : Launching) (before : O
       (ends.Installed (record_for ready.name before o ready.sets.numbers))
       (number_line (codes "installed") o.accepted.manifest.sequence)
   pub recorded : let o = ready.offers in
-      RecordOf VERSION_1 (head_of VERSION_1 after.flash.reads)
+      RecordOf o.frame (head_of o.frame after.flash.reads)
       (Some (record_for ready.name before o ready.sets.numbers))
   pub left : let o = ready.offers in
       LeavesPlay ready.sets.standings

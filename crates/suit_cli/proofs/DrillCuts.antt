@@ -8,7 +8,6 @@ use Rattle.update_proc.specs.declared.update_end.UpdateEnd.TheVariants as ends
 use Rattle.update_proc.specs.Moments.{IsNew, IsOld}
 use Rattle.update_proc.specs.Updates.{KeepsUpdate}
 use Rattle.suit_params.specs.declared.digest.Digest.{Digest}
-use Rattle.flash_layout.specs.declared.frame.TheConstants.{VERSION_1}
 use Rattle.flash_layout.specs.declared.slot.Record.{Record}
 use Rattle.suit_cli.specs.Coming.{Answered, Booted, Ended, StaysOrKeeps, Updated, ended_status}
 use Rattle.suit_cli.specs.DrillRounds.{IsCutOff, IsLeft, envelope_name}
@@ -32,7 +31,7 @@ module _ (told flash_told : Bool) (files : Files) (pulled : ℕ) (asked : List (
   -- it was
   module _ (end : UpdateEnd) (k : KeepsFlash envelope_name uris launched later before end old new) where
     abbrev o : Offer
-    o = offer VERSION_1 k.layout k.bytes k.accepted uris
+    o = offer k.frame k.layout k.bytes k.accepted uris
 
     abbrev held : Option Record
     held = k.offered.0
@@ -48,6 +47,7 @@ module _ (told flash_told : Bool) (files : Files) (pulled : ℕ) (asked : List (
     cut_off is_left = inr (record {
       layout = k.layout;
       key = k.key;
+      frame = k.frame;
       config = k.config;
       bytes = k.bytes;
       read = k.read;

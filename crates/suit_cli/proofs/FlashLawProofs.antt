@@ -2,7 +2,8 @@
 use Rattle.std.proofs.Common.{◌≡◌, ◌⊎◌, inl, inr, ℕ, List, refl, sym, ap, subst, ◌∙◌, Option, Some, None}
 use Rattle.std.specs.Prelude.{IsTrue}
 use Rattle.suit_edge.specs.Gate.{IsOpen}
-use Rattle.flash_layout.specs.declared.frame.TheConstants.{VERSION_1, CONFIG_GATE}
+use Rattle.flash_layout.specs.declared.frame.Frame.{Frame}
+use Rattle.flash_layout.specs.declared.frame.TheConstants.{CONFIG_GATE}
 use Rattle.flash_layout.specs.declared.layout.Entry.{Entry}
 use Rattle.flash_layout.specs.declared.slot.Record.{Record}
 use Rattle.flash_layout.specs.Configs.{Config, ConfigOf}
@@ -70,58 +71,59 @@ in_use_here f g still r in_use = record {
 -- ---- `run init`
 
 module _ (size : ℕ) (device key_name : List ℕ) (b m : Outside) (near : IsNear b m) (shut : IsShut b.flash) (is : size ≡ b.flash.size) (r : Reply) where
-  device_here : (bytes : List ℕ) (layout : List Entry) → IsDevice size bytes layout → IsDevice b.flash.size bytes layout
-  device_here bytes layout describes = subst (λ (n : ℕ). IsDevice n bytes layout) is describes
+  device_here : (bytes : List ℕ) (layout : List Entry) (frame : Frame) → IsDevice size bytes layout frame → IsDevice b.flash.size bytes layout frame
+  device_here bytes layout frame describes = subst (λ (n : ℕ). IsDevice n bytes layout frame) is describes
 
   init_says : (a : Outside) → inits_as size device key_name m a (Says r) → InitSays device key_name b r
   init_says a (Declines _ d) = AtDevice shut (unread_here m b near.told near.files longest_device device r d.1)
   init_says a (Goes bytes m0 _ g (Declines _ d)) =
       AtDescription bytes shut (read_here m b near.told near.files longest_device device bytes g.1) (subst (λ (n : ℕ). IsNoDevice n bytes r) is d.1)
-  init_says a (Goes bytes m0 _ g (Goes layout m1 _ l (Declines _ d))) =
+  init_says a (Goes bytes m0 _ g (Goes x m1 _ l (Declines _ d))) =
       let there = near_then b m m1 near (near_then m m0 m1 (near_reads _ _ m m0 g.0) (near_same m0 m1 l.0)) in
-      AtKey bytes layout shut (read_here m b near.told near.files longest_device device bytes g.1) (device_here bytes layout l.1) (no_key_here m1 b there.told there.files key_name r d.1)
-  init_says a (Goes bytes m0 _ g (Goes layout m1 _ l (Goes key m2 _ k (Declines _ d)))) =
+      AtKey bytes x.0 x.1 shut (read_here m b near.told near.files longest_device device bytes g.1) (device_here bytes x.0 x.1 l.1) (no_key_here m1 b there.told there.files key_name r d.1)
+  init_says a (Goes bytes m0 _ g (Goes x m1 _ l (Goes key m2 _ k (Declines _ d)))) =
       let there = near_then b m m1 near (near_then m m0 m1 (near_reads _ _ m m0 g.0) (near_same m0 m1 l.0)) in
       let later = near_then b m1 m2 there (near_reads _ _ m1 m2 k.0) in
       AtGate (in_use_here b.flash m2.flash later.flash r d.1)
-  init_says a (Goes bytes m0 _ g (Goes layout m1 _ l (Goes key m2 _ k (Goes u m3 _ f (IsSaid _ same says))))) =
+  init_says a (Goes bytes m0 _ g (Goes x m1 _ l (Goes key m2 _ k (Goes u m3 _ f (IsSaid _ same says))))) =
       let there = near_then b m m1 near (near_then m m0 m1 (near_reads _ _ m m0 g.0) (near_same m0 m1 l.0)) in
-      AtFormat bytes layout key shut (read_here m b near.told near.files longest_device device bytes g.1) (device_here bytes layout l.1) (key_here m1 b there.told there.files key_name key k.1) says
+      AtFormat bytes x.0 x.1 key shut (read_here m b near.told near.files longest_device device bytes g.1) (device_here bytes x.0 x.1 l.1) (key_here m1 b there.told there.files key_name key k.1) says
 
   -- it declines and leaves the flash as it is, or is done
   init_ends : (a : Outside) → inits_as size device key_name m a (Says r)
       → (Declining r.outcome × IsStill m.flash a.flash) ⊎ ((r.outcome ≡ outcomes.Done) × (IsTrue b.flash.told → IsReady device key_name b a))
   init_ends a (Declines _ d) = inl (unread_declines _ _ _ r d.1, (near_reads _ _ m a d.0).flash)
   init_ends a (Goes bytes m0 _ g (Declines _ d)) = inl (no_device_declines _ _ r d.1, (near_then m m0 a (near_reads _ _ m m0 g.0) (near_same m0 a d.0)).flash)
-  init_ends a (Goes bytes m0 _ g (Goes layout m1 _ l (Declines _ d))) =
+  init_ends a (Goes bytes m0 _ g (Goes x m1 _ l (Declines _ d))) =
       inl (no_key_declines _ _ r d.1, (near_then m m0 a (near_reads _ _ m m0 g.0) (near_then m0 m1 a (near_same m0 m1 l.0) (near_reads _ _ m1 a d.0))).flash)
-  init_ends a (Goes bytes m0 _ g (Goes layout m1 _ l (Goes key m2 _ k (Declines _ d)))) =
+  init_ends a (Goes bytes m0 _ g (Goes x m1 _ l (Goes key m2 _ k (Declines _ d)))) =
       inl (declining r _ _ d.1.says tt, (near_then m m0 a (near_reads _ _ m m0 g.0) (near_then m0 m1 a (near_same m0 m1 l.0) (near_then m1 m2 a (near_reads _ _ m1 m2 k.0) (near_looks m2 a d.0)))).flash)
-  init_ends a (Goes bytes m0 _ g (Goes layout m1 _ l (Goes key m2 _ k (Goes u m3 _ f (IsSaid _ same says))))) =
+  init_ends a (Goes bytes m0 _ g (Goes x m1 _ l (Goes key m2 _ k (Goes u m3 _ f (IsSaid _ same says))))) =
       let there = near_then b m m1 near (near_then m m0 m1 (near_reads _ _ m m0 g.0) (near_same m0 m1 l.0)) in
       let later = near_then b m1 m2 there (near_reads _ _ m1 m2 k.0) in
       inr (
         says.outcome_is,
         λ told. record {
           bytes = bytes;
-          layout = layout;
+          layout = x.0;
+          frame = x.1;
           key = key;
           holds = read_here m b near.told near.files longest_device device bytes g.1;
-          describes = device_here bytes layout l.1;
+          describes = device_here bytes x.0 x.1 l.1;
           has_key = key_here m1 b there.told there.files key_name key k.1;
-          formatted = subst (λ (o : Outside). IsFormatted VERSION_1 b.flash.size layout (key_of key) o.flash.reads) (sym same)
-              (subst (λ (n : ℕ). IsFormatted VERSION_1 n layout (key_of key) m3.flash.reads) later.flash.size (f.formatted (subst IsTrue (sym later.flash.told) told)));
+          formatted = subst (λ (o : Outside). IsFormatted x.1 b.flash.size x.0 (key_of key) o.flash.reads) (sym same)
+              (subst (λ (n : ℕ). IsFormatted x.1 n x.0 (key_of key) m3.flash.reads) later.flash.size (f.formatted (subst IsTrue (sym later.flash.told) told)));
         },
       )
 
 init_starves : (size : ℕ) (device key_name : List ℕ) (m a : Outside) → inits_as size device key_name m a NoMemory → IsStill m.flash a.flash
 init_starves size device key_name m a (Lacks l) = (near_reads _ _ m a l).flash
 init_starves size device key_name m a (Goes bytes m0 _ g (Lacks l)) = (near_then m m0 a (near_reads _ _ m m0 g.0) (near_same m0 a l)).flash
-init_starves size device key_name m a (Goes bytes m0 _ g (Goes layout m1 _ y (Lacks l))) =
+init_starves size device key_name m a (Goes bytes m0 _ g (Goes x m1 _ y (Lacks l))) =
     (near_then m m0 a (near_reads _ _ m m0 g.0) (near_then m0 m1 a (near_same m0 m1 y.0) (near_reads _ _ m1 a l))).flash
-init_starves size device key_name m a (Goes bytes m0 _ g (Goes layout m1 _ y (Goes key m2 _ k (Lacks l)))) =
+init_starves size device key_name m a (Goes bytes m0 _ g (Goes x m1 _ y (Goes key m2 _ k (Lacks l)))) =
     (near_then m m0 a (near_reads _ _ m m0 g.0) (near_then m0 m1 a (near_same m0 m1 y.0) (near_then m1 m2 a (near_reads _ _ m1 m2 k.0) (near_looks m2 a l)))).flash
-init_starves size device key_name m a (Goes bytes m0 _ g (Goes layout m1 _ y (Goes key m2 _ k (Goes _ middle _ _ last)))) = elim last [ ]
+init_starves size device key_name m a (Goes bytes m0 _ g (Goes x m1 _ y (Goes key m2 _ k (Goes _ middle _ _ last)))) = elim last [ ]
 
 -- by the look at the gate
 inits_says : (device key_name : List ℕ) (b a : Outside) (r : Reply) → inits device key_name b a (Says r) → InitSays device key_name b r
@@ -168,9 +170,9 @@ config_here f g still config holds t =
     subst (λ (n : ℕ). ConfigOf n f.reads config) still.size
     (subst (λ (l : List ℕ). ConfigOf g.size l config) (still.reads t) (holds (subst IsTrue (sym still.told) t)))
 
-record_here : (f g : Flashed) → IsStill f g → (o : Option Record) → (IsTrue g.told → RecordOf VERSION_1 (head_of VERSION_1 g.reads) o)
-    → IsTrue f.told → RecordOf VERSION_1 (head_of VERSION_1 f.reads) o
-record_here f g still o holds t = subst (λ (l : List ℕ). RecordOf VERSION_1 (head_of VERSION_1 l) o) (still.reads t) (holds (subst IsTrue (sym still.told) t))
+record_here : (frame : Frame) (f g : Flashed) → IsStill f g → (o : Option Record) → (IsTrue g.told → RecordOf frame (head_of frame g.reads) o)
+    → IsTrue f.told → RecordOf frame (head_of frame f.reads) o
+record_here frame f g still o holds t = subst (λ (l : List ℕ). RecordOf frame (head_of frame l) o) (still.reads t) (holds (subst IsTrue (sym still.told) t))
 
 lines_here : (f g : Flashed) → IsStill f g → (layout : List Entry) (active lines : List ℕ) → (IsTrue g.told → lines ≡ component_lines 0 layout active g.reads)
     → IsTrue f.told → lines ≡ component_lines 0 layout active f.reads
@@ -180,10 +182,10 @@ lines_here f g still layout active lines holds t =
 status_says : (b a : Outside) (r : Reply) → tells_status b a (Says r) → StatusSays b r
 status_says b a r (Declines _ d) = AtConfig d.1
 status_says b a r (Goes config m0 _ g (Declines _ d)) =
-    AtRecord config g.1 (record { none = record_here b.flash m0.flash g.0.still None d.1.none; says = d.1.says })
+    AtRecord config g.1 (record { none = record_here config.2 b.flash m0.flash g.0.still None d.1.none; says = d.1.says })
 status_says b a r (Goes config m0 _ g (Goes installed m1 _ h (Declines _ d))) = absurd d.1
 status_says b a r (Goes config m0 _ g (Goes installed m1 _ h (Goes lines m2 _ l (Ends _ same says)))) =
-    AtLines config installed lines g.1 (record_here b.flash m0.flash g.0.still (Some installed) h.1)
+    AtLines config installed lines g.1 (record_here config.2 b.flash m0.flash g.0.still (Some installed) h.1)
     (lines_here b.flash m1.flash (still_then _ _ _ g.0.still h.0.still) config.0 installed.active lines l.1) says
 
 status_still : (b a : Outside) (r : Reply) → tells_status b a (Says r) → IsStill b.flash a.flash

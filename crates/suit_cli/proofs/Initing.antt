@@ -6,6 +6,7 @@ use Rattle.std.specs.declared.alloc.AllocError.{AllocError}
 use Rattle.std.specs.declared.alloc.Global.{Global}
 use Rattle.serde_json.specs.Data.{Data}
 use Rattle.serde_json.specs.Read.{read}
+use Rattle.flash_layout.specs.declared.frame.Frame.{Frame}
 use Rattle.flash_layout.specs.declared.layout.Entry.{Entry}
 use Rattle.flash_layout.specs.declared.layout_fault.LayoutFault.{LayoutFault}
 use Rattle.flash_layout.specs.declared.layout_fault.LayoutFault.TheVariants as faults
@@ -15,7 +16,7 @@ use Rattle.suit_cli.specs.declared.reply.Stop.{Stop}
 use Rattle.suit_cli.specs.declared.reply.Stop.TheVariants as stops
 use Rattle.suit_cli.specs.declared.reply.Outcome.TheVariants as outcomes
 use Rattle.suit_edge.specs.Gate.{IsOpen}
-use Rattle.flash_layout.specs.declared.frame.TheConstants.{CONFIG_GATE}
+use Rattle.flash_layout.specs.declared.frame.TheConstants.{CONFIG_GATE, VERSION_1}
 use Rattle.flash_layout.specs.declared.key.Key.{Key}
 use Rattle.suit_cli.specs.Outside.{Outside, Flashed, Looks, with_flash}
 use Rattle.suit_cli.specs.Replies.{Makes, refused_by, stop_of}
@@ -29,7 +30,7 @@ use Rattle.suit_cli.specs.Devices.{IsFaultLine, IsNoJson, IsNoLayout, device_in}
 
 -- ---- a description
 
-module _ (size : ℕ) (x y : List ℕ) (same : x ≡ y) (result : Result (List Entry) Stop) where
+module _ (size : ℕ) (x y : List ℕ) (same : x ≡ y) (result : Result (List Entry × Frame) Stop) where
   pub device_of : Finds (device_in size x) result → Finds (device_in size y) result
   device_of finds = subst (λ (b : List ℕ). Finds (device_in size b) result) same finds
 
@@ -44,9 +45,9 @@ fault_stands size d (faults.Overlap i j) line is tells = is
 fault_stands size d (faults.Outside i) line is tells = is
 fault_stands size d faults.NoMemory line is tells = absurd tells
 
-pub layout_there : (size : ℕ) (bytes : List ℕ) (d : Data) (layout : List Entry) → IsUtf8 bytes → read bytes ≡ Some d → IsLayoutOf size d layout → (here : Outside)
-    → Does (device_in size bytes) here here (Ok layout)
-layout_there size bytes d layout utf8 reads is here = (refl, record { utf8 = utf8; value = d; reads = reads; describes = is })
+pub layout_there : (size : ℕ) (bytes : List ℕ) (d : Data) (layout : List Entry) (frame : Frame) → IsUtf8 bytes → read bytes ≡ Some d → IsLayoutOf size d layout → frame ≡ VERSION_1
+    → (here : Outside) → Does (device_in size bytes) here here (Ok (layout, frame))
+layout_there size bytes d layout frame utf8 reads is first here = (refl, record { utf8 = utf8; value = d; reads = reads; describes = is; frame_is = first })
 
 -- it is no JSON
 pub no_device_text : (size : ℕ) (bytes : List ℕ) (here : Outside) (stop : Stop) → Does (json_in bytes) here here (Err stop) → Does (device_in size bytes) here here (Err stop)
@@ -71,18 +72,18 @@ pub looks_self : (o : Outside) → Looks o o
 looks_self o = record { beside = refl; still = record { told = refl; size = refl; reads = λ t. refl }; faults = refl }
 
 -- the gate is open after all, which was told unless memory ran out
-pub in_use_there : (layout : List Entry) (key : Key) (before after : Outside) → Looks before after → (IsTrue before.flash.told → IsOpen before.flash.reads CONFIG_GATE)
+pub in_use_there : (frame : Frame) (layout : List Entry) (key : Key) (before after : Outside) → Looks before after → (IsTrue before.flash.told → IsOpen before.flash.reads CONFIG_GATE)
     → (made : Result Reply AllocError) (stop : Stop) → Makes made outcomes.NotBlank (codes "not blank\n") → stop ≡ stop_of made
-    → formats layout key before after (ending_of (Err stop))
-in_use_there layout key before after looks opened made stop says is =
-    subst (λ (s : Stop). formats layout key before after (ending_of (Err s))) (sym is) (stopped (formatting layout key) _ before after (stop_of made) (of_made made says))
+    → formats frame layout key before after (ending_of (Err stop))
+in_use_there frame layout key before after looks opened made stop says is =
+    subst (λ (s : Stop). formats frame layout key before after (ending_of (Err s))) (sym is) (stopped (formatting frame layout key) _ before after (stop_of made) (of_made made says))
   where
-    of_made : (m : Result Reply AllocError) → Makes m outcomes.NotBlank (codes "not blank\n") → Does (formatting layout key) before after (Err (stop_of m))
+    of_made : (m : Result Reply AllocError) → Makes m outcomes.NotBlank (codes "not blank\n") → Does (formatting frame layout key) before after (Err (stop_of m))
     of_made (Ok reply) told = (looks, record { opened = opened; says = told })
     of_made (Err e) told = looks
 
-pub by_key : (layout : List Entry) (x y : Key) → x ≡ y → (before after : Outside) (ending : Ending) → formats layout x before after ending → formats layout y before after ending
-by_key layout x y same before after ending told = subst (λ (k : Key). formats layout k before after ending) same told
+pub by_key : (frame : Frame) (layout : List Entry) (x y : Key) → x ≡ y → (before after : Outside) (ending : Ending) → formats frame layout x before after ending → formats frame layout y before after ending
+by_key frame layout x y same before after ending told = subst (λ (k : Key). formats frame layout k before after ending) same told
 
 -- ---- the same files beside another flash
 

@@ -2,7 +2,6 @@
 use Rattle.std.proofs.Common.{◌≡◌, ◌⊎◌, inl, inr, ⊎_elim, ℕ, List, length, Option, sym, ◌∙◌, ap, subst}
 use Rattle.std.specs.Prelude.{IsTrue}
 use Rattle.suit_params.specs.declared.digest.Digest.{Digest}
-use Rattle.flash_layout.specs.declared.frame.TheConstants.{VERSION_1}
 use Rattle.flash_layout.specs.Configs.{ConfigOf, Configured}
 use Rattle.flash_layout.specs.Frames.{head_of}
 use Rattle.flash_layout.specs.declared.slot.Record.{Record}
@@ -30,10 +29,10 @@ module _ (records : SomeAnswer) where
     reads : u.middle.flash.reads ≡ image
     reads = ap (λ (f : Flashed). f.reads) u.read.0.flash ∙ u.held.0.still.reads holds.flash ∙ holds.reads
 
-    config : ConfigOf (length image) image (Configured u.layout u.key VERSION_1)
+    config : ConfigOf (length image) image (Configured u.layout u.key u.frame)
     config =
-        subst (λ (n : ℕ). ConfigOf n image (Configured u.layout u.key VERSION_1)) holds.size
-        (subst (λ (l : List ℕ). ConfigOf before.flash.size l (Configured u.layout u.key VERSION_1)) holds.reads (u.held.1 holds.flash))
+        subst (λ (n : ℕ). ConfigOf n image (Configured u.layout u.key u.frame)) holds.size
+        (subst (λ (l : List ℕ). ConfigOf before.flash.size l (Configured u.layout u.key u.frame)) holds.reads (u.held.1 holds.flash))
 
     there : IsRead longest_file name (with_flash before u.configured.flash) u.bytes
     there = subst (λ (x : Outside). IsRead longest_file name x u.bytes) u.held.0.beside u.read.1
@@ -48,13 +47,14 @@ module _ (records : SomeAnswer) where
     launches : (now.launches ≡ launched.launches) ⊎ LaunchesAccepted uris u.layout u.key u.bytes image launched.launches now.launches
     launches =
         let f = facts u.layout u.key u.bytes u.accepted u.is_accepted in
-        let some = records VERSION_1 (head_of VERSION_1 image) in
+        let some = records u.frame (head_of u.frame image) in
         let digest : Digest = f.authentic.digest in
         let payloads = payloads_in u.bytes u.accepted.said f.envelope in
-        let recorded : RecordOf VERSION_1 (head_of VERSION_1 u.middle.flash.reads) some.0 = subst (λ (l : List ℕ). RecordOf VERSION_1 (head_of VERSION_1 l) some.0) (sym reads) some.1 in
+        let recorded : RecordOf u.frame (head_of u.frame u.middle.flash.reads) some.0 = subst (λ (l : List ℕ). RecordOf u.frame (head_of u.frame l) some.0) (sym reads) some.1 in
         let played = u.update.plays flash_told holds.launcher some.0 digest f.authentic.blocks recorded f.authentic.says payloads.0 payloads.1 in
         ⊎_elim (λ same. inl same)
         (λ play. inr (record {
+          frame = u.frame;
           config = config;
           accepted = u.accepted;
           is_accepted = u.is_accepted;

@@ -2,7 +2,7 @@
 use Rattle.std.proofs.Common.{◌≡◌, ℕ, List, Option, Some, inl, inr, sym, subst}
 use Rattle.suit_edge.specs.Flash.{Flash, Now, Passes, IsFlash, IsSame}
 use Rattle.suit_edge.specs.FlashLaws.{starts, weakens, joined, each_now}
-use Rattle.flash_layout.specs.declared.frame.TheConstants.{VERSION_1}
+use Rattle.flash_layout.specs.declared.frame.Frame.{Frame}
 use Rattle.flash_layout.specs.declared.key.Key.{Key}
 use Rattle.flash_layout.specs.declared.layout.Entry.{Entry}
 use Rattle.flash_layout.specs.Formats.{IsBlankOrFormatted}
@@ -35,27 +35,28 @@ pub not_yet : (P : List ℕ → Type 0) (a b : Flash) → Passes a b (Now a) →
 not_yet P a b run = weakens a b (Now a) (MayBe a P) (λ image now. inl now) run
 
 -- the key by its bytes
-pub way_by_key : (extent : ℕ) (layout : List Entry) (x y : Key) → x ≡ y → (a b : Flash) → Passes a b (MayBe a (IsBlankOrFormatted VERSION_1 extent layout x a))
-    → Passes a b (MayBe a (IsBlankOrFormatted VERSION_1 extent layout y a))
-way_by_key extent layout x y same a b run = subst (λ (k : Key). Passes a b (MayBe a (IsBlankOrFormatted VERSION_1 extent layout k a))) same run
+pub way_by_key : (frame : Frame) (extent : ℕ) (layout : List Entry) (x y : Key) → x ≡ y → (a b : Flash) → Passes a b (MayBe a (IsBlankOrFormatted frame extent layout x a))
+    → Passes a b (MayBe a (IsBlankOrFormatted frame extent layout y a))
+way_by_key frame extent layout x y same a b run = subst (λ (k : Key). Passes a b (MayBe a (IsBlankOrFormatted frame extent layout k a))) same run
 
 -- the format by what was read
-pub formats_by : (size extent : ℕ) (device key_name bytes key : List ℕ) (layout : List Entry) (before : Outside) (a b : Flash) → size ≡ extent
-    → IsRead longest_device device before bytes → IsDevice size bytes layout → IsKey key_name before key
-    → Passes a b (MayBe a (IsBlankOrFormatted VERSION_1 extent layout (key_of key) a)) → Passes a b (MayBe a (MayFormat size device key_name before a))
-formats_by size extent device key_name bytes key layout before a b same read describes has_key run =
-    weakens a b (MayBe a (IsBlankOrFormatted VERSION_1 extent layout (key_of key) a)) (MayBe a (MayFormat size device key_name before a)) (λ image may. of_image image may) run
+pub formats_by : (size extent : ℕ) (device key_name bytes key : List ℕ) (layout : List Entry) (frame : Frame) (before : Outside) (a b : Flash) → size ≡ extent
+    → IsRead longest_device device before bytes → IsDevice size bytes layout frame → IsKey key_name before key
+    → Passes a b (MayBe a (IsBlankOrFormatted frame extent layout (key_of key) a)) → Passes a b (MayBe a (MayFormat size device key_name before a))
+formats_by size extent device key_name bytes key layout frame before a b same read describes has_key run =
+    weakens a b (MayBe a (IsBlankOrFormatted frame extent layout (key_of key) a)) (MayBe a (MayFormat size device key_name before a)) (λ image may. of_image image may) run
   where
-    of_image : (image : List ℕ) → MayBe a (IsBlankOrFormatted VERSION_1 extent layout (key_of key) a) image → MayBe a (MayFormat size device key_name before a) image
+    of_image : (image : List ℕ) → MayBe a (IsBlankOrFormatted frame extent layout (key_of key) a) image → MayBe a (MayFormat size device key_name before a) image
     of_image image (inl now) = inl now
     of_image image (inr way) = inr (record {
       bytes = bytes;
       layout = layout;
+      frame = frame;
       key = key;
       holds = read;
       describes = describes;
       has_key = has_key;
-      blank_or_formatted = subst (λ (n : ℕ). IsBlankOrFormatted VERSION_1 n layout (key_of key) a image) (sym same) way;
+      blank_or_formatted = subst (λ (n : ℕ). IsBlankOrFormatted frame n layout (key_of key) a image) (sym same) way;
     })
 
 -- behind the look at the gate
@@ -67,11 +68,12 @@ module _ (device key_name : List ℕ) (before : Outside) (seen : Flashed) (a b c
   as_before image way = record {
     bytes = way.bytes;
     layout = way.layout;
+    frame = way.frame;
     key = way.key;
     holds = record { holds = way.holds.holds; fits = way.holds.fits };
-    describes = subst (λ (n : ℕ). IsDevice n way.bytes way.layout) is way.describes;
+    describes = subst (λ (n : ℕ). IsDevice n way.bytes way.layout way.frame) is way.describes;
     has_key = record { read = record { holds = way.has_key.read.holds; fits = way.has_key.read.fits }; some = way.has_key.some };
-    blank_or_formatted = λ blank. subst (λ (n : ℕ). IsBlankOrFormatted VERSION_1 n way.layout (key_of way.key) b image) is way.blank_or_formatted (λ first now. blank first (earlier first now));
+    blank_or_formatted = λ blank. subst (λ (n : ℕ). IsBlankOrFormatted way.frame n way.layout (key_of way.key) b image) is way.blank_or_formatted (λ first now. blank first (earlier first now));
   }
 
   of_image : (image : List ℕ) → MayBe b (MayFormat size device key_name (with_flash before seen) b) image → MayLeave device key_name before a image

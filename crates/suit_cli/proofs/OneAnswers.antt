@@ -3,7 +3,6 @@ use Rattle.std.proofs.Common.{◌≡◌, ◌++◌, ◌∙◌, ℕ, List, Some, N
 use Rattle.std.specs.Prelude.{IsTrue, codes}
 use Rattle.std.proofs.lemmas.Option.{same_Some}
 use Rattle.flash_layout.specs.declared.frame.Frame.{Frame}
-use Rattle.flash_layout.specs.declared.frame.TheConstants.{VERSION_1}
 use Rattle.flash_layout.specs.declared.key.Key.{Key}
 use Rattle.flash_layout.specs.declared.layout.Entry.{Entry}
 use Rattle.flash_layout.specs.declared.slot.Record.{Record}
@@ -29,15 +28,15 @@ abbrev Inits : List ℕ → List ℕ → Outside → Reply → Type 0
 Inits device key_name b =
     Behind (λ (u : Unit {0}). IsShut b.flash) (IsInUse b.flash) (λ u.
     Behind (IsRead longest_device device b) (IsUnread longest_device device b) (λ bytes.
-    Behind (IsDevice b.flash.size bytes) (IsNoDevice b.flash.size bytes) (λ layout.
+    Behind (λ (x : List Entry × Frame). IsDevice b.flash.size bytes x.0 x.1) (IsNoDevice b.flash.size bytes) (λ described.
     Behind (IsKey key_name b) (IsNoKey key_name b) (λ key r. IsReply r outcomes.Done (codes "ready\n")))))
 
 init_stages : (device key_name : List ℕ) (b : Outside) (r : Reply) → InitSays device key_name b r → Inits device key_name b r
 init_stages device key_name b r (AtGate x) = Stops x
 init_stages device key_name b r (AtDevice shut u) = Passes tt shut (Stops u)
 init_stages device key_name b r (AtDescription bytes shut h n) = Passes tt shut (Passes bytes h (Stops n))
-init_stages device key_name b r (AtKey bytes layout shut h l n) = Passes tt shut (Passes bytes h (Passes layout l (Stops n)))
-init_stages device key_name b r (AtFormat bytes layout key shut h l k says) = Passes tt shut (Passes bytes h (Passes layout l (Passes key k says)))
+init_stages device key_name b r (AtKey bytes layout frame shut h l n) = Passes tt shut (Passes bytes h (Passes (layout, frame) l (Stops n)))
+init_stages device key_name b r (AtFormat bytes layout frame key shut h l k says) = Passes tt shut (Passes bytes h (Passes (layout, frame) l (Passes key k says)))
 
 one_gate : (flash : Flashed) → IsTrue flash.told → HasOne (λ (u : Unit {0}). IsShut flash) (IsInUse flash)
 one_gate flash t = record {
@@ -49,7 +48,7 @@ one_gate flash t = record {
 pub one_init : (device key_name : List ℕ) (b : Outside) → IsTrue b.told → IsTrue b.flash.told → (r q : Reply) → InitSays device key_name b r → InitSays device key_name b q → q ≡ r
 one_init device key_name b told t r q first second =
     just_one _ _ _ (one_gate b.flash t) (λ u shut. just_one _ _ _ (one_file longest_device device b told) (λ bytes h. just_one _ _ _ (one_device b.flash.size bytes)
-    (λ layout l. just_one _ _ _ (one_key key_name b told) (λ key k x y says says'. one_reply x y _ _ says says'))))
+    (λ described l. just_one _ _ _ (one_key key_name b told) (λ key k x y says says'. one_reply x y _ _ says says'))))
     r q (init_stages device key_name b r first) (init_stages device key_name b q second)
 
 -- ---- the configuration
@@ -83,15 +82,15 @@ module _ (configs : Rattle.flash_layout.specs.ConfigLaws.OneAnswer) (flash : Fla
 -- ---- `run status`
 
 module _ (configs : Rattle.flash_layout.specs.ConfigLaws.OneAnswer) (records : Rattle.rollback_record.specs.RecordLaws.OneAnswer) (b : Outside) (t : IsTrue b.flash.told) where
-  nothing_not_installed : (x : Record) (r : Reply) → IsInstalled b.flash x → IsNothing b.flash r → ⊥
-  nothing_not_installed x r installed nothing =
-      let never : None ≡ Some x = records VERSION_1 (head_of VERSION_1 b.flash.reads) None (Some x) (nothing.none t) (installed t) in absurd cc
+  nothing_not_installed : (frame : Frame) (x : Record) (r : Reply) → IsInstalled frame b.flash x → IsNothing frame b.flash r → ⊥
+  nothing_not_installed frame x r installed nothing =
+      let never : None ≡ Some x = records frame (head_of frame b.flash.reads) None (Some x) (nothing.none t) (installed t) in absurd cc
 
-  one_record : HasOne (IsInstalled b.flash) (IsNothing b.flash)
-  one_record = record {
-    value = λ x y g h. same_Some y x (records VERSION_1 (head_of VERSION_1 b.flash.reads) (Some y) (Some x) (h t) (g t));
+  one_record : (frame : Frame) → HasOne (IsInstalled frame b.flash) (IsNothing frame b.flash)
+  one_record frame = record {
+    value = λ x y g h. same_Some y x (records frame (head_of frame b.flash.reads) (Some y) (Some x) (h t) (g t));
     refusal = λ r q g h. one_reply r q _ _ g.says h.says;
-    never = nothing_not_installed;
+    never = nothing_not_installed frame;
   }
 
   abbrev AreLines : List Entry × Key × Frame → Record → List ℕ → Type 0
@@ -103,7 +102,7 @@ module _ (configs : Rattle.flash_layout.specs.ConfigLaws.OneAnswer) (records : R
   abbrev TellsStatus : Reply → Type 0
   TellsStatus =
       Behind (Holds b.flash) (HoldsNone b.flash) (λ config.
-      Behind (IsInstalled b.flash) (IsNothing b.flash) (λ installed.
+      Behind (IsInstalled config.2 b.flash) (IsNothing config.2 b.flash) (λ installed.
       Behind (AreLines config installed) (λ r. ⊥) (λ lines r. IsReply r outcomes.Done (record_lines installed ++ lines))))
 
   status_stages : (r : Reply) → StatusSays b r → TellsStatus r
@@ -113,6 +112,6 @@ module _ (configs : Rattle.flash_layout.specs.ConfigLaws.OneAnswer) (records : R
 
   pub one_status : (r q : Reply) → StatusSays b r → StatusSays b q → q ≡ r
   one_status r q first second =
-      just_one _ _ _ (one_config configs b.flash t) (λ config h. just_one _ _ _ one_record (λ installed j. just_one _ _ _ (one_lines config installed)
+      just_one _ _ _ (one_config configs b.flash t) (λ config h. just_one _ _ _ (one_record config.2) (λ installed j. just_one _ _ _ (one_lines config installed)
       (λ lines e x y says says'. one_reply x y _ _ says says')))
       r q (status_stages r first) (status_stages q second)

@@ -1,7 +1,8 @@
 -- A description has one first flaw, and is told by one line.
-use Rattle.std.proofs.Common.{◌≡◌, ℕ, List, Some, None, Ok, refl, sym, subst, ◌∙◌}
+use Rattle.std.proofs.Common.{◌≡◌, ℕ, List, Some, None, Ok, refl, sym, ap, subst, ◌∙◌}
 use Rattle.std.proofs.lemmas.Option.{same_Some}
 use Rattle.serde_json.specs.Data.{Data}
+use Rattle.flash_layout.specs.declared.frame.Frame.{Frame}
 use Rattle.flash_layout.specs.declared.layout.Entry.{Entry}
 use Rattle.flash_layout.specs.declared.layout_fault.LayoutFault.{LayoutFault}
 use Rattle.flash_layout.specs.declared.layout_fault.LayoutFault.TheVariants as faults
@@ -14,12 +15,12 @@ use Rattle.suit_cli.specs.Devices.{IsDevice, IsNoDevice, IsNoJson, IsNoLayout, I
 use Rattle.suit_cli.proofs.OneCause.{HasOne}
 use Rattle.suit_cli.proofs.OneStage.{one_reply}
 
-device_not_both : (size : ℕ) (bytes : List ℕ) (layout : List Entry) (r : Reply) → IsDevice size bytes layout → IsNoDevice size bytes r → ⊥
-device_not_both size bytes layout r device (IsNoJson none says) =
+device_not_both : (size : ℕ) (bytes : List ℕ) (x : List Entry × Frame) (r : Reply) → IsDevice size bytes x.0 x.1 → IsNoDevice size bytes r → ⊥
+device_not_both size bytes x r device (IsNoJson none says) =
     let never : None ≡ Some device.value = sym (none device.utf8) ∙ device.reads in absurd cc
-device_not_both size bytes layout r device (IsNoLayout value fault utf8 reads refuses says) =
+device_not_both size bytes x r device (IsNoLayout value fault utf8 reads refuses says) =
     let same : value ≡ device.value = same_Some value device.value (sym reads ∙ device.reads) in
-    never_both size device.value layout fault device.describes (subst (λ (v : Data). RefusesLayout size v fault) same refuses)
+    never_both size device.value x.0 fault device.describes (subst (λ (v : Data). RefusesLayout size v fault) same refuses)
 
 one_line : (fault : LayoutFault) (s t : List ℕ) → IsFaultLine fault s → IsFaultLine fault t → t ≡ s
 one_line (faults.BadField pointer) s t is is' = is' ∙ sym is
@@ -47,12 +48,13 @@ one_no_device size bytes r q (IsNoLayout value f utf8 reads refuses tells) (IsNo
     let alike : g ≡ f = once size value g f (subst (λ (v : Data). RefusesLayout size v g) same refuses') refuses in
     one_telling f r q tells (subst (λ (x : LayoutFault). TellsLayout x q) alike tells')
 
-same_layout : (size : ℕ) (bytes : List ℕ) (x y : List Entry) → IsDevice size bytes x → IsDevice size bytes y → y ≡ x
+same_layout : (size : ℕ) (bytes : List ℕ) (x y : List Entry × Frame) → IsDevice size bytes x.0 x.1 → IsDevice size bytes y.0 y.1 → y ≡ x
 same_layout size bytes x y first second =
     let same : second.value ≡ first.value = same_Some second.value first.value (sym second.reads ∙ first.reads) in
-    let here : described_layout first.value ≡ Ok y = subst (λ (v : Data). described_layout v ≡ Ok y) same second.describes.reads in
-    let both : Ok y ≡ Ok x = sym here ∙ first.describes.reads in
-    cc
+    let here : described_layout first.value ≡ Ok y.0 = subst (λ (v : Data). described_layout v ≡ Ok y.0) same second.describes.reads in
+    let both : Ok y.0 ≡ Ok x.0 = sym here ∙ first.describes.reads in
+    let layout : y.0 ≡ x.0 = cc in
+    ap (λ (l : List Entry). (l, y.1)) layout ∙ ap (λ (f : Frame). (x.0, f)) (second.frame_is ∙ sym first.frame_is)
 
-pub one_device : (size : ℕ) (bytes : List ℕ) → HasOne (IsDevice size bytes) (IsNoDevice size bytes)
+pub one_device : (size : ℕ) (bytes : List ℕ) → HasOne (λ (x : List Entry × Frame). IsDevice size bytes x.0 x.1) (IsNoDevice size bytes)
 one_device size bytes = record { value = same_layout size bytes; refusal = one_no_device size bytes; never = device_not_both size bytes }

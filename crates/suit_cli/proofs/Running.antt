@@ -355,9 +355,9 @@ no_device_declines size bytes r (IsNoLayout value fault utf8 reads refuses tells
 inited_as : (size : ℕ) (device key_name : List ℕ) (b a : Outside) (r : Reply) → inits_as size device key_name b a (Says r) → Plain r.outcome
 inited_as size device key_name b a r (Declines _ d) = inl (unread_declines _ _ _ r d.1)
 inited_as size device key_name b a r (Goes bytes m0 _ read (Declines _ d)) = inl (no_device_declines _ _ r d.1)
-inited_as size device key_name b a r (Goes bytes m0 _ read (Goes layout m1 _ lay (Declines _ d))) = inl (no_key_declines _ _ r d.1)
-inited_as size device key_name b a r (Goes bytes m0 _ read (Goes layout m1 _ lay (Goes key m2 _ k (Declines _ d)))) = inl (declining r _ _ d.1.says tt)
-inited_as size device key_name b a r (Goes bytes m0 _ read (Goes layout m1 _ lay (Goes key m2 _ k (Goes u m3 _ f (IsSaid _ same says))))) = inr says.outcome_is
+inited_as size device key_name b a r (Goes bytes m0 _ read (Goes described m1 _ lay (Declines _ d))) = inl (no_key_declines _ _ r d.1)
+inited_as size device key_name b a r (Goes bytes m0 _ read (Goes described m1 _ lay (Goes key m2 _ k (Declines _ d)))) = inl (declining r _ _ d.1.says tt)
+inited_as size device key_name b a r (Goes bytes m0 _ read (Goes described m1 _ lay (Goes key m2 _ k (Goes u m3 _ f (IsSaid _ same says))))) = inr says.outcome_is
 
 pub inited : (device key_name : List ℕ) (b a : Outside) (r : Reply) → inits device key_name b a (Says r) → Plain r.outcome
 inited device key_name b a r (Declines _ d) = inl (declining r _ _ d.1.says tt)

@@ -6,7 +6,7 @@ use Rattle.suit_edge.specs.FlashLaws.{each_read}
 use Rattle.path_model.specs.declared.cause.Cause.TheVariants as causes
 use Rattle.flash_layout.specs.declared.formatting.Formatted.{Formatted}
 use Rattle.flash_layout.specs.declared.formatting.Formatted.TheVariants as formatted
-use Rattle.flash_layout.specs.declared.frame.TheConstants.{VERSION_1}
+use Rattle.flash_layout.specs.declared.frame.Frame.{Frame}
 use Rattle.flash_layout.specs.declared.key.Key.{Key}
 use Rattle.flash_layout.specs.declared.layout.Entry.{Entry}
 use Rattle.flash_layout.specs.Formats.{FormatCounts, IfFormatted, IfNotBlank, IsFormatted}
@@ -40,13 +40,13 @@ synced a b size before now law sound end settled never =
     ⊎_elim (λ same. settled_still a b size law same settled) (λ none. settles b none (each_read a b size Sound law (sound settled))) end
 
 -- a format by its answer
-pub formats_settled : SoundLaws → (size : ℕ) (layout : List Entry) (key : Key) (Opened : Type 0) (answer : Formatted) (a b : Flash) (before now : ℕ) → IsFlash b size
-    → FormatCounts answer before now → IfNotBlank answer Opened (IsSame a b) → IfFormatted answer (IsFormatted VERSION_1 size layout key b.reads) → IfFormatted answer (IsSettled b)
+pub formats_settled : SoundLaws → (size : ℕ) (frame : Frame) (layout : List Entry) (key : Key) (Opened : Type 0) (answer : Formatted) (a b : Flash) (before now : ℕ) → IsFlash b size
+    → FormatCounts answer before now → IfNotBlank answer Opened (IsSame a b) → IfFormatted answer (IsFormatted frame size layout key b.reads) → IfFormatted answer (IsSettled b)
     → StaysSettled a b before now
-formats_settled laws size layout key Opened formatted.Done a b before now law counts opened is none settled never =
-    settles b none (laws.formatted VERSION_1 layout key b.reads (subst (λ (n : ℕ). IsFormatted VERSION_1 n layout key b.reads) (sym law.fits) is))
-formats_settled laws size layout key Opened formatted.NotBlank a b before now law counts opened is none settled never = settled_still a b size law opened.1 settled
-formats_settled laws size layout key Opened formatted.FlashFault a b before now law counts opened is none settled never = absurd (never counts)
+formats_settled laws size frame layout key Opened formatted.Done a b before now law counts opened is none settled never =
+    settles b none (laws.formatted frame layout key b.reads (subst (λ (n : ℕ). IsFormatted frame n layout key b.reads) (sym law.fits) is))
+formats_settled laws size frame layout key Opened formatted.NotBlank a b before now law counts opened is none settled never = settled_still a b size law opened.1 settled
+formats_settled laws size frame layout key Opened formatted.FlashFault a b before now law counts opened is none settled never = absurd (never counts)
 
 -- a boot by its answer
 pub boots_settled : (end : BootEnd) (before now : Counts) (a b : Flash) → BootCounts end before now → (Settled a → IfUnfaulted end (Settled b))

@@ -5,7 +5,6 @@ use Rattle.suit_edge.specs.Gate.{IsOpen}
 use Rattle.suit_edge.specs.Flash.{Flash, Now, Passes, IsFlash, IsSame}
 use Rattle.suit_edge.specs.FlashLaws.{same_flash, starts, weakens, joined}
 use Rattle.flash_layout.specs.declared.frame.Frame.{Frame}
-use Rattle.flash_layout.specs.declared.frame.TheConstants.{VERSION_1}
 use Rattle.flash_layout.specs.declared.key.Key.{Key}
 use Rattle.flash_layout.specs.declared.layout.Entry.{Entry}
 use Rattle.flash_layout.specs.Configs.{Blank, ConfigOf, IsAllowed, IsBlank, Configured}
@@ -72,11 +71,11 @@ module _ (laws : SoundLaws) (a : Flash) (settled : Settled a) where
     formatted_sound : (image : List ℕ) → length image ≡ before.flash.size → MayFormat before.flash.size device key_name before a image
         → IsBlank a.reads → Sound image
     formatted_sound image size way blank = of_way (way.blank_or_formatted (blank_each blank)) where
-      of_way : (IsBlank image) ⊎ (IsFormatted VERSION_1 before.flash.size way.layout (key_of way.key) image) → Sound image
+      of_way : (IsBlank image) ⊎ (IsFormatted way.frame before.flash.size way.layout (key_of way.key) image) → Sound image
       of_way (inl none) = SoundBlank none
       of_way (inr formatted) =
-          laws.formatted VERSION_1 way.layout (key_of way.key) image
-          (subst (λ (n : ℕ). IsFormatted VERSION_1 n way.layout (key_of way.key) image) (sym size) formatted)
+          laws.formatted way.frame way.layout (key_of way.key) image
+          (subst (λ (n : ℕ). IsFormatted way.frame n way.layout (key_of way.key) image) (sym size) formatted)
 
     sound_image : (image : List ℕ) → MayLeave device key_name before a image × (length image ≡ before.flash.size) → Sound image
     sound_image image (inl now, size) = each_sound a settled image now

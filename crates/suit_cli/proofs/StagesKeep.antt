@@ -8,6 +8,7 @@ use Rattle.suit_cli.specs.declared.reply.Object.TheVariants as objects
 use Rattle.suit_cli.specs.Outside.{Outside, Flashed, Quiet, Reads, ReadsInVain, Looks, LooksInVain, with_flash}
 use Rattle.suit_cli.specs.Stages.{Ending, Says, FaultOf, NoMemory, Answers, Stage, judging, reading, looking, at_host, at_flash, Then, Goes, Declines, Faults, Lacks, Last, Ends, EndsWithout, Said, IsSaid}
 use Rattle.flash_layout.specs.declared.key.Key.{Key}
+use Rattle.flash_layout.specs.declared.frame.Frame.{Frame}
 use Rattle.flash_layout.specs.declared.layout.Entry.{Entry}
 use Rattle.suit_cli.specs.Formatting.{formatting, FormatsInVain}
 use Rattle.suit_cli.specs.Inputs.{longest_file, longest_device, longest_key}
@@ -162,14 +163,14 @@ looking_keeps good bad = record {
   at_fault objects.Host b a f = absurd f
   at_fault objects.Flash b a f = record { quiet = beside_quiet 0 b a f.beside; faulted = flash_fault b a f.faulted f.beside }
 
-formatting_keeps : (layout : List Entry) (key : Key) → StageKeeps 0 (formatting layout key)
-formatting_keeps layout key = record {
+formatting_keeps : (frame : Frame) (layout : List Entry) (key : Key) → StageKeeps 0 (formatting frame layout key)
+formatting_keeps frame layout key = record {
   gives = λ b a x g. beside_calm 0 b a g.beside g.faults;
   declines = λ b a r d. looks_calm b a d.0;
   faults = λ object b a f. at_fault object b a f;
   lacks = λ b a l. looks_calm b a l;
 } where
-  at_fault : (object : Object) (b a : Outside) → at_flash (FormatsInVain layout) object b a → Faulty 0 object b a
+  at_fault : (object : Object) (b a : Outside) → at_flash (FormatsInVain frame layout) object b a → Faulty 0 object b a
   at_fault objects.Host b a f = absurd f
   at_fault objects.Flash b a f = record { quiet = beside_quiet 0 b a f.beside; faulted = flash_fault b a f.faulted f.beside }
 
@@ -200,8 +201,8 @@ shows_keeps name key_name =
 
 inits_as_keeps : (size : ℕ) (device key_name : List ℕ) → Keeps ((longest_device + 1) + (longest_key + 1)) (inits_as size device key_name)
 inits_as_keeps size device key_name =
-    then_keeps 65537 65 _ _ (reading_keeps _ _ _ _) (λ bytes. then_keeps 0 65 _ _ (judging_keeps _ _) (λ layout. then_keeps 65 0 _ _ (reading_keeps _ _ _ _) (λ key.
-    then_keeps 0 0 _ _ (formatting_keeps layout _) (λ u. said_keeps _))))
+    then_keeps 65537 65 _ _ (reading_keeps _ _ _ _) (λ bytes. then_keeps 0 65 _ _ (judging_keeps _ _) (λ described. then_keeps 65 0 _ _ (reading_keeps _ _ _ _) (λ key.
+    then_keeps 0 0 _ _ (formatting_keeps described.1 described.0 _) (λ u. said_keeps _))))
 
 pub inits_keeps : (device key_name : List ℕ) → Keeps ((longest_device + 1) + (longest_key + 1)) (inits device key_name)
 inits_keeps device key_name = then_keeps 0 65602 _ _ (looking_keeps _ _) (λ size. inits_as_keeps size device key_name)

@@ -5,7 +5,7 @@ use Rattle.suit_params.specs.declared.digest.Digest.{Digest}
 use Rattle.suit_envelope.specs.WrapperParts.{WrapperSays}
 use Rattle.path_model.specs.declared.cause.Cause.{Cause}
 use Rattle.path_model.specs.declared.cause.Cause.TheVariants as causes
-use Rattle.flash_layout.specs.declared.frame.TheConstants.{VERSION_1}
+use Rattle.flash_layout.specs.declared.frame.Frame.{Frame}
 use Rattle.flash_layout.specs.declared.key.Key.{Key}
 use Rattle.flash_layout.specs.declared.layout.Entry.{Entry}
 use Rattle.flash_layout.specs.declared.slot.Record.{Record}
@@ -80,9 +80,9 @@ stores_starves : (out envelope : List ℕ) → Starves (stores out envelope)
 stores_starves out envelope b a (Lacks l) = near_same b a l
 stores_starves out envelope b a (Goes u m _ s rest) = elim rest [ ]
 
-formats_starves : (layout : List Entry) (key : Key) → Starves (formats layout key)
-formats_starves layout key b a (Lacks l) = near_looks b a l
-formats_starves layout key b a (Goes u m _ g rest) = elim rest [ ]
+formats_starves : (frame : Frame) (layout : List Entry) (key : Key) → Starves (formats frame layout key)
+formats_starves frame layout key b a (Lacks l) = near_looks b a l
+formats_starves frame layout key b a (Goes u m _ g rest) = elim rest [ ]
 
 accepts_nears : (layout : List Entry) (key : Key) (bytes : List ℕ) → Nears (accepts layout key bytes)
 accepts_nears layout key bytes = judging_nears _ _
@@ -102,8 +102,8 @@ does_starves (Check name) =
     then_starves _ _ (judging_nears _ _) (λ manifest. then_starves _ _ (judging_nears _ _) (λ members. then_starves _ _ (judging_nears _ _) (λ v.
     then_starves _ _ (judging_nears _ _) (λ w. last_starves _)))))))
 does_starves (RunInit device key_name) =
-    then_starves _ _ (looking_nears _ _) (λ size. then_starves _ _ (reading_nears _ _ _ _) (λ bytes. then_starves _ _ (judging_nears _ _) (λ layout.
-    then_starves _ _ (reading_nears _ _ _ _) (λ key. formats_starves layout _))))
+    then_starves _ _ (looking_nears _ _) (λ size. then_starves _ _ (reading_nears _ _ _ _) (λ bytes. then_starves _ _ (judging_nears _ _) (λ described.
+    then_starves _ _ (reading_nears _ _ _ _) (λ key. formats_starves described.1 described.0 _))))
 does_starves (RunUpdate name uris) =
     then_starves _ _ (looking_nears _ _) (λ config. then_starves _ _ (reading_nears _ _ _ _) (λ bytes.
     then_starves _ _ (accepts_nears config.0 config.1 bytes) (λ accepted. last_starves _)))
@@ -137,7 +137,7 @@ boot_not_eleven _ eleven = omega (arith, eleven)
 
 module _ (name : List ℕ) (uris : List (List ℕ × List ℕ)) (l m : Launching) (b a : Outside) where
   update_found : (lines : List ℕ) (u : Updates name uris l m b a update_ends.NoMemory lines)
-      → (IsTrue b.flash.told → (held : Option Record) × RecordOf VERSION_1 (head_of VERSION_1 b.flash.reads) held) → AsFound l m b a
+      → (IsTrue b.flash.told → (held : Option Record) × RecordOf u.frame (head_of u.frame b.flash.reads) held) → AsFound l m b a
   update_found lines u recorded =
       let f = facts u.layout u.key u.bytes u.accepted u.is_accepted in
       let digest : Digest = f.authentic.digest in
@@ -146,8 +146,8 @@ module _ (name : List ℕ) (uris : List (List ℕ × List ℕ)) (l m : Launching
       let same_told = u.read.0.quiet.told ∙ ap (λ (o : Outside). o.told) u.held.0.beside in
       let flash_told = ap (λ (x : Flashed). x.told) u.read.0.flash ∙ u.held.0.still.told in
       let reads : IsTrue b.flash.told → u.middle.flash.reads ≡ b.flash.reads = λ t. ap (λ (x : Flashed). x.reads) u.read.0.flash ∙ u.held.0.still.reads t in
-      let there : (t : IsTrue b.flash.told) → RecordOf VERSION_1 (head_of VERSION_1 u.middle.flash.reads) (recorded t).0 =
-      λ t. subst (λ (x : List ℕ). RecordOf VERSION_1 (head_of VERSION_1 x) (recorded t).0) (sym (reads t)) (recorded t).1 in
+      let there : (t : IsTrue b.flash.told) → RecordOf u.frame (head_of u.frame u.middle.flash.reads) (recorded t).0 =
+      λ t. subst (λ (x : List ℕ). RecordOf u.frame (head_of u.frame x) (recorded t).0) (sym (reads t)) (recorded t).1 in
       record {
         files = λ t. update_files name uris l m b a update_ends.NoMemory lines u t;
         reads = λ t. u.update.left (subst IsTrue (sym flash_told) t) (recorded t).0 digest f.authentic.blocks (there t) states ∙ reads t;
@@ -156,6 +156,6 @@ module _ (name : List ℕ) (uris : List (List ℕ × List ℕ)) (l m : Launching
       }
 
   pub update_starved : SomeAnswer → (end : UpdateEnd) (lines : List ℕ) → Updates name uris l m b a end lines → update_status end ≡ 11 → AsFound l m b a
-  update_starved records update_ends.NoMemory lines u eleven = update_found lines u (λ t. records VERSION_1 (head_of VERSION_1 b.flash.reads))
+  update_starved records update_ends.NoMemory lines u eleven = update_found lines u (λ t. records u.frame (head_of u.frame b.flash.reads))
   update_starved records (update_ends.Stopped place cause) lines u eleven = absurd (cause_not_eleven cause eleven)
   update_starved records _ lines u eleven = absurd (omega (arith, eleven))

@@ -6,13 +6,10 @@ use Rattle.std.specs.declared.alloc.AllocError.{AllocError}
 use Rattle.suit_edge.specs.Flash.{Flash, IsFlash, IsSame}
 use Rattle.suit_edge.specs.FlashLaws.{same_flash_then}
 use Rattle.flash_layout.specs.declared.frame.Frame.{Frame}
-use Rattle.flash_layout.specs.declared.frame.TheConstants.{VERSION_1}
-use Rattle.flash_layout.specs.declared.key.Key.{Key}
 use Rattle.flash_layout.specs.declared.layout.Entry.{Entry}
 use Rattle.flash_layout.specs.declared.slot.Record.{Record}
 use Rattle.flash_layout.specs.Configs.{ConfigOf, Blank}
 use Rattle.flash_layout.specs.Frames.{head_of}
-use Rattle.flash_layout.specs.ToldFrames.{by_version_1}
 use Rattle.rollback_record.specs.HeadRecord.{RecordOf}
 use Rattle.suit_cli.specs.declared.reply.Object.TheVariants as objects
 use Rattle.suit_cli.specs.declared.reply.Outcome.TheVariants as outcomes
@@ -35,19 +32,14 @@ blank_there before after looks blank made stop says is = subst (λ (s : Stop). D
     of_made (Ok reply) told = (looks, IsBlank blank told)
     of_made (Err e) told = looks
 
--- by the frame of version 1
-pub found_first : (before after : Outside) (config : List Entry × Key × Frame) → config_in.gives before after config → config_in.gives before after (config.0, config.1, VERSION_1)
-found_first before after config found =
-    (found.0, λ told. by_version_1 before.flash.size before.flash.reads config.0 config.1 config.2 (found.1 told))
-
 -- ---- the record
 
 -- there is none, which was told unless memory ran out
-pub nothing_there : (before after : Outside) → Looks before after → (IsTrue before.flash.told → RecordOf VERSION_1 (head_of VERSION_1 before.flash.reads) None)
-    → (made : Result Reply AllocError) (stop : Stop) → Makes made outcomes.NothingInstalled (codes "nothing installed\n") → stop ≡ stop_of made → Does record_in before after (Err stop)
-nothing_there before after looks none made stop says is = subst (λ (s : Stop). Does record_in before after (Err s)) (sym is) (of_made made says)
+pub nothing_there : (frame : Frame) (before after : Outside) → Looks before after → (IsTrue before.flash.told → RecordOf frame (head_of frame before.flash.reads) None)
+    → (made : Result Reply AllocError) (stop : Stop) → Makes made outcomes.NothingInstalled (codes "nothing installed\n") → stop ≡ stop_of made → Does (record_in frame) before after (Err stop)
+nothing_there frame before after looks none made stop says is = subst (λ (s : Stop). Does (record_in frame) before after (Err s)) (sym is) (of_made made says)
   where
-    of_made : (m : Result Reply AllocError) → Makes m outcomes.NothingInstalled (codes "nothing installed\n") → Does record_in before after (Err (stop_of m))
+    of_made : (m : Result Reply AllocError) → Makes m outcomes.NothingInstalled (codes "nothing installed\n") → Does (record_in frame) before after (Err (stop_of m))
     of_made (Ok reply) told = (looks, record { none = none; says = told })
     of_made (Err e) told = looks
 

@@ -6,7 +6,6 @@ use Rattle.suit_edge.specs.FlashLaws.{same_flash_then}
 use Rattle.suit_envelope.specs.Trimmed.{trimmed}
 use Rattle.suit_manifest.specs.Procedures.{update_tree}
 use Rattle.flash_layout.specs.declared.frame.Frame.{Frame}
-use Rattle.flash_layout.specs.declared.frame.TheConstants.{VERSION_1}
 use Rattle.flash_layout.specs.declared.key.Key.{Key}
 use Rattle.flash_layout.specs.declared.layout.Entry.{Entry}
 use Rattle.flash_layout.specs.declared.slot.Record.{Record}
@@ -29,7 +28,7 @@ use Rattle.suit_cli.specs.Launching.{Launching}
 use Rattle.suit_cli.specs.Acceptance.{Accepted, IsAccepted, accepts}
 use Rattle.suit_cli.specs.Commands.{does}
 use Rattle.suit_cli.specs.Coming.{Comes, ByStages, ByUpdate, Ended, Answered, Booted, KeepsAccepted, StaysOrKeeps, Updated, UpdatesBy}
-use Rattle.suit_cli.specs.Updating.{IsDone, KeepsOffer, Offer, offer}
+use Rattle.suit_cli.specs.Updating.{IsDone, KeepsOffer, offer}
 use Rattle.suit_cli.proofs.AcceptedFacts.{facts}
 use Rattle.suit_cli.proofs.Chains.{stopped}
 use Rattle.suit_cli.proofs.UpdateSound.{has_offer}
@@ -50,28 +49,29 @@ module _ (name : List ℕ) (uris : List (List ℕ × List ℕ)) (l : Launching) 
   pub unconfigured_update : (a : Outside) (stop : Stop) → Does config_in b a (Err stop) → Comes_to l a (Answered (ending_of (Err stop)))
   unconfigured_update a stop found = ByStages _ (stopped config_in (λ config. OfFile config.0 config.1 name) b a stop found) refl
 
-  module _ (layout : List Entry) (key : Key) (c : Outside) (held : config_in.gives b c (layout, key, VERSION_1)) where
+  module _ (layout : List Entry) (key : Key) (frame : Frame) (c : Outside) (held : config_in.gives b c (layout, key, frame)) where
     -- where the file is not read
     pub unread_update : (a : Outside) (stop : Stop) → Does (file longest_file name) c a (Err stop) → Comes_to l a (Answered (ending_of (Err stop)))
     unread_update a stop found =
-        ByStages _ (Goes (layout, key, VERSION_1) c _ held (stopped (file longest_file name) (λ bytes. accepts layout key bytes >>= λ accepted. Nothing) c a stop found)) refl
+        ByStages _ (Goes (layout, key, frame) c _ held (stopped (file longest_file name) (λ bytes. accepts layout key bytes >>= λ accepted. Nothing) c a stop found)) refl
 
     module _ (bytes : List ℕ) (d : Outside) (read : (file longest_file name).gives c d bytes) where
       -- where it is not accepted
       pub unaccepted_update : (stop : Stop) → Does (accepts layout key bytes) d d (Err stop) → Comes_to l d (Answered (ending_of (Err stop)))
       unaccepted_update stop found =
-          ByStages _ (Goes (layout, key, VERSION_1) c _ held (Goes bytes d _ read (stopped (accepts layout key bytes) (λ accepted. Nothing) d d stop found))) refl
+          ByStages _ (Goes (layout, key, frame) c _ held (Goes bytes d _ read (stopped (accepts layout key bytes) (λ accepted. Nothing) d d stop found))) refl
 
       -- and behind that
       pub comes_updated : (m : Launching) (a : Outside) (accepted : Accepted) → IsAccepted layout key bytes accepted → (ended : Ended)
-          → UpdatesBy (offer VERSION_1 layout bytes accepted uris) l m d a ended → Comes_to m a ended
+          → UpdatesBy (offer frame layout bytes accepted uris) l m d a ended → Comes_to m a ended
       comes_updated m a accepted is (Answered ending) by =
-          ByStages ending (Goes (layout, key, VERSION_1) c ending held (Goes bytes d ending read (Goes accepted d ending (refl, is)
+          ByStages ending (Goes (layout, key, frame) c ending held (Goes bytes d ending read (Goes accepted d ending (refl, is)
           (subst (λ (e : Ending). Last (λ (reply : Reply). ⊥) d a e) (sym by.0) (EndsWithout by.1))))) by.2
       comes_updated m a accepted is (Booted end lines) by = absurd by
       comes_updated m a accepted is (Updated end lines) by = ByUpdate name uris end lines refl (record {
         layout = layout;
         key = key;
+        frame = frame;
         configured = c;
         held = held;
         bytes = bytes;
@@ -91,53 +91,51 @@ pub unaccepted_as : (layout : List Entry) (key : Key) (x y : List ℕ) → x ≡
     → (here : Outside) → Does (accepts layout key y) here here (Err stop)
 unaccepted_as layout key x y same stop found = subst (λ (bytes : List ℕ). (here : Outside) → Does (accepts layout key bytes) here here (Err stop)) same found
 
--- and what it is offered as, by the frame of version 1
-offer_as : (frame : Frame) → frame ≡ VERSION_1 → (layout : List Entry) (x y : List ℕ) → x ≡ y → (a : Accepted) (uris : List (List ℕ × List ℕ)) → offer frame layout x a uris ≡ offer VERSION_1 layout y a uris
-offer_as frame first layout x y same a uris = λ i. offer (first i) layout (same i) a uris
-
-pub updates_as : (frame : Frame) → frame ≡ VERSION_1 → (layout : List Entry) (x y : List ℕ) → x ≡ y → (a : Accepted) (uris : List (List ℕ × List ℕ)) (l m : Launching) (before after : Outside) (ended : Ended)
-    → UpdatesBy (offer frame layout x a uris) l m before after ended → UpdatesBy (offer VERSION_1 layout y a uris) l m before after ended
-updates_as frame first layout x y same a uris l m before after ended by = subst (λ (o : Offer). UpdatesBy o l m before after ended) (offer_as frame first layout x y same a uris) by
+-- and what it is offered as
+pub updates_as : (frame : Frame) (layout : List Entry) (x y : List ℕ) → x ≡ y → (a : Accepted) (uris : List (List ℕ × List ℕ)) (l m : Launching) (before after : Outside) (ended : Ended)
+    → UpdatesBy (offer frame layout x a uris) l m before after ended → UpdatesBy (offer frame layout y a uris) l m before after ended
+updates_as frame layout x y same a uris l m before after ended by = subst (λ (bytes : List ℕ). UpdatesBy (offer frame layout bytes a uris) l m before after ended) same by
 
 -- ---- at each moment
 
-pub keeps_as : (frame : Frame) → frame ≡ VERSION_1 → (layout : List Entry) (x y : List ℕ) → x ≡ y → (a : Accepted) (uris : List (List ℕ × List ℕ)) (l m : Launching) (before : Outside) (ended : Ended) (old now : Flash)
-    → KeepsAccepted (offer frame layout x a uris) l m before ended old now → KeepsAccepted (offer VERSION_1 layout y a uris) l m before ended old now
-keeps_as frame first layout x y same a uris l m before ended old now kept = subst (λ (o : Offer). KeepsAccepted o l m before ended old now) (offer_as frame first layout x y same a uris) kept
+pub keeps_as : (frame : Frame) (layout : List Entry) (x y : List ℕ) → x ≡ y → (a : Accepted) (uris : List (List ℕ × List ℕ)) (l m : Launching) (before : Outside) (ended : Ended) (old now : Flash)
+    → KeepsAccepted (offer frame layout x a uris) l m before ended old now → KeepsAccepted (offer frame layout y a uris) l m before ended old now
+keeps_as frame layout x y same a uris l m before ended old now kept = subst (λ (bytes : List ℕ). KeepsAccepted (offer frame layout bytes a uris) l m before ended old now) same kept
 
 -- behind the looks at the configuration and at the file
 
 module _ (name : List ℕ) (uris : List (List ℕ × List ℕ)) (l m : Launching) (before middle : Outside) (told_is : middle.told ≡ before.told) (files_are : IsTrue before.told → middle.files ≡ before.files)
     (size : ℕ) (is_size : before.flash.size ≡ size) (a b c : Flash) (law_a : IsFlash a size) (law_b : IsFlash b size) (same : IsSame a b)
-    (layout : List Entry) (key : Key) (allowed : IsAllowed VERSION_1 size layout key) (config : ConfigOf size a.reads (Configured layout key VERSION_1))
+    (layout : List Entry) (key : Key) (frame : Frame) (allowed : IsAllowed frame size layout key) (config : ConfigOf size a.reads (Configured layout key frame))
     (settled : Settled a) (bytes : List ℕ) (read : IsRead longest_file name before bytes) (x : Accepted) (is : IsAccepted layout key bytes x) (configs : OneAnswer) where
-  done_since : (held : Option Record) (made : List ℕ) → IsDone (offer VERSION_1 layout bytes x uris) l m middle held b.reads made → IsDone (offer VERSION_1 layout bytes x uris) l m before held a.reads made
+  done_since : (held : Option Record) (made : List ℕ) → IsDone (offer frame layout bytes x uris) l m middle held b.reads made → IsDone (offer frame layout bytes x uris) l m before held a.reads made
   done_since held made did host launcher =
       subst (λ (r : List ℕ). PlaysToEnd layout x.places (update_tree x.manifest x.members) held bytes uris before.files r l.launches m.launches made) same.reads
       (subst (λ (f : Files). PlaysToEnd layout x.places (update_tree x.manifest x.members) held bytes uris f b.reads l.launches m.launches made) (files_are host)
       (did (subst IsTrue (sym told_is) host) launcher))
 
-  kept_since : (end : UpdateEnd) → KeepsOffer (offer VERSION_1 layout bytes x uris) l m middle end b c → KeepsOffer (offer VERSION_1 layout bytes x uris) l m before end a c
+  kept_since : (end : UpdateEnd) → KeepsOffer (offer frame layout bytes x uris) l m middle end b c → KeepsOffer (offer frame layout bytes x uris) l m before end a c
   kept_since end kept held digest blocks there said =
       kept_from _ _ _ _
-      (keeps_from a b c same VERSION_1 size law_a layout allowed.layout_is x.places (update_tree x.manifest x.members) held key config settled there
+      (keeps_from a b c same frame size law_a layout allowed.layout_is x.places (update_tree x.manifest x.members) held key config settled there
       (trimmed x.said.wrapper x.said.manifest) x.manifest.sequence digest _ _ (done_since held) end)
       (same_flash_then a b c size law_b same) end
-      (kept held digest blocks (subst (λ (l : List ℕ). RecordOf VERSION_1 (head_of VERSION_1 l) held) (sym same.reads) there) said)
+      (kept held digest blocks (subst (λ (l : List ℕ). RecordOf frame (head_of frame l) held) (sym same.reads) there) said)
 
-  pub keeps_since : (ended : Ended) → KeepsAccepted (offer VERSION_1 layout bytes x uris) l m middle ended b c → StaysOrKeeps name uris l m before ended a c
+  pub keeps_since : (ended : Ended) → KeepsAccepted (offer frame layout bytes x uris) l m middle ended b c → StaysOrKeeps name uris l m before ended a c
   keeps_since (Answered ending) still = same_flash_then a b c size law_b same still
   keeps_since (Booted end lines) still = same_flash_then a b c size law_b same still
   keeps_since (Updated end lines) kept = record {
     layout = layout;
     key = key;
-    config = subst (λ (n : ℕ). ConfigOf n a.reads (Configured layout key VERSION_1)) (sym is_size) config;
+    frame = frame;
+    config = subst (λ (n : ℕ). ConfigOf n a.reads (Configured layout key frame)) (sym is_size) config;
     bytes = bytes;
     read = read;
     accepted = x;
     is_accepted = is;
     offered =
-        has_offer configs VERSION_1 layout key a.reads (subst (λ (n : ℕ). ConfigOf n a.reads (Configured layout key VERSION_1)) (sym law_a.fits) config) bytes x
+        has_offer configs frame layout key a.reads (subst (λ (n : ℕ). ConfigOf n a.reads (Configured layout key frame)) (sym law_a.fits) config) bytes x
         (facts layout key bytes x is) settled.sound;
     kept = kept_since end kept;
   }

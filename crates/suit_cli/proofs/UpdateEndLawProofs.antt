@@ -9,7 +9,7 @@ use Rattle.suit_envelope.specs.WrapperParts.{WrapperSays}
 use Rattle.suit_params.specs.declared.digest.Digest.{Digest}
 use Rattle.suit_manifest.specs.ManifestLaws.{ManifestLaws}
 use Rattle.suit_manifest.specs.declared.manifest.Manifest.{Manifest}
-use Rattle.flash_layout.specs.declared.frame.TheConstants.{VERSION_1}
+use Rattle.flash_layout.specs.declared.frame.Frame.{Frame}
 use Rattle.flash_layout.specs.declared.key.Key.{Key}
 use Rattle.flash_layout.specs.declared.layout.Entry.{Entry}
 use Rattle.flash_layout.specs.declared.slot.Record.{Record}
@@ -71,7 +71,7 @@ somewhere P Same layout after launched now ends.NoMemory since p = p
 module _ (name : List ℕ) (uris : List (List ℕ × List ℕ)) (launched now : Launching) (before after : Outside) (end : UpdateEnd) (lines : List ℕ) (told : IsTrue before.told) (flash_told : IsTrue before.flash.told)
     (launcher : IsTrue launched.told) (u : Updates name uris launched now before after end lines) where
   abbrev o : Offer
-  o = offer VERSION_1 u.layout u.bytes u.accepted uris
+  o = offer u.frame u.layout u.bytes u.accepted uris
 
   here_told : u.configured.told ≡ before.told
   here_told = ap (λ (x : Outside). x.told) u.held.0.beside
@@ -95,7 +95,7 @@ module _ (name : List ℕ) (uris : List (List ℕ × List ℕ)) (launched now : 
 
   judged : IsJudgedSo o launched now before after end
   judged held digest blocks record_is says =
-      u.update.judged flash_tells held digest blocks (subst (λ (l : List ℕ). RecordOf VERSION_1 (head_of VERSION_1 l) held) (sym reads) record_is) says
+      u.update.judged flash_tells held digest blocks (subst (λ (l : List ℕ). RecordOf u.frame (head_of u.frame l) held) (sym reads) record_is) says
 
   abbrev Plays : Option Record → List (List ℕ × List ℕ) → Bool → (List ℕ → Option (List ℕ)) → List ℕ → Type 0
   Plays held payloads t f l =
@@ -109,12 +109,13 @@ module _ (name : List ℕ) (uris : List (List ℕ × List ℕ)) (launched now : 
       (subst (λ (t : Bool). Plays held payloads t before.files before.flash.reads) (u.read.0.quiet.told ∙ here_told)
       (subst (λ (f : List ℕ → Option (List ℕ)). Plays held payloads u.middle.told f before.flash.reads) files
       (subst (λ (l : List ℕ). Plays held payloads u.middle.told u.middle.files l) reads
-      (u.update.plays flash_tells launcher held digest blocks (subst (λ (l : List ℕ). RecordOf VERSION_1 (head_of VERSION_1 l) held) (sym reads) record_is) says payloads has))))
+      (u.update.plays flash_tells launcher held digest blocks (subst (λ (l : List ℕ). RecordOf u.frame (head_of u.frame l) held) (sym reads) record_is) says payloads has))))
 
   pub only : UpdateIsCaused name uris launched now before after end lines
   only = record {
     layout = u.layout;
     key = u.key;
+    frame = u.frame;
     config = u.held.1;
     bytes = u.bytes;
     read = read;
@@ -160,8 +161,11 @@ module _ (number : ℕ) (digest : Digest) where
 module _ (configs : OneAnswer) (envelopes : EnvelopeLaws) (manifests : ManifestLaws) (name : List ℕ) (uris : List (List ℕ × List ℕ)) (launched now : Launching) (before after : Outside) (verdict : Judged)
     (told : IsTrue before.told) (flash_told : IsTrue before.flash.told) (f : IsOffered name before verdict) where
   module _ (end : UpdateEnd) (lines : List ℕ) (u : UpdateIsCaused name uris launched now before after end lines) where
-    same_config : Configured u.layout u.key VERSION_1 ≡ Configured f.layout f.key VERSION_1
-    same_config = configs before.flash.size before.flash.reads (Configured u.layout u.key VERSION_1) (Configured f.layout f.key VERSION_1) (u.config flash_told) (f.config flash_told)
+    same_config : Configured u.layout u.key u.frame ≡ Configured f.layout f.key f.frame
+    same_config = configs before.flash.size before.flash.reads (Configured u.layout u.key u.frame) (Configured f.layout f.key f.frame) (u.config flash_told) (f.config flash_told)
+
+    same_frame : u.frame ≡ f.frame
+    same_frame = let e = same_config in cc
 
     same_bytes : u.bytes ≡ f.bytes
     same_bytes = one_read longest_file name before told f.bytes u.bytes f.read u.read
@@ -190,6 +194,10 @@ module _ (configs : OneAnswer) (envelopes : EnvelopeLaws) (manifests : ManifestL
     states : WrapperSays u.accepted.said.wrapper f.digest f.blocks
     states = subst (λ (s : EnvelopeSays). WrapperSays s.wrapper f.digest f.blocks) (sym same_said) f.states
 
+    -- the same record
+    recorded_there : RecordOf u.frame (head_of u.frame before.flash.reads) f.held
+    recorded_there = subst (λ (g : Frame). RecordOf g (head_of g before.flash.reads) f.held) (sym same_frame) f.recorded
+
     -- another verdict on the same offer
     is_verdict : (other : Judged) → IsJudged u.accepted.manifest.sequence f.digest f.held other → other ≡ verdict
     is_verdict other j =
@@ -198,13 +206,13 @@ module _ (configs : OneAnswer) (envelopes : EnvelopeLaws) (manifests : ManifestL
     leads : (other : Judged) (e : UpdateEnd) → IsEndOf other e → IsJudged u.accepted.manifest.sequence f.digest f.held other → IsEndOf verdict e ⊎ IsNoEnd e
     leads other e is j = inl (subst (λ v. IsEndOf v e) (is_verdict other j) is)
 
-    by_end : (e : UpdateEnd) → UpdateEnds (offer VERSION_1 u.layout u.bytes u.accepted uris) launched now before after e → IsEndOf verdict e ⊎ IsNoEnd e
-    by_end _ (IsLower recorded offered j) = leads (verdicts.Lower recorded offered) (ends.Lower recorded offered) refl (j f.held f.digest f.blocks f.recorded states)
-    by_end _ (IsOther recorded offered j) = leads (verdicts.OtherDigest recorded offered) (ends.OtherDigest recorded offered) refl (j f.held f.digest f.blocks f.recorded states)
-    by_end _ (IsWorn j) = leads verdicts.Worn ends.Worn refl (j f.held f.digest f.blocks f.recorded states)
-    by_end _ (IsInstalled installed p) = leads verdicts.Accepted (ends.Installed installed) tt (p f.held f.digest f.blocks f.recorded states).0
-    by_end _ (IsStopped place p) = leads verdicts.Accepted (ends.Condition place) tt (p f.held f.digest f.blocks f.recorded states).0
-    by_end _ (IsFailed place cause p) = leads verdicts.Accepted (ends.Stopped place cause) tt (p f.held f.digest f.blocks f.recorded states).0
+    by_end : (e : UpdateEnd) → UpdateEnds (offer u.frame u.layout u.bytes u.accepted uris) launched now before after e → IsEndOf verdict e ⊎ IsNoEnd e
+    by_end _ (IsLower recorded offered j) = leads (verdicts.Lower recorded offered) (ends.Lower recorded offered) refl (j f.held f.digest f.blocks recorded_there states)
+    by_end _ (IsOther recorded offered j) = leads (verdicts.OtherDigest recorded offered) (ends.OtherDigest recorded offered) refl (j f.held f.digest f.blocks recorded_there states)
+    by_end _ (IsWorn j) = leads verdicts.Worn ends.Worn refl (j f.held f.digest f.blocks recorded_there states)
+    by_end _ (IsInstalled installed p) = leads verdicts.Accepted (ends.Installed installed) tt (p f.held f.digest f.blocks recorded_there states).0
+    by_end _ (IsStopped place p) = leads verdicts.Accepted (ends.Condition place) tt (p f.held f.digest f.blocks recorded_there states).0
+    by_end _ (IsFailed place cause p) = leads verdicts.Accepted (ends.Stopped place cause) tt (p f.held f.digest f.blocks recorded_there states).0
     by_end _ FlashFailed = inr tt
     by_end _ MemoryRanOut = inr tt
 

@@ -11,7 +11,6 @@ use Rattle.suit_manifest.specs.ManifestLaws.{ManifestLaws}
 use Rattle.suit_manifest.specs.Procedures.{update_tree}
 use Rattle.path_model.specs.PlayLaws.{FaultedSafeLaunches, SafeLaunches}
 use Rattle.flash_layout.specs.declared.frame.Frame.{Frame}
-use Rattle.flash_layout.specs.declared.frame.TheConstants.{VERSION_1}
 use Rattle.flash_layout.specs.declared.key.Key.{Key}
 use Rattle.flash_layout.specs.declared.layout.Entry.{Entry}
 use Rattle.flash_layout.specs.declared.slot.Record.{Record}
@@ -121,7 +120,7 @@ module _ (configs : OneAnswer) (frame : Frame) (layout : List Entry) (key : Key)
 gains_nothing : (launched now : List Launch) → now ≡ launched → GainsSafe launched now
 gains_nothing launched now same = record { gained = []; added = same ∙ sym (append-nil launched); safe = tt }
 
-module _ (safe : SafeLaunches) (faulted : FaultedSafeLaunches) (manifests : ManifestLaws) (size : ℕ) (frame : Frame) (layout : List Entry) (key : Key) (allowed : IsAllowed VERSION_1 size layout key)
+module _ (safe : SafeLaunches) (faulted : FaultedSafeLaunches) (manifests : ManifestLaws) (size : ℕ) (frame : Frame) (layout : List Entry) (key : Key) (allowed : IsAllowed frame size layout key)
     (typed : All HasIdentifiers layout) (bytes : List ℕ) (a : Accepted) (f : Meets layout key bytes a) (other : HaveOtherPlaces a.manifest.components a.places)
     (uris : List (List ℕ × List ℕ)) (host : Hosted) (before : List ℕ) (launched now : List Launch) where
   abbrev payloads : List (List ℕ × List ℕ)
@@ -139,7 +138,7 @@ module _ (safe : SafeLaunches) (faulted : FaultedSafeLaunches) (manifests : Mani
     added = p.plays.added;
     safe =
         have_digests safe faulted (update_tree a.manifest a.members) (setting_of p.standings payloads uris p.given) (contents_of p.standings (empty_ram layout) before) f.are_safe.update_safe
-        (are_identities size layout allowed.layout_is a.places (record { number = p.numbers }) p.standings typed (distinct manifests layout key bytes a f other) p.choice p.stand
+        (are_identities frame size layout allowed.layout_is a.places (record { number = p.numbers }) p.standings typed (distinct manifests layout key bytes a f other) p.choice p.stand
         (update_tree a.manifest a.members) (sym f.placed.count ∙ sym p.stand.count))
         (record { contents = contents_of p.standings p.ram made; launches = map launched_as p.plays.gained; asked = p.plays.asks }) end p.plays.ends;
   }

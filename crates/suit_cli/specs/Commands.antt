@@ -76,9 +76,9 @@ makes description key_name out =
 abbrev pub inits_as : ℕ → List ℕ → List ℕ → Answers
 inits_as size device key_name =
     file longest_device device >>= λ bytes.
-    device_in size bytes >>= λ layout.
+    device_in size bytes >>= λ described.
     key_in key_name >>= λ key.
-    formats layout (key_of key)
+    formats described.1 described.0 (key_of key)
 
 abbrev pub inits : List ℕ → List ℕ → Answers
 inits device key_name = unused >>= λ size. inits_as size device key_name
@@ -87,7 +87,7 @@ inits device key_name = unused >>= λ size. inits_as size device key_name
 abbrev pub tells_status : Answers
 tells_status =
     config_in >>= λ config.
-    record_in >>= λ installed.
+    record_in config.2 >>= λ installed.
     lines_in config.0 installed >>= λ lines.
     Last (IsStatus installed lines)
 

@@ -4,6 +4,8 @@ use Rattle.std.specs.Fmt.{decimal}
 use Rattle.std.specs.Str.{IsUtf8}
 use Rattle.serde_json.specs.Data.{Data}
 use Rattle.serde_json.specs.Read.{read}
+use Rattle.flash_layout.specs.declared.frame.Frame.{Frame}
+use Rattle.flash_layout.specs.declared.frame.TheConstants.{VERSION_1}
 use Rattle.flash_layout.specs.declared.key.Key.{Key}
 use Rattle.flash_layout.specs.declared.layout.Entry.{Entry}
 use Rattle.flash_layout.specs.declared.layout_fault.LayoutFault.{LayoutFault}
@@ -19,12 +21,14 @@ use Rattle.suit_cli.specs.Stages.{Stage, judging}
 
 -- ---- the description
 
--- it is JSON (RFC 8259), and describes this layout of a flash of the size
-pub record IsDevice (size : ℕ) (bytes : List ℕ) (layout : List Entry) : Type 0 where
+-- it is JSON (RFC 8259), and describes this layout of a flash of the size, which has that frame
+pub record IsDevice (size : ℕ) (bytes : List ℕ) (layout : List Entry) (frame : Frame)
+    : Type 0 where
   pub utf8 : IsUtf8 bytes
   pub value : Data
   pub reads : read bytes ≡ Some value
   pub describes : IsLayoutOf size value layout
+  pub frame_is : frame ≡ VERSION_1
 
 -- a word, and the place of a value by its JSON Pointer
 abbrev pub pointed_line : List ℕ → List ℕ → List ℕ
@@ -63,8 +67,9 @@ pub data IsNoDevice (size : ℕ) (bytes : List ℕ) (reply : Reply) : Type 0 whe
       → RefusesLayout size value fault → TellsLayout fault reply
       → IsNoDevice size bytes reply
 
-abbrev pub device_in : ℕ → List ℕ → Stage (List Entry)
-device_in size bytes = judging (IsDevice size bytes) (IsNoDevice size bytes)
+abbrev pub device_in : ℕ → List ℕ → Stage (List Entry × Frame)
+device_in size bytes =
+    judging (λ described. IsDevice size bytes described.0 described.1) (IsNoDevice size bytes)
 
 -- ---- the key
 

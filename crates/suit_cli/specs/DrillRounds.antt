@@ -11,7 +11,7 @@ use Rattle.suit_edge.specs.MemoryHost.{HostState, file_in}
 use Rattle.suit_edge.specs.MemoryDisk.{DiskState, memory_flash}
 use Rattle.suit_envelope.specs.WrapperParts.{WrapperSays}
 use Rattle.suit_params.specs.declared.digest.Digest.{Digest}
-use Rattle.flash_layout.specs.declared.frame.TheConstants.{VERSION_1}
+use Rattle.flash_layout.specs.declared.frame.Frame.{Frame}
 use Rattle.flash_layout.specs.declared.key.Key.{Key}
 use Rattle.flash_layout.specs.declared.layout.Entry.{Entry}
 use Rattle.flash_layout.specs.declared.slot.Record.{Record}
@@ -120,20 +120,21 @@ pub record IsCutOff (uris : List (List ℕ × List ℕ)) (launched now : Launchi
     (left : List ℕ) : Type 0 where
   pub layout : List Entry
   pub key : Key
+  pub frame : Frame
   pub config :
       ConfigOf before.flash.size before.flash.reads
-      (Configured layout key VERSION_1)
+      (Configured layout key frame)
   pub bytes : List ℕ
   pub read : IsRead longest_file envelope_name before bytes
   pub accepted : Accepted
   pub is_accepted : IsAccepted layout key bytes accepted
   pub held : Option Record
-  pub record_is : RecordOf VERSION_1 (head_of VERSION_1 before.flash.reads) held
+  pub record_is : RecordOf frame (head_of frame before.flash.reads) held
   pub digest : Digest
   pub blocks : List (List ℕ)
   pub says : WrapperSays accepted.said.wrapper digest blocks
   pub is_left :
-      IsLeft (offer VERSION_1 layout bytes accepted uris) launched now before held digest left
+      IsLeft (offer frame layout bytes accepted uris) launched now before held digest left
 
 -- The flash lost its power, as was wanted, and this image was left: by an update that had begun, or with the contents of
 -- before.

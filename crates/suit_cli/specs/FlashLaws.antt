@@ -1,7 +1,6 @@
 -- Where `run init` and `run status` stop, and with which reply: what follows from their stages.
 use Rattle.std.specs.Prelude.{◌≡◌, ℕ, IsTrue, List, ◌++◌, codes}
 use Rattle.flash_layout.specs.declared.frame.Frame.{Frame}
-use Rattle.flash_layout.specs.declared.frame.TheConstants.{VERSION_1}
 use Rattle.flash_layout.specs.declared.key.Key.{Key}
 use Rattle.flash_layout.specs.declared.layout.Entry.{Entry}
 use Rattle.flash_layout.specs.declared.slot.Record.{Record}
@@ -31,23 +30,25 @@ pub data InitSays (device key_name : List ℕ) (before : Outside) (reply : Reply
       → IsNoDevice before.flash.size bytes reply
       → InitSays device key_name before reply
   -- status 20, 21, or 3, `empty key`
-  AtKey : (bytes : List ℕ) (layout : List Entry) → IsShut before.flash
-      → IsRead longest_device device before bytes → IsDevice before.flash.size bytes layout
+  AtKey : (bytes : List ℕ) (layout : List Entry) (frame : Frame) → IsShut before.flash
+      → IsRead longest_device device before bytes → IsDevice before.flash.size bytes layout frame
       → IsNoKey key_name before reply → InitSays device key_name before reply
   -- status 0, `ready`
-  AtFormat : (bytes : List ℕ) (layout : List Entry) (key : List ℕ) → IsShut before.flash
-      → IsRead longest_device device before bytes
-      → IsDevice before.flash.size bytes layout → IsKey key_name before key → IsReply reply outcomes.Done (codes "ready\n") → InitSays device key_name before reply
+  AtFormat : (bytes : List ℕ) (layout : List Entry) (frame : Frame) (key : List ℕ)
+      → IsShut before.flash → IsRead longest_device device before bytes
+      → IsDevice before.flash.size bytes layout frame → IsKey key_name before key
+      → IsReply reply outcomes.Done (codes "ready\n") → InitSays device key_name before reply
 
 -- the described layout and the key stand in the flash, no record, and each slot is empty
 pub record IsReady (device key_name : List ℕ) (before after : Outside) : Type 0 where
   pub bytes : List ℕ
   pub layout : List Entry
+  pub frame : Frame
   pub key : List ℕ
   pub holds : IsRead longest_device device before bytes
-  pub describes : IsDevice before.flash.size bytes layout
+  pub describes : IsDevice before.flash.size bytes layout frame
   pub has_key : IsKey key_name before key
-  pub formatted : IsFormatted VERSION_1 before.flash.size layout (key_of key) after.flash.reads
+  pub formatted : IsFormatted frame before.flash.size layout (key_of key) after.flash.reads
 
 pub record InitLaws : Type 0 where
   -- each reply has its cause
@@ -75,10 +76,10 @@ pub data StatusSays (before : Outside) (reply : Reply) : Type 0 where
   AtConfig : HoldsNone before.flash reply → StatusSays before reply
   -- status 15, `nothing installed`
   AtRecord : (config : List Entry × Key × Frame) → Holds before.flash config
-      → IsNothing before.flash reply → StatusSays before reply
+      → IsNothing config.2 before.flash reply → StatusSays before reply
   -- status 0, and the lines
   AtLines : (config : List Entry × Key × Frame) (installed : Record) (lines : List ℕ)
-      → Holds before.flash config → IsInstalled before.flash installed
+      → Holds before.flash config → IsInstalled config.2 before.flash installed
       → (IsTrue before.flash.told → lines ≡ component_lines 0 config.0 installed.active before.flash.reads)
       → IsReply reply outcomes.Done (record_lines installed ++ lines) → StatusSays before reply
 

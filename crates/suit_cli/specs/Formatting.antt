@@ -4,7 +4,8 @@ use Rattle.suit_edge.specs.Faults.{Faulted}
 use Rattle.suit_edge.specs.Flash.{Flash, Now}
 use Rattle.suit_edge.specs.Gate.{IsOpen}
 use Rattle.suit_edge.specs.Ranges.{SameOn}
-use Rattle.flash_layout.specs.declared.frame.TheConstants.{VERSION_1, CONFIG_GATE}
+use Rattle.flash_layout.specs.declared.frame.Frame.{Frame}
+use Rattle.flash_layout.specs.declared.frame.TheConstants.{CONFIG_GATE}
 use Rattle.flash_layout.specs.declared.key.Key.{Key}
 use Rattle.flash_layout.specs.declared.layout.Entry.{Entry}
 use Rattle.flash_layout.specs.Formats.{IsFormatted, IsBlankOrFormatted, OutsideFormat}
@@ -37,36 +38,39 @@ unused = looking IsUnused IsInUse
 -- ---- the format
 
 -- the flash has the layout and the key, no record, and each slot empty
-pub record Formats (layout : List Entry) (key : Key) (before after : Outside) : Type 0 where
+pub record Formats (frame : Frame) (layout : List Entry) (key : Key) (before after : Outside)
+    : Type 0 where
   pub beside : after ≡ with_flash before after.flash
   pub told : after.flash.told ≡ before.flash.told
   pub size : after.flash.size ≡ before.flash.size
   pub faults : after.flash.faults ≡ before.flash.faults
   pub shut : IsShut before.flash
   pub formatted : IsTrue before.flash.told
-      → IsFormatted VERSION_1 before.flash.size layout key after.flash.reads
+      → IsFormatted frame before.flash.size layout key after.flash.reads
 
 -- the flash counted a fault; nothing has changed but what formatting writes
-pub record FormatsInVain (layout : List Entry) (before after : Outside) : Type 0 where
+pub record FormatsInVain (frame : Frame) (layout : List Entry) (before after : Outside)
+    : Type 0 where
   pub beside : after ≡ with_flash before after.flash
   pub told : after.flash.told ≡ before.flash.told
   pub size : after.flash.size ≡ before.flash.size
   pub faulted : Faulted before.flash.faults after.flash.faults
   pub kept : IsTrue before.flash.told
-      → SameOn (OutsideFormat VERSION_1 layout) before.flash.reads after.flash.reads
+      → SameOn (OutsideFormat frame layout) before.flash.reads after.flash.reads
 
 -- it declines where the gate is open after all, which no flash that tells can do behind the stage that found it shut
-abbrev pub formatting : List Entry → Key → Stage (Unit {0})
-formatting layout key = record {
-  gives = λ before after _. Formats layout key before after;
+abbrev pub formatting : Frame → List Entry → Key → Stage (Unit {0})
+formatting frame layout key = record {
+  gives = λ before after _. Formats frame layout key before after;
   declines = λ before after reply. Looks before after × IsInUse before.flash reply;
-  faults = at_flash (FormatsInVain layout);
+  faults = at_flash (FormatsInVain frame layout);
   lacks = Looks;
 }
 
-abbrev pub formats : List Entry → Key → Answers
-formats layout key =
-    formatting layout key >>= λ _. Said (λ reply. IsReply reply outcomes.Done (codes "ready\n"))
+abbrev pub formats : Frame → List Entry → Key → Answers
+formats frame layout key =
+    formatting frame layout key >>= λ _.
+    Said (λ reply. IsReply reply outcomes.Done (codes "ready\n"))
 
 -- ---- the image that a power loss leaves
 
@@ -80,11 +84,12 @@ pub record MayFormat (size : ℕ) (device key_name : List ℕ) (before : Outside
     (image : List ℕ) : Type 0 where
   pub bytes : List ℕ
   pub layout : List Entry
+  pub frame : Frame
   pub key : List ℕ
   pub holds : IsRead longest_device device before bytes
-  pub describes : IsDevice size bytes layout
+  pub describes : IsDevice size bytes layout frame
   pub has_key : IsKey key_name before key
-  pub blank_or_formatted : IsBlankOrFormatted VERSION_1 size layout (key_of key) start image
+  pub blank_or_formatted : IsBlankOrFormatted frame size layout (key_of key) start image
 
 -- an image of the start; or, of a flash that is not in use, one on the way to its format
 abbrev pub MayLeave : List ℕ → List ℕ → Outside → Flash → List ℕ → Type 0

@@ -5,7 +5,6 @@ use Rattle.hex.specs.Hex.{encode_lower}
 use Rattle.suit_params.specs.DigestBytes.{digest_bytes}
 use Rattle.suit_edge.specs.Faults.{Faulted}
 use Rattle.flash_layout.specs.declared.frame.Frame.{Frame}
-use Rattle.flash_layout.specs.declared.frame.TheConstants.{VERSION_1}
 use Rattle.flash_layout.specs.declared.key.Key.{Key}
 use Rattle.flash_layout.specs.declared.layout.Entry.{Entry}
 use Rattle.flash_layout.specs.declared.layout.Memory.{Memory}
@@ -46,16 +45,17 @@ config_in = looking Holds HoldsNone
 
 -- ---- the record
 
-abbrev pub IsInstalled : Flashed → Record → Type 0
-IsInstalled flash installed =
-    IsTrue flash.told → RecordOf VERSION_1 (head_of VERSION_1 flash.reads) (Some installed)
+abbrev pub IsInstalled : Frame → Flashed → Record → Type 0
+IsInstalled frame flash installed =
+    IsTrue flash.told → RecordOf frame (head_of frame flash.reads) (Some installed)
 
-pub record IsNothing (flash : Flashed) (reply : Reply) : Type 0 where
-  pub none : IsTrue flash.told → RecordOf VERSION_1 (head_of VERSION_1 flash.reads) None
+pub record IsNothing (frame : Frame) (flash : Flashed) (reply : Reply) : Type 0 where
+  pub none : IsTrue flash.told → RecordOf frame (head_of frame flash.reads) None
   pub says : IsReply reply outcomes.NothingInstalled (codes "nothing installed\n")
 
-abbrev pub record_in : Stage Record
-record_in = looking IsInstalled IsNothing
+-- of a flash with this frame
+abbrev pub record_in : Frame → Stage Record
+record_in frame = looking (IsInstalled frame) (IsNothing frame)
 
 -- ---- the contents
 

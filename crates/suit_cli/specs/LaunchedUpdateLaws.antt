@@ -2,7 +2,7 @@
 use Rattle.std.specs.Prelude.{◌≡◌, ◌⊎◌, ℕ, IsTrue, List, length, Option, Some}
 use Rattle.suit_edge.specs.declared.launch.Launch.{Launch}
 use Rattle.suit_envelope.specs.Payloads.{HasPayloads}
-use Rattle.flash_layout.specs.declared.frame.TheConstants.{VERSION_1}
+use Rattle.flash_layout.specs.declared.frame.Frame.{Frame}
 use Rattle.flash_layout.specs.declared.key.Key.{Key}
 use Rattle.flash_layout.specs.declared.layout.Entry.{Entry}
 use Rattle.flash_layout.specs.declared.slot.Record.{Record}
@@ -25,11 +25,12 @@ use Rattle.suit_cli.specs.Updating.{Updates, tree_of}
 pub record LaunchesAccepted (uris : List (List ℕ × List ℕ)) (layout : List Entry) (key : Key) (bytes : List ℕ)
     (image : List ℕ) (launched now : List Launch)
     : Type 0 where
-  pub config : ConfigOf (length image) image (Configured layout key VERSION_1)
+  pub frame : Frame
+  pub config : ConfigOf (length image) image (Configured layout key frame)
   pub accepted : Accepted
   pub is_accepted : IsAccepted layout key bytes accepted
   pub held : Option Record
-  pub recorded : RecordOf VERSION_1 (head_of VERSION_1 image) held
+  pub recorded : RecordOf frame (head_of frame image) held
   pub payloads : List (List ℕ × List ℕ)
   pub are : HasPayloads bytes payloads
   pub host : Hosted

@@ -4,7 +4,7 @@ use Rattle.suit_envelope.specs.Payloads.{HasPayloads}
 use Rattle.suit_envelope.specs.WrapperParts.{WrapperSays}
 use Rattle.suit_params.specs.declared.digest.Digest.{Digest}
 use Rattle.path_model.specs.declared.cause.Cause.{Cause}
-use Rattle.flash_layout.specs.declared.frame.TheConstants.{VERSION_1}
+use Rattle.flash_layout.specs.declared.frame.Frame.{Frame}
 use Rattle.flash_layout.specs.declared.key.Key.{Key}
 use Rattle.flash_layout.specs.declared.layout.Entry.{Entry}
 use Rattle.flash_layout.specs.declared.slot.Record.{Record}
@@ -79,13 +79,14 @@ pub record UpdateIsCaused (name : List ℕ) (uris : List (List ℕ × List ℕ))
     (before after : Outside) (end : UpdateEnd) (lines : List ℕ) : Type 0 where
   pub layout : List Entry
   pub key : Key
-  pub config : Holds before.flash (layout, key, VERSION_1)
+  pub frame : Frame
+  pub config : Holds before.flash (layout, key, frame)
   pub bytes : List ℕ
   pub read : IsRead longest_file name before bytes
   pub accepted : Accepted
   pub is_accepted : IsAccepted layout key bytes accepted
   pub ends :
-      UpdateEnds (offer VERSION_1 layout bytes accepted uris) launched now before after end
+      UpdateEnds (offer frame layout bytes accepted uris) launched now before after end
   pub lines_are : lines ≡ update_line accepted.manifest.sequence end
 
 -- ---- where a cause stands
@@ -94,13 +95,14 @@ pub record UpdateIsCaused (name : List ℕ) (uris : List (List ℕ × List ℕ))
 pub record IsOffered (name : List ℕ) (before : Outside) (verdict : Judged) : Type 0 where
   pub layout : List Entry
   pub key : Key
-  pub config : Holds before.flash (layout, key, VERSION_1)
+  pub frame : Frame
+  pub config : Holds before.flash (layout, key, frame)
   pub bytes : List ℕ
   pub read : IsRead longest_file name before bytes
   pub accepted : Accepted
   pub is_accepted : IsAccepted layout key bytes accepted
   pub held : Option Record
-  pub recorded : RecordOf VERSION_1 (head_of VERSION_1 before.flash.reads) held
+  pub recorded : RecordOf frame (head_of frame before.flash.reads) held
   pub digest : Digest
   pub blocks : List (List ℕ)
   pub states : WrapperSays accepted.said.wrapper digest blocks

@@ -9,7 +9,6 @@ use Rattle.suit_commands.specs.Tree.{PlanTree}
 use Rattle.suit_manifest.specs.Procedures.{update_tree}
 use Rattle.suit_params.specs.declared.digest.Digest.{Digest}
 use Rattle.flash_layout.specs.declared.frame.Frame.{Frame}
-use Rattle.flash_layout.specs.declared.frame.TheConstants.{VERSION_1}
 use Rattle.flash_layout.specs.declared.key.Key.{Key}
 use Rattle.flash_layout.specs.declared.layout.Entry.{Entry}
 use Rattle.flash_layout.specs.declared.slot.Record.{Record}
@@ -147,14 +146,15 @@ pub record Updates (name : List ℕ) (uris : List (List ℕ × List ℕ)) (launc
     : Type 0 where
   pub layout : List Entry
   pub key : Key
+  pub frame : Frame
   pub configured : Outside
-  pub held : config_in.gives before configured (layout, key, VERSION_1)
+  pub held : config_in.gives before configured (layout, key, frame)
   pub bytes : List ℕ
   pub middle : Outside
   pub read : (file longest_file name).gives configured middle bytes
   pub accepted : Accepted
   pub is_accepted : IsAccepted layout key bytes accepted
-  pub update : IsUpdate (offer VERSION_1 layout bytes accepted uris) launched now middle after end
+  pub update : IsUpdate (offer frame layout bytes accepted uris) launched now middle after end
   pub lines_are : lines ≡ update_line accepted.manifest.sequence end
 
 -- ---- at each moment
@@ -194,12 +194,13 @@ pub record KeepsFlash (name : List ℕ) (uris : List (List ℕ × List ℕ)) (la
     (old now : Flash) : Type 0 where
   pub layout : List Entry
   pub key : Key
+  pub frame : Frame
   pub config :
-      ConfigOf before.flash.size old.reads (Configured layout key VERSION_1)
+      ConfigOf before.flash.size old.reads (Configured layout key frame)
   pub bytes : List ℕ
   pub read : IsRead longest_file name before bytes
   pub accepted : Accepted
   pub is_accepted : IsAccepted layout key bytes accepted
-  pub offered : HasOffer VERSION_1 old.reads accepted.said.wrapper
+  pub offered : HasOffer frame old.reads accepted.said.wrapper
   pub kept :
-      KeepsOffer (offer VERSION_1 layout bytes accepted uris) launched later before end old now
+      KeepsOffer (offer frame layout bytes accepted uris) launched later before end old now

@@ -11,7 +11,7 @@ ghost use Rattle.suit_cli.specs.Installed.{FlashCounts, slot_in_use, slot_line, 
 use crate::outside::SeenDisk;
 use crate::reply::{Object, Stop};
 use det_cbor::Text;
-use flash_layout::{Entry, FlashFault, Memory, Record, Slot, slots_of};
+use flash_layout::{Entry, FlashFault, MOST_ENTRIES, Memory, Record, Slot, slots_of};
 use flash_slots::length;
 use std::alloc::{AllocError, Global};
 use suit_edge::Disk;
@@ -104,10 +104,10 @@ fn push_components<D: Disk>(
     alloc: Global,
     text: &mut Text,
     layout: &[Entry],
-    active: &[u8; 8],
+    active: &[u8; MOST_ENTRIES],
     flash: &mut D,
 ) -> Result<(), Stop>
-    requires few { length layout.now ≤ 8 }
+    requires few { length layout.now ≤ MOST_ENTRIES }
     requires each { All (IsEntry (D.extent flash.old)) layout.now }
     ensures extent { D.extent flash.new ≡ D.extent flash.old }
     ensures counts { FlashCounts result (D.faults flash.old) (D.faults flash.new) }
@@ -129,7 +129,7 @@ pub(crate) fn component_lines<D: Disk>(
     installed: &Record,
     flash: &mut D,
 ) -> Result<Text, Stop>
-    requires few { length layout.now ≤ 8 }
+    requires few { length layout.now ≤ MOST_ENTRIES }
     requires each { All (IsEntry (D.extent flash.old)) layout.now }
     ensures finds { (here : Outside) → Does (lines_in layout.now installed.now)
         (with_flash here (⟦<D as SeenDisk>⟧.seen flash.old))

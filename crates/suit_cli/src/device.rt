@@ -1,6 +1,7 @@
 //! The stage that judges a device's description, and the key of a flash.
 
 ghost use Rattle.std.specs.Prelude.{◌≡◌, ◌≤◌, IfOk, length, string_bytes};
+ghost use Rattle.flash_layout.specs.Frames.{IsFrame, head_size};
 ghost use Rattle.flash_layout.specs.declared.frame.TheConstants.{VERSION_1};
 ghost use Rattle.flash_layout.specs.Layouts.{IsKey, IsLayout};
 ghost use Rattle.suit_cli.specs.Devices.{device_in, key_of, IsFaultLine, pointed_line};
@@ -8,7 +9,7 @@ ghost use Rattle.suit_cli.specs.Stages.{Finds};
 
 use crate::json::json_in;
 use crate::reply::{Stop, refused_by};
-use flash_layout::{Key, Layout, LayoutFault, layout_of};
+use flash_layout::{Frame, Key, Layout, LayoutFault, layout_of};
 use std::alloc::{AllocError, Global};
 
 /// A line of a word and the place of a value.
@@ -38,14 +39,16 @@ fn fault_line(alloc: Global, fault: LayoutFault) -> Result<String, AllocError>
     }
 }
 
-/// The layout that a description gives for a flash of this size.
-pub(crate) fn device_in(alloc: Global, size: u64, bytes: &[u8]) -> Result<Layout, Stop>
+/// The layout and the frame that a description gives for a flash of this size.
+pub(crate) fn device_in(alloc: Global, size: u64, bytes: &[u8]) -> Result<(Layout, Frame), Stop>
     ensures finds { Finds (device_in size bytes.now) result }
-    ensures allowed { IfOk result (IsLayout VERSION_1 size) }
+    ensures allowed { IfOk result (λ described. IsLayout described.1 size described.0) }
+    ensures placed { head_size VERSION_1 ≤ size
+        → IfOk result (λ described. IsFrame size described.1) }
 {
     let value = json_in(alloc, bytes)?;
     match layout_of(alloc, &value, size) {
-        Ok((layout, _)) => Ok(layout),
+        Ok((layout, frame)) => Ok((layout, frame)),
         Err(fault) => Err(refused_by(fault_line(alloc, fault))),
     }
 }

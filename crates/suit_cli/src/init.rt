@@ -4,7 +4,8 @@ ghost use Rattle.std.specs.Prelude.{◌≡◌, ◌≤◌, IfOk, IsTrue};
 ghost use Rattle.suit_edge.specs.Flash.{IsSame, Passes};
 ghost use Rattle.flash_layout.specs.Formats.{IsBlankOrFormatted};
 ghost use Rattle.flash_layout.specs.Layouts.{IsKey, IsLayout};
-ghost use Rattle.flash_layout.specs.Frames.{head_size};
+ghost use Rattle.flash_layout.specs.Frames.{IsFrame, head_size};
+ghost use Rattle.flash_layout.specs.declared.frame.TheConstants.{VERSION_1};
 ghost use Rattle.suit_cli.specs.Outside.{Outside, with_flash};
 ghost use Rattle.suit_cli.specs.Stages.{Does, ending_of};
 ghost use Rattle.suit_cli.specs.Formatting.{unused, formats, MayBe, MayFormat, MayLeave};
@@ -15,7 +16,7 @@ use crate::device::{device_in, key_of};
 use crate::input::{LONGEST_DEVICE, read, read_key};
 use crate::outside::{SeenDisk, SeenHost};
 use crate::reply::{Object, Outcome, Reply, Stop, declined};
-use flash_layout::{CONFIG_GATE, Formatted, Key, Layout, VERSION_1, format};
+use flash_layout::{CONFIG_GATE, Formatted, Frame, Key, Layout, format};
 use rollback_record::sound_laws;
 use std::alloc::Global;
 use suit_edge::{Disk, Edge, Host, OPEN};
@@ -43,24 +44,30 @@ fn unused<D: Disk>(alloc: Global, flash: &mut D) -> Result<u64, Stop>
 }
 
 // Formats the flash. The reply is made before the first write, so that memory cannot run out later.
-fn formats<D: Disk>(alloc: Global, layout: &Layout, key: &Key, flash: &mut D) -> Result<Reply, Stop>
-    requires large { head_size VERSION_1 ≤ D.extent flash.old }
-    requires layout { IsLayout VERSION_1 (D.extent flash.old) layout.now }
+fn formats<D: Disk>(
+    alloc: Global,
+    layout: &Layout,
+    frame: Frame,
+    key: &Key,
+    flash: &mut D,
+) -> Result<Reply, Stop>
+    requires frame { IsFrame (D.extent flash.old) frame }
+    requires layout { IsLayout frame (D.extent flash.old) layout.now }
     requires key { IsKey key.now }
-    ensures formats { (here : Outside) → formats layout.now key.now
+    ensures formats { (here : Outside) → formats frame layout.now key.now
         (with_flash here (⟦<D as SeenDisk>⟧.seen flash.old))
         (with_flash here (⟦<D as SeenDisk>⟧.seen flash.new)) (ending_of result) }
     ensures extent { D.extent flash.new ≡ D.extent flash.old }
     ensures any_moment { IsTrue D.told → Passes (D.flash flash.old) (D.flash flash.new)
         (MayBe (D.flash flash.old)
-        (IsBlankOrFormatted VERSION_1 (D.extent flash.old) layout.now key.now
+        (IsBlankOrFormatted frame (D.extent flash.old) layout.now key.now
         (D.flash flash.old))) }
     ensures settled { IsTrue D.told → StaysSettled (D.flash flash.old) (D.flash flash.new)
         (D.faults flash.old) (D.faults flash.new) }
 {
     sound_laws();
     let ready = Reply::fixed(alloc, Outcome::Done, "ready\n")?;
-    match format(flash, layout, key, VERSION_1) {
+    match format(flash, layout, key, frame) {
         Formatted::Done => Ok(ready),
         Formatted::NotBlank => Err(declined(Reply::fixed(alloc, Outcome::NotBlank, "not blank\n"))),
         Formatted::FlashFault => Err(Stop::Fault(Object::Flash)),
@@ -89,10 +96,10 @@ fn init_as<H: Host, D: Disk>(
         (D.faults flash.old) (D.faults flash.new) }
 {
     let bytes = read(alloc, device, LONGEST_DEVICE, host)?;
-    let layout = device_in(alloc, size, bytes.as_slice())?;
+    let (layout, frame) = device_in(alloc, size, bytes.as_slice())?;
     let key_bytes = read_key(alloc, key_name, host)?;
     let key = key_of(key_bytes.as_slice());
-    formats(alloc, &layout, &key, flash)
+    formats(alloc, &layout, frame, &key, flash)
 }
 
 /// The reply to `run init DEVICE KEY`. Everything is judged before the first write.

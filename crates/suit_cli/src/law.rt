@@ -126,7 +126,7 @@ pub fn boot_end_laws()
 /// them: yes and no of `check`, in both directions; which files stay, and which are asked for; what each status of a
 /// fault says of the counts; usage, exactly where the words are no command; which statuses there are; which part of the
 /// lines is put where the output failed; what stays where memory ran out; that `run boot` does not end with a fault of
-/// the host; and that no other command but `run update` launches anything.
+/// the host; and that only `run boot` and `run update` launch anything.
 pub fn run_laws()
     ensures { RunLaws }
 {

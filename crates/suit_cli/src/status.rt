@@ -54,7 +54,7 @@ fn record_in<D: Disk>(alloc: Global, flash: &mut D, config: &Config) -> Result<R
     requires held { IsTrue D.told
         → ConfigOf (D.extent flash.old) (D.flash flash.old).reads
         (Configured config.now.0 config.now.1 config.now.2) }
-    ensures finds { (here : Outside) → Does record_in
+    ensures finds { (here : Outside) → Does (record_in config.now.2)
         (with_flash here (⟦<D as SeenDisk>⟧.seen flash.old))
         (with_flash here (⟦<D as SeenDisk>⟧.seen flash.new)) result }
     ensures extent { D.extent flash.new ≡ D.extent flash.old }

@@ -2,7 +2,6 @@ use Rattle.std.proofs.Common.{refl, inr, subst}
 use Rattle.suit_edge.specs.Flash.{IsFlash}
 use Rattle.suit_edge.specs.FlashLaws.{weakens}
 use Rattle.flash_layout.specs.declared.formatting.Formatted.TheVariants as formatted
-use Rattle.flash_layout.specs.FirstFrame.{version_1}
 use Rattle.suit_cli.specs.declared.reply.Object.TheVariants as objects
 use Rattle.suit_cli.specs.declared.reply.Stop.TheVariants as stops
 use Rattle.suit_cli.specs.Stages.{Goes, Faults, IsSaid}
@@ -35,7 +34,7 @@ returns-in-Done-clause-any_moment g c t = weakens _ _ _ _ (λ image way. inr way
 
 pub returns-in-NotBlank-clause-formats : goal.returns-in-NotBlank-clause-formats
 returns-in-NotBlank-clause-formats g c here =
-    in_use_there _ _ _ _
+    in_use_there _ _ _ _ _
     (record {
       beside = refl;
       still = record { told = refl; size = c.in-NotBlank.ensures.size; reads = λ t. (c.in-NotBlank.ensures.not_blank t).1.reads };
@@ -64,7 +63,7 @@ returns-in_err-ready-clause-settled g c t settled never = settled
 
 pub returns-in-Done-clause-settled : goal.returns-in-Done-clause-settled
 returns-in-Done-clause-settled g c t =
-    formats_settled c.sound_laws.ensures _ c.args.layout.now c.args.key.now _ formatted.Done _ _ _ _
+    formats_settled c.sound_laws.ensures _ c.args.frame c.args.layout.now c.args.key.now _ formatted.Done _ _ _ _
     (subst (IsFlash (g.D.Disk.flash c.format.new.disk)) c.in-Done.ensures.size (g.met.D.Disk.obeys c.format.new.disk t)) c.in-Done.ensures.counts
     (c.in-Done.ensures.not_blank t) (c.in-Done.ensures.formatted t) (c.in-Done.ensures.settled t)
 
@@ -73,6 +72,3 @@ returns-in-NotBlank-clause-settled g c t = looked _ _ _ _ _ (g.met.D.Disk.obeys 
 
 pub returns-in-FlashFault-clause-settled : goal.returns-in-FlashFault-clause-settled
 returns-in-FlashFault-clause-settled g c t settled never = absurd (never c.in-FlashFault.ensures.counts)
-
-pub format-requires-clause-frame : goal.format-requires-clause-frame
-format-requires-clause-frame g c = version_1 (g.D.Disk.extent c.args.flash.now) c.requires.large

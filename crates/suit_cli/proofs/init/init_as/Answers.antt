@@ -1,5 +1,6 @@
 use Rattle.std.proofs.Common.{ℕ, ◌≤◌, List, length, Ok, Err, sym, ap, subst, ◌∙◌}
 use Rattle.flash_layout.specs.declared.frame.TheConstants.{VERSION_1}
+use Rattle.flash_layout.specs.Frames.{IsFrame, head_size}
 use Rattle.flash_layout.specs.Layouts.{IsLayout}
 use Rattle.suit_cli.specs.Stages.{Goes}
 use Rattle.suit_cli.specs.Devices.{key_of}
@@ -26,14 +27,19 @@ returns-in_err-layout-clause-any_moment g c told = not_yet _ _ _ (still _)
 pub returns-in_err-key_bytes-clause-answer : goal.returns-in_err-key_bytes-clause-answer
 returns-in_err-key_bytes-clause-answer g c =
     Goes c.in_ok-bytes.bytes _ _ (c.in_ok-bytes.ensures _)
-    (Goes c.in_ok-layout.layout _ _ (device_of c.args.size _ _ c.as_slice.ensures (Ok c.in_ok-layout.layout) c.in_ok-layout.ensures.finds _)
+    (Goes (c.in_ok-layout.layout, c.in_ok-layout.frame) _ _ (device_of c.args.size _ _ c.as_slice.ensures (Ok (c.in_ok-layout.layout, c.in_ok-layout.frame)) c.in_ok-layout.ensures.finds _)
     (ends_there _ _ _ _ c.from_residual-in_err-key_bytes.result c.in_err-key_bytes.field-0.0 c.from_residual-in_err-key_bytes.ensures.1 (c.in_err-key_bytes.ensures _)))
 
 pub returns-in_err-key_bytes-clause-any_moment : goal.returns-in_err-key_bytes-clause-any_moment
 returns-in_err-key_bytes-clause-any_moment g c told = not_yet _ _ _ (still _)
 
 pub formats-requires-clause-layout : goal.formats-requires-clause-layout
-formats-requires-clause-layout g c = subst (λ (n : ℕ). IsLayout VERSION_1 n c.in_ok-layout.layout) c.requires.size c.in_ok-layout.ensures.allowed
+formats-requires-clause-layout g c = subst (λ (n : ℕ). IsLayout c.in_ok-layout.frame n c.in_ok-layout.layout) c.requires.size c.in_ok-layout.ensures.allowed
+
+pub formats-requires-clause-frame : goal.formats-requires-clause-frame
+formats-requires-clause-frame g c =
+    subst (λ (n : ℕ). IsFrame n c.in_ok-layout.frame) c.requires.size
+    (c.in_ok-layout.ensures.placed (subst (λ (n : ℕ). head_size VERSION_1 ≤ n) (sym c.requires.size) c.requires.large))
 
 pub key_of-key-requires-clause-some : goal.key_of-key-requires-clause-some
 key_of-key-requires-clause-some g c = subst (λ (l : List ℕ). 1 ≤ length l) (sym c.as_slice-2.ensures) (some_bytes _ (c.in_ok-key_bytes.ensures anywhere.flash).1.some)
@@ -48,9 +54,9 @@ returns-clause-answer g c =
     let first = outside_at h.told (h.file c.read.new.host) (h.pulled c.read.new.host) (h.asked c.read.new.host) (h.faults c.read.new.host) (flash_at d.told (d.extent c.args.flash.now) (d.flash c.args.flash.now).reads (d.faults c.args.flash.now)) in
     let here = outside_at h.told (h.file c.read_key.new.host) (h.pulled c.read_key.new.host) (h.asked c.read_key.new.host) (h.faults c.read_key.new.host) anywhere.flash in
     Goes c.in_ok-bytes.bytes _ _ (c.in_ok-bytes.ensures _)
-    (Goes c.in_ok-layout.layout _ _ (device_of c.args.size _ _ c.as_slice.ensures (Ok c.in_ok-layout.layout) c.in_ok-layout.ensures.finds first)
+    (Goes (c.in_ok-layout.layout, c.in_ok-layout.frame) _ _ (device_of c.args.size _ _ c.as_slice.ensures (Ok (c.in_ok-layout.layout, c.in_ok-layout.frame)) c.in_ok-layout.ensures.finds first)
     (Goes c.in_ok-key_bytes.key_bytes _ _ (c.in_ok-key_bytes.ensures _)
-    (by_key c.in_ok-layout.layout _ _ (c.key_of-key.ensures.is ∙ ap key_of c.as_slice-2.ensures) _ _ _ (c.formats.ensures.formats here))))
+    (by_key c.in_ok-layout.frame c.in_ok-layout.layout _ _ (c.key_of-key.ensures.is ∙ ap key_of c.as_slice-2.ensures) _ _ _ (c.formats.ensures.formats here))))
 
 pub returns-clause-any_moment : goal.returns-clause-any_moment
 returns-clause-any_moment g c told =
@@ -58,9 +64,9 @@ returns-clause-any_moment g c told =
     let middle = outside_at h.told (h.file c.read.new.host) (h.pulled c.read.new.host) (h.asked c.read.new.host) (h.faults c.read.new.host) anywhere.flash in
     let one = c.in_ok-bytes.ensures anywhere.flash in
     let two = c.in_ok-key_bytes.ensures anywhere.flash in
-    formats_by c.args.size _ c.args.device.now c.args.key_name.now c.in_ok-bytes.bytes c.in_ok-key_bytes.key_bytes c.in_ok-layout.layout _ _ _ c.requires.size
-    (as_seen _ anywhere.flash _ _ _ one.1) (device_of c.args.size _ _ c.as_slice.ensures (Ok c.in_ok-layout.layout) c.in_ok-layout.ensures.finds anywhere).1 (key_seen _ middle anywhere.flash one.0.quiet.told one.0.quiet.files _ _ two.1)
-    (way_by_key _ c.in_ok-layout.layout _ _ (c.key_of-key.ensures.is ∙ ap key_of c.as_slice-2.ensures) _ _ (c.formats.ensures.any_moment told))
+    formats_by c.args.size _ c.args.device.now c.args.key_name.now c.in_ok-bytes.bytes c.in_ok-key_bytes.key_bytes c.in_ok-layout.layout c.in_ok-layout.frame _ _ _ c.requires.size
+    (as_seen _ anywhere.flash _ _ _ one.1) (device_of c.args.size _ _ c.as_slice.ensures (Ok (c.in_ok-layout.layout, c.in_ok-layout.frame)) c.in_ok-layout.ensures.finds anywhere).1 (key_seen _ middle anywhere.flash one.0.quiet.told one.0.quiet.files _ _ two.1)
+    (way_by_key c.in_ok-layout.frame _ c.in_ok-layout.layout _ _ (c.key_of-key.ensures.is ∙ ap key_of c.as_slice-2.ensures) _ _ (c.formats.ensures.any_moment told))
 
 pub returns-in_err-bytes-clause-settled : goal.returns-in_err-bytes-clause-settled
 returns-in_err-bytes-clause-settled g c told settled never = settled

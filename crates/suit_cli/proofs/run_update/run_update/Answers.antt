@@ -4,10 +4,8 @@ use Rattle.suit_cli.specs.Launching.{Launching}
 use Rattle.suit_cli.specs.Coming.{ended_of}
 use Rattle.admission.specs.Admission.{admission_of}
 use Rattle.flash_layout.specs.declared.frame.Frame.{Frame}
-use Rattle.flash_layout.specs.FirstFrame.{is_first, to_first}
+use Rattle.flash_layout.specs.FirstFrame.{to_first}
 use Rattle.flash_layout.specs.Frames.{most}
-use Rattle.flash_layout.specs.ToldFrames.{allowed_by, by_version_1}
-use Rattle.suit_cli.proofs.StatusLines.{found_first}
 use Rattle.suit_cli.proofs.Chains.{anywhere, flash_at, outside_at}
 use Rattle.suit_cli.proofs.Sounding.{allowed_after, held_after, settled_later}
 use Rattle.suit_cli.proofs.UpdateAnswers.{accepted_as, comes_updated, keeps_as, keeps_since, unaccepted_as, unaccepted_update, unconfigured_update, unread_update, updates_as}
@@ -27,7 +25,7 @@ pub returns-in-Err-read-clause-answer : goal.returns-in-Err-read-clause-answer
 returns-in-Err-read-clause-answer g c =
     let h = g.H.Host in
     let here = outside_at h.told (h.file c.args.host.now) (h.pulled c.args.host.now) (h.asked c.args.host.now) (h.faults c.args.host.now) anywhere.flash in
-    unread_update c.args.name.now c.args.uris.now _ _ c.in-Ok.config.0 c.in-Ok.config.1 _ (found_first _ _ c.in-Ok.config (c.in-Ok.ensures.finds here)) _ c.in-Err-read.stop (c.in-Err-read.ensures _)
+    unread_update c.args.name.now c.args.uris.now _ _ c.in-Ok.config.0 c.in-Ok.config.1 c.in-Ok.config.2 _ (c.in-Ok.ensures.finds here) _ c.in-Err-read.stop (c.in-Err-read.ensures _)
 
 pub returns-in-Err-read-clause-keeps : goal.returns-in-Err-read-clause-keeps
 returns-in-Err-read-clause-keeps g c told settled = c.in-Ok.ensures.same told
@@ -36,7 +34,7 @@ pub returns-in-Err-accept-clause-answer : goal.returns-in-Err-accept-clause-answ
 returns-in-Err-accept-clause-answer g c =
     let h = g.H.Host in
     let here = outside_at h.told (h.file c.args.host.now) (h.pulled c.args.host.now) (h.asked c.args.host.now) (h.faults c.args.host.now) anywhere.flash in
-    unaccepted_update c.args.name.now c.args.uris.now _ _ c.in-Ok.config.0 c.in-Ok.config.1 _ (found_first _ _ c.in-Ok.config (c.in-Ok.ensures.finds here)) c.in-Ok-read.bytes _ (c.in-Ok-read.ensures _) c.in-Err-accept.stop
+    unaccepted_update c.args.name.now c.args.uris.now _ _ c.in-Ok.config.0 c.in-Ok.config.1 c.in-Ok.config.2 _ (c.in-Ok.ensures.finds here) c.in-Ok-read.bytes _ (c.in-Ok-read.ensures _) c.in-Err-accept.stop
     (unaccepted_as c.in-Ok.config.0 c.in-Ok.config.1 _ _ c.as_slice.ensures c.in-Err-accept.stop c.in-Err-accept.ensures.finds _)
 
 pub returns-in-Err-accept-clause-keeps : goal.returns-in-Err-accept-clause-keeps
@@ -75,9 +73,9 @@ pub returns-clause-answer : goal.returns-clause-answer
 returns-clause-answer g c =
     let h = g.H.Host in
     let here = outside_at h.told (h.file c.args.host.now) (h.pulled c.args.host.now) (h.asked c.args.host.now) (h.faults c.args.host.now) anywhere.flash in
-    comes_updated c.args.name.now c.args.uris.now _ _ c.in-Ok.config.0 c.in-Ok.config.1 _ (found_first _ _ c.in-Ok.config (c.in-Ok.ensures.finds here)) c.in-Ok-read.bytes _ (c.in-Ok-read.ensures _) _ _ (admission_of c.in-Ok-accept.accepted)
+    comes_updated c.args.name.now c.args.uris.now _ _ c.in-Ok.config.0 c.in-Ok.config.1 c.in-Ok.config.2 _ (c.in-Ok.ensures.finds here) c.in-Ok-read.bytes _ (c.in-Ok-read.ensures _) _ _ (admission_of c.in-Ok-accept.accepted)
     (accepted_as c.in-Ok.config.0 c.in-Ok.config.1 _ _ c.as_slice.ensures (admission_of c.in-Ok-accept.accepted) (c.in-Ok-accept.ensures.finds anywhere).1) _
-    (updates_as c.in-Ok.config.2 (is_first _ _ c.in-Ok.ensures.allowed.frame_is) c.in-Ok.config.0 _ _ (c.in-Ok-accept.ensures.whole ∙ c.as_slice.ensures) (admission_of c.in-Ok-accept.accepted) c.args.uris.now _ _ _ _ _ c.update_by.ensures.answer)
+    (updates_as c.in-Ok.config.2 c.in-Ok.config.0 _ _ (c.in-Ok-accept.ensures.whole ∙ c.as_slice.ensures) (admission_of c.in-Ok-accept.accepted) c.args.uris.now _ _ _ _ _ c.update_by.ensures.answer)
 
 pub returns-clause-keeps : goal.returns-clause-keeps
 returns-clause-keeps g c told settled =
@@ -91,9 +89,9 @@ returns-clause-keeps g c told settled =
     let m : Launching = record { told = g.L.Launcher.told; launches = g.L.Launcher.launches c.update_by.new.launcher; faults = g.L.Launcher.faults c.update_by.new.launcher } in
     keeps_since c.args.name.now c.args.uris.now l m before middle refl (c.in-Ok-read.ensures anywhere.flash).0.quiet.files (g.D.Disk.extent c.args.flash.now) refl
     (g.D.Disk.flash c.args.flash.now) (g.D.Disk.flash c.config_in.new.flash) (g.D.Disk.flash c.update_by.new.flash)
-    (g.met.D.Disk.obeys c.args.flash.now told) law same c.in-Ok.config.0 c.in-Ok.config.1 (allowed_by _ _ _ _ c.in-Ok.ensures.allowed) (by_version_1 _ _ _ _ _ ((c.in-Ok.ensures.finds anywhere).1 told)) settled c.in-Ok-read.bytes (c.in-Ok-read.ensures _).1
+    (g.met.D.Disk.obeys c.args.flash.now told) law same c.in-Ok.config.0 c.in-Ok.config.1 c.in-Ok.config.2 c.in-Ok.ensures.allowed ((c.in-Ok.ensures.finds anywhere).1 told) settled c.in-Ok-read.bytes (c.in-Ok-read.ensures _).1
     (admission_of c.in-Ok-accept.accepted) (accepted_as c.in-Ok.config.0 c.in-Ok.config.1 _ _ c.as_slice.ensures (admission_of c.in-Ok-accept.accepted) (c.in-Ok-accept.ensures.finds anywhere).1)
-    c.config_laws.ensures.answer (ended_of c.update_by.result) (keeps_as c.in-Ok.config.2 (is_first _ _ c.in-Ok.ensures.allowed.frame_is) c.in-Ok.config.0 _ _ (c.in-Ok-accept.ensures.whole ∙ c.as_slice.ensures) (admission_of c.in-Ok-accept.accepted) c.args.uris.now l m middle (ended_of c.update_by.result)
+    c.config_laws.ensures.answer (ended_of c.update_by.result) (keeps_as c.in-Ok.config.2 c.in-Ok.config.0 _ _ (c.in-Ok-accept.ensures.whole ∙ c.as_slice.ensures) (admission_of c.in-Ok-accept.accepted) c.args.uris.now l m middle (ended_of c.update_by.result)
     (g.D.Disk.flash c.config_in.new.flash) (g.D.Disk.flash c.update_by.new.flash)
     (c.update_by.ensures.keeps told (settled_later _ _ _ law same settled)))
 

@@ -3,7 +3,6 @@ use Rattle.suit_edge.specs.FlashLaws.{same_flash}
 use Rattle.suit_envelope.specs.Trimmed.{trimmed}
 use Rattle.flash_layout.specs.Configs.{ConfigOf, Configured}
 use Rattle.flash_layout.specs.FrameFacts as frames
-use Rattle.flash_layout.specs.ToldFrames.{allowed_by}
 use Rattle.rollback_record.specs.SoundFlash.{Settled}
 use Rattle.admission.specs.Admission.{admission_of}
 use Rattle.step_machine.specs.Fetching.{asked_at}
@@ -71,7 +70,7 @@ returns-clause-answer g c =
         plays = u.plays;
         left = u.left;
         safe = λ td tl.
-            gains_update c.play_laws.ensures.safe c.play_laws.ensures.faulted_safe c.manifest_laws.ensures (g.D.Disk.extent c.args.flash.now) c.args.config.now.2 c.args.config.now.0 c.args.config.now.1 (allowed_by _ _ _ _ c.requires.allowed) c.has_identifiers.ensures
+            gains_update c.play_laws.ensures.safe c.play_laws.ensures.faulted_safe c.manifest_laws.ensures (g.D.Disk.extent c.args.flash.now) c.args.config.now.2 c.args.config.now.0 c.args.config.now.1 c.requires.allowed c.has_identifiers.ensures
             c.args.accepted.now.envelope.whole.now (admission_of c.args.accepted.now) f c.requires.other c.args.uris.now (hosted g.H.Host.told (g.H.Host.file c.args.host.now) (g.H.Host.asked c.args.host.now) (g.H.Host.asked c.update-end.new.host)) (g.D.Disk.flash c.args.flash.now).reads
             (g.L.Launcher.launches c.args.launcher.now) (g.L.Launcher.launches c.update-end.new.launcher) (u.launches td tl);
       },

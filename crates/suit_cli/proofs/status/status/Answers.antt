@@ -2,11 +2,9 @@ use Rattle.std.proofs.Common.{ℕ, List, Ok, Err, refl, sym, subst, ◌∙◌}
 use Rattle.std.specs.List.{All}
 use Rattle.std.specs.Prelude.{◌≤◌, length}
 use Rattle.suit_edge.specs.FlashLaws.{same_flash_then}
-use Rattle.flash_layout.specs.declared.frame.Frame.{Frame}
 use Rattle.flash_layout.specs.declared.layout.Entry.{Entry}
-use Rattle.flash_layout.specs.FirstFrame.{to_first}
-use Rattle.flash_layout.specs.Frames.{most}
 use Rattle.flash_layout.specs.Layouts.{IsEntry}
+use Rattle.step_machine.proofs.Fitting.{few_entries}
 use Rattle.suit_cli.specs.Stages.{Goes, Ends}
 use Rattle.suit_cli.specs.Installed.{IsStatus}
 use Rattle.suit_cli.proofs.Chains.{anywhere, ends_there, lacks_last}
@@ -36,8 +34,7 @@ record_in-requires-clause-held g c told =
 
 pub component_lines-requires-clause-few : goal.component_lines-requires-clause-few
 component_lines-requires-clause-few g c =
-    subst (λ (l : List Entry). length l ≤ 8) (sym c.as_slice.ensures)
-    (to_first _ _ c.in_ok-config.ensures.allowed.frame_is (λ (f : Frame). length c.in_ok-config.config.0 ≤ most f) c.in_ok-config.ensures.allowed.layout_is.few)
+    subst (λ (l : List Entry). length l ≤ 32) (sym c.as_slice.ensures) (few_entries c.in_ok-config.config.2 _ c.in_ok-config.config.0 c.in_ok-config.ensures.allowed.layout_is)
 
 pub component_lines-requires-clause-each : goal.component_lines-requires-clause-each
 component_lines-requires-clause-each g c =
