@@ -1,6 +1,6 @@
 -- Into inner sequences and back, one state after another.
-use Rattle.std.proofs.Common.{◌≡◌, ℕ, Bool, true, false, List, [], ◌∷◌, ◌++◌, refl, sym, ap, ◌∙◌, append_assoc}
-use Rattle.std.proofs.lemmas.List.{append-nil}
+use Rattle.std.proofs.Common.{◌≡◌, ◌<◌, ◌≤◌, ◌+◌, ℕ, zero, suc, Bool, true, false, List, [], ◌∷◌, ◌++◌, length, get_or, set, take, drop, refl, sym, ap, ◌∙◌, append_assoc, arith}
+use Rattle.std.proofs.lemmas.List.{append-nil, drop_all, take_all}
 use Rattle.path_model.specs.Behaviour.{State}
 use Rattle.path_checker.specs.Exploring.{Kept, Stopped, Failures, after_stops}
 use Rattle.path_checker.specs.Inner.{entered, all_entered, left, all_left, resumed, hardened, if_soft, if_hard, softly, hardly, exhausted_at, exhausted}
@@ -9,13 +9,23 @@ use Rattle.path_checker.proofs.Keeping.{after_none, after_both}
 added : {A : Type 0} (n0 n n' front back : List A) → n ≡ n0 ++ front → n' ≡ n ++ back → n' ≡ n0 ++ (front ++ back)
 added {A} n0 n n' front back p q = q ∙ ap (λ (x : List A). x ++ back) p ∙ append_assoc n0 front back
 
-left-push : (s : State) (ks : List Kept) (k : Kept) → all_left s (ks ++ k ∷ []) ≡ all_left s ks ++ left s k ∷ []
-left-push s [] k = refl
-left-push s (x ∷ ks) k = ap (λ (ys : List Kept). left s x ∷ ys) (left-push s ks k)
+left-at : (s : State) (xs : List Kept) (i : ℕ) (d : Kept) → i < length xs
+    → set (all_left s (take i xs) ++ drop i xs) i (left s (get_or (all_left s (take i xs) ++ drop i xs) i d)) ≡ all_left s (take (suc i) xs) ++ drop (suc i) xs
+left-at s [] i d lt = absurd (omega arith)
+left-at s (x ∷ xs) zero d lt = refl
+left-at s (x ∷ xs) (suc i) d lt = ap (λ (ks : List Kept). left s x ∷ ks) (left-at s xs i d (omega arith))
 
-pub left_step : (s : State) (n0 n n' ys : List Kept) (k made : Kept) → n ≡ n0 ++ all_left s ys → n' ≡ n ++ made ∷ [] → made ≡ left s k → n' ≡ n0 ++ all_left s (ys ++ k ∷ [])
-left_step s n0 n n' ys k made so_far pushed is =
-    added n0 n n' (all_left s ys) (made ∷ []) so_far pushed ∙ ap (λ (x : Kept). n0 ++ (all_left s ys ++ x ∷ [])) is ∙ ap (λ (x : List Kept). n0 ++ x) (sym (left-push s ys k))
+pub left_next : (s : State) (xs now : List Kept) (i : ℕ) (d to : Kept) → i < length xs → now ≡ all_left s (take i xs) ++ drop i xs → to ≡ left s (get_or now i d) → set now i to ≡ all_left s (take (i + 1) xs) ++ drop (i + 1) xs
+left_next s xs now i d to lt so_far is =
+    let on : suc i ≡ i + 1 = omega arith in
+    ap (λ (k : Kept). set now i k) is
+    ∙ ap (λ (ks : List Kept). set ks i (left s (get_or ks i d))) so_far
+    ∙ left-at s xs i d lt
+    ∙ ap (λ (n : ℕ). all_left s (take n xs) ++ drop n xs) on
+
+pub left_end : (s : State) (xs now : List Kept) (i : ℕ) → length xs ≤ i → now ≡ all_left s (take i xs) ++ drop i xs → now ≡ all_left s xs
+left_end s xs now i le so_far =
+    so_far ∙ ap (λ (ks : List Kept). all_left s (take i xs) ++ ks) (drop_all i xs le) ∙ append-nil (all_left s (take i xs)) ∙ ap (λ (ks : List Kept). all_left s ks) (take_all i xs le)
 
 entered-push : (s : State) (c : ℕ) (b : Bool) (ks : List Kept) (k : Kept) → all_entered s c b (ks ++ k ∷ []) ≡ all_entered s c b ks ++ entered s c b k ∷ []
 entered-push s c b [] k = refl

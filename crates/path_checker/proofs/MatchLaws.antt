@@ -39,6 +39,19 @@ pub same_lent : (xs more : List (Bor LentMatch)) (x : Bor LentMatch) → more �
 same_lent xs more x pushed =
     subst (λ (ms : List Match). SameMembers ms (match_of x.now ∷ all_lent xs)) (sym (ap all_lent pushed ∙ lent_last xs x)) (same_pushed (match_of x.now) (all_lent xs))
 
+-- one match more than others, where those are the same as some
+pub same_over : (m : Match) (all xs ys : List Match) → SameMembers all (m ∷ xs) → SameMembers xs ys → SameMembers all (m ∷ ys)
+same_over m all xs ys more same any = (
+  λ h. elim ((more any).0 h) [
+    | inl e ↦ inl e
+    | inr i ↦ inr ((same any).0 i)
+  ],
+  λ h. (more any).1 (elim h [
+    | inl e ↦ inl e
+    | inr i ↦ inr ((same any).1 i)
+  ]),
+)
+
 -- ---- one of them
 
 pub lent_at : (xs : List (Bor LentMatch)) (i : ℕ) (d : Bor LentMatch) → i < length xs → In (match_of (get_or xs i d).now) (all_lent xs)
@@ -63,3 +76,23 @@ within_next others xs i d lt so_far here m h =
       | inr (inl e) ↦ subst (λ (x : Match). In x others) e here
       | inr (inr n) ↦ absurd n
     ]
+
+-- ---- each once
+
+first_more : (xs : List (Bor LentMatch)) (i : ℕ) (d : Bor LentMatch) → i < length xs → all_lent (take (i + 1) xs) ≡ all_lent (take i xs) ++ match_of (get_or xs i d).now ∷ []
+first_more xs i d lt = ap all_lent (take_more xs i d lt) ∙ lent_last (take i xs) (get_or xs i d)
+
+-- the next of them too
+pub once_next : (made kept : List Match) (xs : List (Bor LentMatch)) (i : ℕ) (d : Bor LentMatch) → i < length xs → SameMembers kept (all_lent (take i xs)) → SameMembers made (match_of (get_or xs i d).now ∷ kept) → SameMembers made (all_lent (take (i + 1) xs))
+once_next made kept xs i d lt same more =
+    subst (λ (ms : List Match). SameMembers made ms) (sym (first_more xs i d lt)) (λ any. (
+      λ h. elim ((more any).0 h) [
+        | inl e ↦ In-right any (all_lent (take i xs)) (match_of (get_or xs i d).now ∷ []) (inl e)
+        | inr k ↦ In-left any (all_lent (take i xs)) (match_of (get_or xs i d).now ∷ []) ((same any).0 k)
+      ],
+      λ h. (more any).1 (elim (In-cases any (all_lent (take i xs)) (match_of (get_or xs i d).now ∷ []) h) [
+        | inl a ↦ inr ((same any).1 a)
+        | inr (inl e) ↦ inl e
+        | inr (inr n) ↦ absurd n
+      ]),
+    ))

@@ -24,7 +24,7 @@ use Rattle.path_checker.specs.declared.judge_plan.sets.Several.{Several}
 
 abbrev pub event_of : Happened → Event
 event_of (lent.Tried component kind passed) = events.Tried component kind passed
-event_of (lent.Matched component digest size) = events.Matched component digest.now size
+event_of (lent.Matched component own) = match_event component (match_of own.now)
 event_of (lent.Missed component) = events.Missed component
 event_of (lent.Wrote component) = events.Wrote component
 event_of (lent.Covered component own) = covered_event component (match_of own.now)

@@ -11,6 +11,7 @@ use crate::judge_plan::facts::{Facts, Fork, Own};
 use crate::judge_plan::failures::{Failures, stop, stop_also, stop_knowing};
 use crate::judge_plan::happened::{Ended, Happened};
 use crate::judge_plan::kept::{Kept, happens, pass};
+use crate::judge_plan::matches::Match;
 use crate::judge_plan::memory::Memory;
 use std::alloc::AllocError;
 use suit_commands::TestKind;
@@ -95,11 +96,8 @@ fn image_match<'a>(
         None => stop(k, place, Ended::Missed { component }, failed),
         Some(digest) => {
             let size = k.params.size(component);
-            let matched = Happened::Matched {
-                component,
-                digest,
-                size,
-            };
+            let own = Match::lent(memory, place, component, digest, size)?;
+            let matched = Happened::Matched { component, own };
             stop_also(memory, &k, place, Ended::Missed { component }, failed)?;
             pass(memory, k, matched, next)
         }
@@ -216,11 +214,8 @@ fn pass_image_match<'a>(
     match k.params.digest(component) {
         Some(digest) => {
             let size = k.params.size(component);
-            let matched = Happened::Matched {
-                component,
-                digest,
-                size,
-            };
+            let own = Match::lent(memory, place, component, digest, size)?;
+            let matched = Happened::Matched { component, own };
             happens(memory, k, matched)?;
             Ok(true)
         }

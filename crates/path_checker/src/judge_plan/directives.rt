@@ -121,7 +121,7 @@ fn invoke<'a>(
             Err(Halt::Uncovered(Uncovered::copy(memory, k)?))
         }
         Some(digest) => {
-            let own = Match::lent(memory, digest, size)?;
+            let own = Match::lent(memory, place, component, digest, size)?;
             if k.history.has_matched(memory, component, own) {
                 happens(memory, k, Happened::Covered { component, own })?;
                 return Ok(true);

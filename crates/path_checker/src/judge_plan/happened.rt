@@ -17,8 +17,7 @@ pub(crate) enum Happened<'a> {
     },
     Matched {
         component: u32,
-        digest: &'a Digest,
-        size: Option<u64>,
+        own: &'a Match<'a>,
     },
     Missed {
         component: u32,

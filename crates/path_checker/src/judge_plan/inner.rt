@@ -1,7 +1,7 @@
 //! Entering and leaving inner sequences.
 
 ghost use Rattle.std.specs.Prelude.{◌≡◌, ◌<◌, true, [], ◌∷◌, ◌++◌, OnOk, IfOk};
-ghost use Rattle.path_checker.specs.Inner.{entered, all_entered, all_left, resumed, if_soft, if_hard, softly, hardly, exhausted_at, exhausted, restarted, none_inside};
+ghost use Rattle.path_checker.specs.Inner.{entered, all_entered, left, all_left, resumed, if_soft, if_hard, softly, hardly, exhausted_at, exhausted, restarted, none_inside};
 ghost use Rattle.path_checker.specs.Exploring.{after_stops, kept_of, state_of};
 
 use crate::judge_plan::failures::Failures;
@@ -12,6 +12,7 @@ use crate::judge_plan::memory::Memory;
 use crate::judge_plan::selected::Selected;
 use std::alloc::{AllocError, Global};
 use std::marker::Model;
+use std::mem;
 
 /// The state around an inner sequence.
 #[derive(Drop)]
@@ -106,7 +107,39 @@ pub(crate) fn enter_all<'a>(
     Ok(inside)
 }
 
-// Leaves an inner sequence that completed: the parameters stay.
+// Leaves an inner sequence that completed, in place: the parameters stay.
+fn leave_in<'a>(outer: &Outer<'a>, k: &mut Kept<'a>)
+    ensures { k.new ≡ left outer.now k.old }
+{
+    k.selection = outer.selection.copy();
+    k.soft_failure = outer.soft_failure;
+}
+
+// The same in each of the states.
+fn left_all<'a>(outer: &Outer<'a>, from: Vec<Kept<'a>>) -> Vec<Kept<'a>>
+    ensures { result.items ≡ all_left outer.now from.entry.items }
+{
+    let mut now = from;
+    for at in 0..now.len() {
+        leave_in(outer, &mut now[at]);
+    }
+    now
+}
+
+// Adds states to others. Where there are no others, that takes no memory.
+fn add_all<'a>(states: Vec<Kept<'a>>, next: &mut Vec<Kept<'a>>) -> Result<(), AllocError>
+    ensures { OnOk result (next.new.items ≡ next.old.items ++ states.entry.items) }
+{
+    let mut states = states;
+    if next.is_empty() {
+        mem::swap(&mut states, next);
+        return Ok(());
+    }
+    next.append(&mut states)?;
+    Ok(())
+}
+
+// Leaves an inner sequence that completed in these states.
 fn leave_all<'a>(
     outer: &Outer<'a>,
     done: Vec<Kept<'a>>,
@@ -114,13 +147,8 @@ fn leave_all<'a>(
 ) -> Result<(), AllocError>
     ensures { OnOk result (next.new.items ≡ next.old.items ++ all_left outer.now done.entry.items) }
 {
-    for k in done {
-        let mut k = k;
-        k.selection = outer.selection.copy();
-        k.soft_failure = outer.soft_failure;
-        next.push(k)?;
-    }
-    Ok(())
+    let left = left_all(outer, done);
+    add_all(left, next)
 }
 
 /// Leaves a branch that completed, in one state: the selection and the soft failure go back.

@@ -1,7 +1,7 @@
-//! How a match is found among many: by some bits of its fingerprint, and from there as in a search tree. A link that is
-//! missing or wrong costs time alone, since each match that is found is looked at.
+//! How a match is found among many: by some bits of its fingerprint, and from there as in a search tree. Matches are linked when one
+//! is searched, many at once. A link that is missing or wrong costs time alone, since each match that is found is looked at.
 
-ghost use Rattle.std.specs.Prelude.{IsTrue};
+ghost use Rattle.std.specs.Prelude.{◌≡◌, IsTrue, IfSome, None};
 ghost use Rattle.path_checker.specs.Exploring.{In};
 ghost use Rattle.path_checker.specs.Matches.{match_of, all_lent};
 
@@ -10,9 +10,6 @@ use std::alloc::{AllocError, Global};
 
 // How far down a match is searched.
 const DEEPEST: u32 = 576;
-
-// As long as there are so few, the tree begins with the first match.
-const FEW: usize = 16;
 
 // How many matches there are for each of the first links, at most.
 const CROWD: usize = 4;
@@ -77,24 +74,33 @@ enum Place {
     Lost,
 }
 
-/// Where a search ended: at a match that is the wanted one, or where that would be linked.
+/// Where a search ended: at the index of the wanted match, or where that would be linked.
 #[derive(Clone, Copy)]
 pub(crate) struct Ended {
-    pub found: bool,
+    pub found: Option<usize>,
     place: Place,
 }
 
-/// The links to the matches of a list.
+impl Ended {
+    /// Nowhere.
+    pub(crate) fn lost() -> Ended
+        ensures { result.found ≡ None }
+    {
+        Ended {
+            found: None,
+            place: Place::Lost,
+        }
+    }
+}
+
+/// The links to the first matches of a list: to as many as are linked yet.
 #[derive(Drop)]
 pub(crate) struct Links {
     // None, or a power of two.
     first: Vec<Link>,
     below: Vec<Below>,
-}
-
-/// For how many more there is to be room in a list: an eighth where it is full, since many states hold lists.
-pub(crate) fn room_after(len: usize, capacity: usize) -> usize {
-    if len < capacity { 0 } else { len / 8 + 1 }
+    // The fingerprints of all that are linked, each once, added up.
+    sum: u64,
 }
 
 /// Whether the wanted match is at an index.
@@ -105,6 +111,11 @@ pub(crate) fn is_at(all: &[&Match<'_>], at: usize, wanted: &Match<'_>) -> bool
         return false;
     }
     all[at].is_alike(wanted)
+}
+
+// For how many more there is to be room in a list that is full: an eighth, since many states hold lists.
+fn room_after(len: usize, capacity: usize) -> usize {
+    if len < capacity { 0 } else { len / 8 + 1 }
 }
 
 // First links to no match: more than a count.
@@ -122,22 +133,36 @@ fn first_links(alloc: Global, count: usize) -> Result<Vec<Link>, AllocError> {
 }
 
 impl Links {
-    /// To the only match of a list.
-    pub(crate) fn to_one(alloc: Global, own: &Match<'_>) -> Result<Links, AllocError> {
-        let mut links = Links {
+    /// To none. Takes no memory.
+    pub(crate) fn none(alloc: Global) -> Links {
+        Links {
             first: Vec::new(alloc),
             below: Vec::new(alloc),
-        };
-        links.link(own, Place::First)?;
-        Ok(links)
+            sum: 0,
+        }
     }
 
-    /// The same, in memory of their own, with room for one more.
+    /// To none yet, with room for so many.
+    pub(crate) fn for_many(alloc: Global, count: usize) -> Result<Links, AllocError> {
+        Ok(Links {
+            first: first_links(alloc, count)?,
+            below: Vec::with_capacity(alloc, count)?,
+            sum: 0,
+        })
+    }
+
+    /// The same, in memory of their own.
     pub(crate) fn copy(&self, alloc: Global) -> Result<Links, AllocError> {
-        let first = Vec::from_slice(alloc, &self.first)?;
-        let mut below = Vec::with_capacity(alloc, self.below.len().saturating_add(1))?;
-        below.extend_from_slice(&self.below)?;
-        Ok(Links { first, below })
+        Ok(Links {
+            first: Vec::from_slice(alloc, &self.first)?,
+            below: Vec::from_slice(alloc, &self.below)?,
+            sum: self.sum,
+        })
+    }
+
+    /// The fingerprints of all that are linked, each once, added up.
+    pub(crate) fn sum(&self) -> u64 {
+        self.sum
     }
 
     // Which of the first links leads to a match.
@@ -149,7 +174,7 @@ impl Links {
     fn first_link(&self, wanted: &Match<'_>) -> Link {
         match self.first.get(self.first_of(wanted)) {
             Some(link) => *link,
-            None => Link::to(0, wanted),
+            None => Link::none(),
         }
     }
 
@@ -162,50 +187,31 @@ impl Links {
         }
     }
 
-    /// Searches a match in the list.
+    /// Searches a match among those of the list that are linked.
     pub(crate) fn search(&self, all: &[&Match<'_>], wanted: &Match<'_>) -> Ended
-        ensures { IsTrue result.found → In (match_of wanted.now) (all_lent all.now) }
+        ensures { IfSome result.found (λ at. In (match_of wanted.now) (all_lent all.now)) }
     {
         let mut link = self.first_link(wanted);
         let mut place = Place::First;
         for depth in 0..DEEPEST {
             let Some(at) = link.index() else {
-                return Ended {
-                    found: false,
-                    place,
-                };
+                return Ended { found: None, place };
             };
             if link.may_be(wanted) && is_at(all, at, wanted) {
-                return Ended { found: true, place };
+                return Ended {
+                    found: Some(at),
+                    place,
+                };
             }
             let one = wanted.goes_one(depth);
             place = Place::Below { at, one };
             link = self.next(at, one);
         }
-        Ended {
-            found: false,
-            place: Place::Lost,
-        }
+        Ended::lost()
     }
 
-    /// The index at which a search for a match ended, if it was found.
-    pub(crate) fn found_at(&self, ended: Ended, wanted: &Match<'_>) -> Option<usize> {
-        if !ended.found {
-            return None;
-        }
-        match ended.place {
-            Place::First => self.first_link(wanted).index(),
-            Place::Below { at, one } => self.next(at, one).index(),
-            Place::Lost => None,
-        }
-    }
-
-    // Links the next match of a list where a search for it ended.
-    fn link(&mut self, own: &Match<'_>, place: Place) -> Result<(), AllocError> {
-        let link = Link::to(self.below.len(), own);
-        let room = room_after(self.below.len(), self.below.capacity());
-        self.below.reserve_exact(room)?;
-        self.below.push(Below::none())?;
+    // Leads to a match from a place.
+    fn lead(&mut self, own: &Match<'_>, place: Place, link: Link) {
         match place {
             Place::First => {
                 let index = self.first_of(own);
@@ -224,35 +230,37 @@ impl Links {
             }
             Place::Lost => {}
         }
+    }
+
+    /// Links the next match of a list where a search for it ended. One that was found is there twice, and is linked once.
+    pub(crate) fn link(&mut self, own: &Match<'_>, ended: Ended) -> Result<(), AllocError> {
+        let link = Link::to(self.below.len(), own);
+        let room = room_after(self.below.len(), self.below.capacity());
+        self.below.reserve_exact(room)?;
+        self.below.push(Below::none())?;
+        if ended.found.is_none() {
+            self.sum = self.sum.wrapping_add(own.print());
+            self.lead(own, ended.place, link);
+        }
         Ok(())
     }
 
-    // To each of a list, by many first links.
-    fn to_all(alloc: Global, all: &[&Match<'_>]) -> Result<Links, AllocError> {
-        let mut links = Links {
-            first: first_links(alloc, all.len())?,
-            below: Vec::with_capacity(alloc, all.len())?,
-        };
-        for own in all {
-            let ended = links.search(all, own);
-            links.link(own, ended.place)?;
+    // To none yet, where there are too few first links for so many matches.
+    fn widen(&mut self, alloc: Global, count: usize) -> Result<(), AllocError> {
+        if count / CROWD >= self.first.len() {
+            *self = Links::for_many(alloc, count)?;
         }
-        Ok(links)
+        Ok(())
     }
 
-    /// Links the last match of a list, where a search for it ended among those before it. Where they have become many, all are
-    /// linked anew.
-    pub(crate) fn add(
-        &mut self,
-        alloc: Global,
-        all: &[&Match<'_>],
-        own: &Match<'_>,
-        ended: Ended,
-    ) -> Result<(), AllocError> {
-        if all.len() > FEW && all.len() / CROWD > self.first.len() {
-            *self = Links::to_all(alloc, all)?;
-            return Ok(());
+    /// Links all matches of a list that are not linked yet.
+    pub(crate) fn reach(&mut self, alloc: Global, all: &[&Match<'_>]) -> Result<(), AllocError> {
+        self.widen(alloc, all.len())?;
+        let linked = self.below.len().min(all.len());
+        for own in &all[linked..] {
+            let ended = self.search(all, own);
+            self.link(own, ended)?;
         }
-        self.link(own, ended.place)
+        Ok(())
     }
 }

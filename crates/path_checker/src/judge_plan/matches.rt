@@ -2,14 +2,15 @@
 
 ghost use Rattle.std.specs.Prelude.{◌≡◌, ◌↔◌, [], ◌∷◌, IsTrue, IfSome, IfOk, OnOk};
 ghost use Rattle.path_checker.specs.Exploring.{In};
-ghost use Rattle.path_checker.specs.Matches.{Match as TheMatch, match_of, match_event, covered_event, SameMembers};
+ghost use Rattle.path_checker.specs.Matches.{Match as TheMatch, match_of, all_lent, match_event, covered_event, SameMembers};
 
 use crate::judge_plan::fingerprint::{mixed, of_bytes};
-use crate::judge_plan::links::{Ended, Links, is_at, room_after};
+use crate::judge_plan::links::{Ended, Links, is_at};
 use crate::judge_plan::memory::Memory;
 use crate::judge_plan::same_param::same_digest;
 use path_model::Event;
 use std::alloc::{AllocError, Global};
+use std::cell::Cell;
 use std::hash::{DefaultHasher, Hasher};
 use std::marker::Model;
 use std::rc::Rc;
@@ -42,7 +43,13 @@ fn number_of(digest: &Digest, size: Option<u64>) -> u64 {
 const ALL: usize = 8;
 
 // As many matches as are searched among all at most. Then they are forgotten, and equal ones may be made anew.
-const MANY: usize = 65_536;
+const MANY: usize = 32_768;
+
+// So few are looked through one by one, and each is there once.
+const FEW: usize = 16;
+
+// As soon as there are so many, those that are there twice are dropped.
+const FULL: usize = 256;
 
 // A bit of a digest. Behind the last one they come again.
 fn bit_of(digest: &Digest, depth: u32) -> Option<bool> {
@@ -87,8 +94,28 @@ impl<'a> Match<'a> {
         Ok(lent)
     }
 
-    /// In memory that all states share. The one used last of those with its number is looked at first.
+    /// In memory that all states share. The one that the command at the place told last at the component is looked at first.
     pub(crate) fn lent(
+        memory: Memory<'a>,
+        place: u64,
+        component: u32,
+        digest: &'a Digest,
+        size: Option<u64>,
+    ) -> Result<&'a Match<'a>, AllocError>
+        ensures { IfOk result (λ own. match_of own.now ≡ (digest.now, size)) }
+    {
+        if let Some(last) = memory.told_at(place, component) {
+            if last.is_of(digest, size) {
+                return Ok(last);
+            }
+        }
+        let own = Match::used(memory, digest, size)?;
+        memory.keep_told(place, component, own)?;
+        Ok(own)
+    }
+
+    // In memory that all states share. Those used last with its number are looked at first.
+    fn used(
         memory: Memory<'a>,
         digest: &'a Digest,
         size: Option<u64>,
@@ -152,6 +179,11 @@ impl<'a> Match<'a> {
         self.print == other.print && self.is(other)
     }
 
+    /// The fingerprint.
+    pub(crate) fn print(&self) -> u64 {
+        self.print
+    }
+
     /// Some bits of the fingerprint.
     pub(crate) fn middle(&self) -> usize {
         ((self.print >> 32) & 0x00ff_ffff) as usize
@@ -171,13 +203,16 @@ impl<'a> Match<'a> {
     }
 }
 
-// Some matches, each once.
+// Some matches. Where they are many, some may be there twice.
 #[derive(Drop)]
 struct Matches<'a> {
+    alloc: Global,
     all: Vec<&'a Match<'a>>,
-    links: Links,
-    // The fingerprints of all matches, added up.
+    links: Cell<Links>,
+    // The fingerprints of all, added up.
     sum: u64,
+    // As soon as there are so many, those that are there twice are dropped.
+    full: usize,
 }
 
 impl<'a> Model for Matches<'a> {
@@ -189,47 +224,107 @@ impl<'a> Model for Matches<'a> {
     ghost view = { λ a. all_lent a.all.items };
 }
 
+// For how many more there is to be room in a list: an eighth where it is full and long, since many states hold lists.
+fn room_after(len: usize, capacity: usize) -> usize {
+    if len < capacity {
+        return 0;
+    }
+    if len < FULL {
+        return len.max(4);
+    }
+    len / 8 + 1
+}
+
+// Where a match stands in a list, by looking through it.
+fn index_in(all: &[&Match<'_>], wanted: &Match<'_>) -> Option<usize>
+    ensures { IfSome result (λ at. In (match_of wanted.now) (all_lent all.now)) }
+{
+    for at in 0..all.len() {
+        if is_at(all, at, wanted) {
+            return Some(at);
+        }
+    }
+    None
+}
+
 impl<'a> Matches<'a> {
-    // One alone.
-    fn of(alloc: Global, own: &'a Match<'a>) -> Result<Matches<'a>, AllocError>
-        ensures { IfOk result (λ held. held ≡ match_of own.now ∷ []) }
+    // None.
+    fn none(alloc: Global) -> Matches<'a>
+        ensures { result ≡ [] }
     {
-        let mut all = Vec::new(alloc);
-        all.push(own)?;
-        let links = Links::to_one(alloc, own)?;
+        Matches {
+            alloc,
+            all: Vec::new(alloc),
+            links: Cell::new(Links::none(alloc)),
+            sum: 0,
+            full: FULL,
+        }
+    }
+
+    // None, with room for so many.
+    fn for_many(alloc: Global, count: usize) -> Result<Matches<'a>, AllocError>
+        ensures { IfOk result (λ held. held ≡ []) }
+    {
+        let links = Links::for_many(alloc, count)?;
         Ok(Matches {
-            all,
-            links,
-            sum: own.print,
+            alloc,
+            all: Vec::with_capacity(alloc, count.saturating_add(1))?,
+            links: Cell::new(links),
+            sum: 0,
+            full: FULL,
         })
     }
 
     // The same, in memory of its own, with room for one more.
-    fn copy(&self, alloc: Global) -> Result<Matches<'a>, AllocError>
+    fn copy(&self) -> Result<Matches<'a>, AllocError>
         ensures { IfOk result (λ held. held ≡ self.now) }
     {
-        let mut all = Vec::with_capacity(alloc, self.all.len().saturating_add(1))?;
+        let mut all = Vec::with_capacity(self.alloc, self.all.len().saturating_add(1))?;
         all.extend_from_slice(&self.all)?;
-        let links = self.links.copy(alloc)?;
+        let links = self.links.replace(Links::none(self.alloc));
+        let copied = links.copy(self.alloc);
+        self.links.set(links);
         Ok(Matches {
+            alloc: self.alloc,
             all,
-            links,
+            links: Cell::new(copied?),
             sum: self.sum,
+            full: self.full,
         })
     }
 
-    // Searches a match.
-    fn search(&self, wanted: &Match<'_>) -> Ended
-        ensures { IsTrue result.found → In (match_of wanted.now) self.now }
+    // Where a search for a match ends. All are linked for it; where there is no memory for that, it is not found.
+    fn ended(&self, wanted: &Match<'_>) -> Ended
+        ensures { IfSome result.found (λ at. In (match_of wanted.now) self.now) }
     {
-        self.links.search(self.all.as_slice(), wanted)
+        let all = self.all.as_slice();
+        let mut links = self.links.replace(Links::none(self.alloc));
+        let ended = match links.reach(self.alloc, all) {
+            Ok(()) => links.search(all, wanted),
+            Err(_) => Ended::lost(),
+        };
+        self.links.set(links);
+        ended
+    }
+
+    // Where a match stands.
+    fn search(&self, wanted: &Match<'_>) -> Option<usize>
+        ensures { IfSome result (λ at. In (match_of wanted.now) self.now) }
+    {
+        if self.all.len() > FEW {
+            return self.ended(wanted).found;
+        }
+        index_in(self.all.as_slice(), wanted)
     }
 
     // Whether a match is found.
     fn finds(&self, wanted: &Match<'_>) -> bool
         ensures { IsTrue result → In (match_of wanted.now) self.now }
     {
-        self.search(wanted).found
+        match self.search(wanted) {
+            Some(_) => true,
+            None => false,
+        }
     }
 
     // Whether a match stands where it was found last among those of a component, in any state.
@@ -241,34 +336,114 @@ impl<'a> Matches<'a> {
     }
 
     // Searches a match among those of a component, and keeps where it is found.
-    fn search_kept(&self, memory: Memory<'_>, component: usize, wanted: &Match<'_>) -> Ended
-        ensures { IsTrue result.found → In (match_of wanted.now) self.now }
+    fn search_kept(&self, memory: Memory<'_>, component: usize, wanted: &Match<'_>) -> Option<usize>
+        ensures { IfSome result (λ at. In (match_of wanted.now) self.now) }
     {
-        let ended = self.search(wanted);
-        if let Some(at) = self.links.found_at(ended, wanted) {
+        let found = self.search(wanted);
+        if let Some(at) = found {
             memory.keep_place(wanted.print, component, at);
         }
-        ended
+        found
     }
 
     // Whether a match is found among those of a component: where it was found last, or by a search.
     fn finds_of(&self, memory: Memory<'_>, component: usize, wanted: &Match<'_>) -> bool
         ensures { IsTrue result → In (match_of wanted.now) self.now }
     {
-        self.is_there(memory, component, wanted)
-            || self.search_kept(memory, component, wanted).found
+        if self.is_there(memory, component, wanted) {
+            return true;
+        }
+        match self.search_kept(memory, component, wanted) {
+            Some(_) => true,
+            None => false,
+        }
     }
 
-    // One match more, where a search for it ended.
-    fn put(&mut self, alloc: Global, own: &'a Match<'a>, ended: Ended) -> Result<(), AllocError>
+    // Whether a match is known to be among those of a component. Among many it is not searched.
+    fn may_hold(&self, memory: Memory<'_>, component: usize, wanted: &Match<'_>) -> bool
+        ensures { IsTrue result → In (match_of wanted.now) self.now }
+    {
+        if self.is_there(memory, component, wanted) {
+            return true;
+        }
+        self.all.len() <= FEW && self.finds(wanted)
+    }
+
+    // One match more.
+    fn push(&mut self, own: &'a Match<'a>) -> Result<(), AllocError>
         ensures { OnOk result (SameMembers self.new (match_of own.now ∷ self.old)) }
     {
         let room = room_after(self.all.len(), self.all.capacity());
         self.all.reserve_exact(room)?;
         self.all.push(own)?;
         self.sum = self.sum.wrapping_add(own.print);
-        self.links.add(alloc, self.all.as_slice(), own, ended)?;
         Ok(())
+    }
+
+    // One match more, unless it is found.
+    fn push_once(&mut self, own: &'a Match<'a>) -> Result<(), AllocError>
+        ensures { OnOk result (SameMembers self.new (match_of own.now ∷ self.old)) }
+    {
+        let ended = self.ended(own);
+        match ended.found {
+            Some(_) => Ok(()),
+            None => {
+                self.push(own)?;
+                self.link_last(own, ended)
+            }
+        }
+    }
+
+    // The same, each once.
+    fn once(&self) -> Result<Matches<'a>, AllocError>
+        ensures { IfOk result (λ held. SameMembers held self.now) }
+    {
+        let mut held = Matches::for_many(self.alloc, self.all.len())?;
+        for own in self.all.as_slice() {
+            held.push_once(*own)?;
+        }
+        held.full = held.all.len().saturating_mul(4).max(FULL);
+        Ok(held)
+    }
+
+    // Drops those that are there twice, as soon as there are so many.
+    fn pack(&mut self) -> Result<(), AllocError>
+        ensures { OnOk result (SameMembers self.new self.old) }
+    {
+        if self.all.len() < self.full {
+            return Ok(());
+        }
+        let once = self.once()?;
+        *self = once;
+        Ok(())
+    }
+
+    // One match more of a component, which is not searched.
+    fn put(
+        &mut self,
+        memory: Memory<'a>,
+        component: usize,
+        own: &'a Match<'a>,
+    ) -> Result<(), AllocError>
+        ensures { OnOk result (SameMembers self.new (match_of own.now ∷ self.old)) }
+    {
+        self.pack()?;
+        memory.keep_place(own.print, component, self.all.len());
+        self.push(own)
+    }
+
+    // The fingerprints of all, each once, added up.
+    fn sum(&self) -> u64 {
+        if self.all.len() <= FEW {
+            return self.sum;
+        }
+        let mut links = self.links.replace(Links::none(self.alloc));
+        let sum = match links.reach(self.alloc, self.all.as_slice()) {
+            Ok(()) => links.sum(),
+            Err(_) => self.sum,
+        };
+        self.links.set(links);
+        sum
     }
 
     // The match at an index, if it is the wanted one.
@@ -286,14 +461,12 @@ impl<'a> Matches<'a> {
         None
     }
 
-    // The match at which a search ended, if it is the wanted one.
-    fn found(&self, ended: Ended, wanted: &Match<'_>) -> Option<&'a Match<'a>>
-        ensures { IfSome result (λ made. match_of made.now ≡ match_of wanted.now) }
-    {
-        match self.links.found_at(ended, wanted) {
-            Some(at) => self.at(at, wanted),
-            None => None,
-        }
+    // Links the last match, where a search for it ended among the others.
+    fn link_last(&self, own: &Match<'_>, ended: Ended) -> Result<(), AllocError> {
+        let mut links = self.links.replace(Links::none(self.alloc));
+        let linked = links.link(own, ended);
+        self.links.set(links);
+        linked
     }
 
     // A match in memory that all states share: one of these, or one more.
@@ -301,15 +474,20 @@ impl<'a> Matches<'a> {
         ensures { IfOk result (λ lent. match_of lent.now ≡ match_of own.entry) }
     {
         if let Some(made) = self.at(memory.place(own.print, ALL), &own) {
-            return Ok(made);
-        }
-        let ended = self.search_kept(memory, ALL, &own);
-        if let Some(made) = self.found(ended, &own) {
             memory.count_found();
             return Ok(made);
         }
+        let ended = self.ended(&own);
+        if let Some(at) = ended.found {
+            memory.keep_place(own.print, ALL, at);
+            memory.count_found();
+            if let Some(made) = self.at(at, &own) {
+                return Ok(made);
+            }
+        }
         let lent = memory.events.try_alloc(own)?;
-        self.put(memory.alloc, lent, ended)?;
+        self.push(lent)?;
+        self.link_last(lent, ended)?;
         Ok(lent)
     }
 
@@ -363,7 +541,7 @@ impl<'a> Model for Held<'a> {
     ghost view = { λ a. held_matches a.held };
 }
 
-// One match of a component more, in place or in a copy where they are shared. Where it is found, nothing is copied.
+// One match of a component more, in place or in a copy where they are shared. Where it is known to be there, nothing is copied.
 fn add_shared<'a>(
     held: &mut Rc<Matches<'a>>,
     memory: Memory<'a>,
@@ -372,20 +550,15 @@ fn add_shared<'a>(
 ) -> Result<(), AllocError>
     ensures { OnOk result (SameMembers held.new.value (match_of own.now ∷ held.old.value)) }
 {
-    if held.is_there(memory, component, own) {
+    if held.may_hold(memory, component, own) {
         return Ok(());
     }
-    let ended = held.search_kept(memory, component, own);
-    if ended.found {
-        return Ok(());
-    }
-    let alloc = memory.alloc;
     match Rc::get_mut(held) {
-        Some(all) => all.put(alloc, own, ended),
+        Some(all) => all.put(memory, component, own),
         None => {
-            let mut all = held.copy(alloc)?;
-            all.put(alloc, own, ended)?;
-            *held = Rc::new(alloc, all)?;
+            let mut all = held.copy()?;
+            all.put(memory, component, own)?;
+            *held = Rc::new(memory.alloc, all)?;
             Ok(())
         }
     }
@@ -400,9 +573,9 @@ fn both<'a>(
     ensures { IfOk result
         (λ held. SameMembers held.value (match_of other.now ∷ match_of one.now ∷ [])) }
 {
-    let mut all = Matches::of(alloc, one)?;
-    let ended = all.search(other);
-    all.put(alloc, other, ended)?;
+    let mut all = Matches::none(alloc);
+    all.push(one)?;
+    all.push(other)?;
     let held = Rc::new(alloc, all)?;
     Ok(held)
 }
@@ -456,7 +629,7 @@ impl<'a> Held<'a> {
         match &self.held {
             Holding::Nothing => 0,
             Holding::One(own) => own.print,
-            Holding::Several(all) => all.sum,
+            Holding::Several(all) => all.sum(),
         }
     }
 

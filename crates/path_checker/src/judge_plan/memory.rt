@@ -25,6 +25,12 @@ const READ: u64 = 4_294_967_296;
 // How many of the matches used last, and of where they stand, are kept at most: a power of two.
 const USED: usize = 8_192;
 
+// How many places of commands are kept at most with the match told last there: a power of two.
+const STEPS: usize = 131_072;
+
+// How many matches are told by commands at places that are not kept, before any is.
+const UNKEPT: usize = 16;
+
 // How many matches are made at most without a search among all, and then they are searched again.
 const UNSEARCHED: usize = 1_048_576;
 
@@ -57,11 +63,15 @@ pub(crate) struct Last<'a> {
     // How many are still made without a search among them, and how many were to be at first.
     unsearched: Cell<usize>,
     pause: Cell<usize>,
-    // The matches used last, and how many were searched among all.
+    // The matches used last, each beside its number, and how many were searched among all.
     used: Cell<&'a [Cell<Option<&'a Match<'a>>>]>,
+    numbers: Cell<&'a [Cell<u64>]>,
     searched: Cell<usize>,
-    // Where matches were found last in a list, and how many were searched there.
-    places: Cell<&'a [Cell<usize>]>,
+    // The matches that commands told last, by their places and components, and how many were others.
+    told: Cell<&'a [Cell<Option<&'a Match<'a>>>]>,
+    others: Cell<usize>,
+    // Where matches were found last in a list, each beside bits that tell the match, and how many were searched there.
+    places: Cell<&'a [Cell<u64>]>,
     sought: Cell<usize>,
     // How many states are kept at once.
     states: Cell<usize>,
@@ -124,7 +134,10 @@ impl<'a> Last<'a> {
             unsearched: Cell::new(0),
             pause: Cell::new(0),
             used: Cell::new(&[]),
+            numbers: Cell::new(&[]),
             searched: Cell::new(0),
+            told: Cell::new(&[]),
+            others: Cell::new(0),
             places: Cell::new(&[]),
             sought: Cell::new(0),
             states: Cell::new(0),
@@ -141,9 +154,15 @@ pub(crate) fn place_by(print: u64, way: u32, count: usize) -> usize {
     mixed(print, u64::from(way)) as usize & count.wrapping_sub(1)
 }
 
-// Which of so many places tells where a match of a component stands.
-fn spot_by(print: u64, component: usize, count: usize) -> usize {
-    mixed(print, component as u64) as usize & count.wrapping_sub(1)
+// Tells a match of a component: by the last bits which of the places tells where it stands, by the first ones that it does.
+fn spot_of(print: u64, component: usize) -> u64 {
+    mixed(print, component as u64)
+}
+
+// Which of so many places is that of a command at a component. Those of a component follow one another as the commands do.
+fn step_by(place: u64, component: u32, count: usize) -> usize {
+    let apart = (component as usize).wrapping_mul(count / 8);
+    ((place / 8) as usize).wrapping_add(apart) & count.wrapping_sub(1)
 }
 
 // The first of the two places, of so many, for a number.
@@ -215,10 +234,10 @@ impl<'a> Memory<'a> {
         }
     }
 
-    /// So many matches are forgotten. Where few of them were found, as many are made without a search from now on, and each time
-    /// twice as many.
+    /// So many matches are forgotten. Where less than three times as many were found, as many are made without a search from now on,
+    /// and each time twice as many.
     pub(crate) fn pause_searches(&self, forgotten: usize) {
-        let few = self.last.found.get() < forgotten / 8;
+        let few = self.last.found.get() < forgotten.saturating_mul(3);
         let more = self.last.pause.get().saturating_mul(2).max(forgotten);
         let pause = if few { more.min(UNSEARCHED) } else { 0 };
         self.last.pause.set(pause);
@@ -226,12 +245,42 @@ impl<'a> Memory<'a> {
         self.last.found.set(0);
     }
 
-    /// The match that was used last, or second to last, of those with such a number.
-    pub(crate) fn used(&self, number: u64, second: bool) -> Option<&'a Match<'a>> {
-        let used = self.last.used.get();
-        match used.get(pair_by(number, used.len()) | second as usize) {
+    /// The match that the command at a place told last at a component, in any state.
+    pub(crate) fn told_at(&self, place: u64, component: u32) -> Option<&'a Match<'a>> {
+        let told = self.last.told.get();
+        match told.get(step_by(place, component, told.len())) {
             Some(at) => at.get(),
             None => None,
+        }
+    }
+
+    /// The command at a place tells a match at a component. Where many were others, more are kept from now on.
+    pub(crate) fn keep_told(
+        &self,
+        place: u64,
+        component: u32,
+        own: &'a Match<'a>,
+    ) -> Result<(), AllocError> {
+        let (others, kept) = (self.last.others.get(), self.last.told.get().len());
+        self.last.others.set(others.wrapping_add(1));
+        if others >= kept.max(UNKEPT) && kept < STEPS {
+            let more = self.no_matches(more_places(kept, STEPS))?;
+            self.last.told.set(more);
+        }
+        let told = self.last.told.get();
+        if let Some(at) = told.get(step_by(place, component, told.len())) {
+            at.set(Some(own));
+        }
+        Ok(())
+    }
+
+    /// The match that was used last, or second to last, of those with such a number.
+    pub(crate) fn used(&self, number: u64, second: bool) -> Option<&'a Match<'a>> {
+        let (used, numbers) = (self.last.used.get(), self.last.numbers.get());
+        let index = pair_by(number, used.len()) | second as usize;
+        match (used.get(index), numbers.get(index)) {
+            (Some(at), Some(own)) if own.get() == number => at.get(),
+            _ => None,
         }
     }
 
@@ -242,21 +291,26 @@ impl<'a> Memory<'a> {
         if searched >= kept && kept < USED {
             self.keep_matches(more_places(kept, USED))?;
         }
-        let used = self.last.used.get();
+        let (used, numbers) = (self.last.used.get(), self.last.numbers.get());
         let first = pair_by(number, used.len());
         if let (Some(last), Some(before)) = (used.get(first), used.get(first | 1)) {
             before.set(last.get());
             last.set(Some(own));
+        }
+        if let (Some(last), Some(before)) = (numbers.get(first), numbers.get(first | 1)) {
+            before.set(last.get());
+            last.set(number);
         }
         Ok(())
     }
 
     /// Where a match with such a fingerprint was found last among those of a component, in any state.
     pub(crate) fn place(&self, print: u64, component: usize) -> usize {
+        let spot = spot_of(print, component);
         let places = self.last.places.get();
-        match places.get(spot_by(print, component, places.len())) {
-            Some(at) => at.get(),
-            None => 0,
+        match places.get(spot as usize & places.len().wrapping_sub(1)) {
+            Some(at) if (at.get() ^ spot) >> 32 == 0 => (at.get() & 0xffff_ffff) as usize,
+            _ => usize::MAX,
         }
     }
 
@@ -267,9 +321,10 @@ impl<'a> Memory<'a> {
         if sought >= kept && kept < USED {
             self.more_spots(more_places(kept, USED));
         }
+        let spot = spot_of(print, component);
         let places = self.last.places.get();
-        if let Some(at) = places.get(spot_by(print, component, places.len())) {
-            at.set(index);
+        if let Some(at) = places.get(spot as usize & places.len().wrapping_sub(1)) {
+            at.set(spot & 0xffff_ffff_0000_0000 | index as u64 & 0xffff_ffff);
         }
     }
 
@@ -280,12 +335,20 @@ impl<'a> Memory<'a> {
         }
     }
 
-    // Keeps so many matches from now on.
-    fn keep_matches(&self, count: usize) -> Result<(), AllocError> {
-        let used = self
+    // So many places for a match, and none there.
+    fn no_matches(&self, count: usize) -> Result<&'a [Cell<Option<&'a Match<'a>>>], AllocError> {
+        let places = self
             .events
             .try_alloc_slice_fill_clone(count, Cell::new(None))?;
+        Ok(places)
+    }
+
+    // Keeps so many matches from now on.
+    fn keep_matches(&self, count: usize) -> Result<(), AllocError> {
+        let used = self.no_matches(count)?;
+        let numbers = self.events.try_alloc_slice_fill_clone(count, Cell::new(0))?;
         self.last.used.set(used);
+        self.last.numbers.set(numbers);
         Ok(())
     }
 

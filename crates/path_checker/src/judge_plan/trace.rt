@@ -234,14 +234,7 @@ impl<'a> Told<'a> {
             Happened::Missed { component } => Ok(Told::Missed { component }),
             Happened::Wrote { component } => Ok(Told::Wrote { component }),
             Happened::Failed { place } => Ok(Told::Failed { place }),
-            Happened::Matched {
-                component,
-                digest,
-                size,
-            } => {
-                let own = Match::lent(memory, digest, size)?;
-                Ok(Told::Matched { component, own })
-            }
+            Happened::Matched { component, own } => Ok(Told::Matched { component, own }),
             Happened::Covered { component, own } => Ok(Told::Covered { component, own }),
             Happened::Uncovered {
                 component,

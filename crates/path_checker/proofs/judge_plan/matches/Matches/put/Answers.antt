@@ -1,9 +1,7 @@
-use Rattle.std.proofs.Common.{◌∷◌, List, ap, ◌∙◌, subst}
-use Rattle.path_checker.specs.Matches.{Match, match_of, all_lent, SameMembers}
-use Rattle.path_checker.proofs.MatchLaws.{same_lent}
+use Rattle.std.proofs.lemmas.Result.{on_ok_weaker}
+use Rattle.path_checker.specs.Matches.{match_of}
+use Rattle.path_checker.proofs.MatchLaws.{same_over}
 use Rattle.path_checker.proofs.judge_plan.matches.Matches.put.Goals as goal
 
 pub returns : goal.returns
-returns c =
-    subst (λ (xs : List Match). SameMembers (all_lent c.push.new.self.items) (match_of c.args.own.now ∷ xs)) (ap all_lent c.reserve_exact.ensures.items ∙ c.self.view_is)
-    (same_lent c.reserve_exact.new.self.items c.push.new.self.items c.args.own c.in_ok-push.ensures.items)
+returns c = on_ok_weaker c.push.result (λ pushed. same_over (match_of c.args.own.now) c.push.new.self c.pack.new.self c.args.self.now pushed c.in_ok-pack.ensures) c.push.ensures
