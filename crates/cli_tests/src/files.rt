@@ -14,7 +14,7 @@ one
 {"components":[{"capacity":1024,"id":["00"],"kind":"flash","slots":[49152]}]}
 
 wide
-{"components":[{"capacity":16384,"id":["00"],"kind":"flash","slots":[49152]}]}
+{"components":[{"capacity":10240,"id":["00"],"kind":"flash","slots":[49152]}]}
 
 k
 a key

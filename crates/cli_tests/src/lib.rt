@@ -1,5 +1,5 @@
-//! Tests of the program: sessions of commands, through its top call on objects in memory, and the real objects. They stand apart
-//! from `suit_cli`: a crate that holds its own tests is proved twice.
+//! Tests of the program: sessions of commands, through its top call on objects in memory, and the real objects; and of the draws of
+//! `conformance`. They stand apart: a crate that holds its own tests is proved twice.
 #![tactic(auto)]
 
 #[cfg(test)]

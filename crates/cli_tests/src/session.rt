@@ -106,14 +106,6 @@ fn are_put(put: &[u8], lines: Option<&str>) -> bool {
     }
 }
 
-// The calls of the sink that fail in a row.
-fn sink_fails(row: &Row<'_>) -> &'static [u64] {
-    match row.lines {
-        Some(_) => &[],
-        None => &[0],
-    }
-}
-
 // Whether a run of the row's command ends so.
 fn ends_so<H: Host, D: Disk, L: Launcher>(
     alloc: Global,
@@ -125,7 +117,8 @@ fn ends_so<H: Host, D: Disk, L: Launcher>(
     requires { 49152 ≤ D.extent flash.old }
     ensures { D.extent flash.new ≡ D.extent flash.old }
 {
-    let mut sink = MemorySink::new(alloc, sink_fails(row))?;
+    let fails: &[u64] = if row.lines.is_some() { &[] } else { &[0] };
+    let mut sink = MemorySink::new(alloc, fails)?;
     let status = status_of(alloc, host, flash, launcher, row.command, &mut sink)?;
     Ok(status == row.status && are_put(sink.bytes(), row.lines))
 }

@@ -11,6 +11,3 @@ pub use search::first_other;
 
 /// How many bytes are compared at once.
 const LANES: usize = 32;
-
-#[cfg(test)]
-mod tests;

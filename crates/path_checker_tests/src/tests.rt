@@ -1,6 +1,6 @@
 //! The tests.
 
 mod all_runs;
+mod parts;
 mod same_events;
 mod small_plans;
-mod worked_plans;

@@ -3,6 +3,5 @@
 mod device;
 mod drawing;
 mod drawn;
-mod lent_sequences;
 mod player;
 mod spelled;

@@ -1,5 +1,4 @@
 //! The tests.
 
-mod cuts;
 mod quiet;
 mod swaps;

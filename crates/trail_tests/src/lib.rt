@@ -1,8 +1,6 @@
-//! A trail in memory, and tests of trails.
+//! A trail in memory, which meets `Trail` and tells its list: so the trait's contract can be met.
 #![tactic(auto)]
 
 mod memory_trail;
-#[cfg(test)]
-mod tests;
 
 pub use memory_trail::{MOST_OUTCOMES, MemoryTrail};

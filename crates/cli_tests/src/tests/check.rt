@@ -247,7 +247,55 @@ set 0 3
 set 0 14
 set 0 3
 set 0 14
-invoked 0 ba7816bf8f01cfea414140de5dae2223b00361a396177a9cb410ff61f20015ad 3";
+invoked 0 ba7816bf8f01cfea414140de5dae2223b00361a396177a9cb410ff61f20015ad 3
+
+change another-digest-invoked e.suit
+115 4 582c8414a1035824822f5820 00*32 170f
+47 1 71
+
+check another-digest-invoked
+1
+update safe
+invocation unsafe
+identity 0 vendor none class none device none slot 0
+set 0 3
+set 0 14
+matched 0 ba7816bf8f01cfea414140de5dae2223b00361a396177a9cb410ff61f20015ad 3
+set 0 3
+set 0 14
+set 0 3
+set 0 14
+set 0 3
+invoked 0 0000000000000000000000000000000000000000000000000000000000000000 3
+
+change one-of-two-components-matched e.suit
+115 2 45840cf5
+110 2 46840c8100
+62 4 81410104582e840cf5
+55 4 3aa20282
+47 1 51
+
+check one-of-two-components-matched
+1
+update safe
+invocation unsafe
+identity 0 vendor none class none device none slot 0
+identity 1 vendor none class none device none slot 0
+set 0 3
+set 0 14
+set 1 3
+set 1 14
+matched 0 ba7816bf8f01cfea414140de5dae2223b00361a396177a9cb410ff61f20015ad 3
+set 0 3
+set 0 14
+set 1 3
+set 1 14
+set 0 3
+set 0 14
+set 1 3
+set 1 14
+invoked 0 ba7816bf8f01cfea414140de5dae2223b00361a396177a9cb410ff61f20015ad 3
+invoked 1 ba7816bf8f01cfea414140de5dae2223b00361a396177a9cb410ff61f20015ad 3";
 
 /// A rule broken, of the envelope, the manifest, its commands or parameters.
 const REFUSED: &str = "file e.suit

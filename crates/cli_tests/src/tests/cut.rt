@@ -1,6 +1,6 @@
 //! A second update that is cut off, or of which a call fails, at each call in turn; then a boot, and the update again.
 
-mod after;
+pub(crate) mod after;
 mod faults;
 mod losses;
 pub(crate) mod recorded;

@@ -1,11 +1,8 @@
 //! Updates that stop in their procedure.
 
 use crate::fails::{Fails, Object};
-use crate::files::with_files;
-use crate::session::goes_after;
 use crate::tests::goes::{both_launch, launches, launches_past};
 use std::alloc::{AllocError, Global};
-use suit_edge::{Host, Launcher, MemoryDisk, MemoryLauncher};
 
 const FAILED_MATCH: &str = "run update 1.suit img=abc.img
 0
@@ -249,29 +246,10 @@ ended";
 // The call of the host by which that fetch pulls its third piece.
 const THIRD_PULL: u64 = 24;
 
-// Whether the session goes so on a wider blank flash.
-fn goes_on_wide<H: Host, L: Launcher>(
-    alloc: Global,
-    host: &mut H,
-    launcher: &mut L,
-) -> Result<bool, AllocError> {
-    let mut flash = MemoryDisk::new(alloc, 131_072, &[])?;
-    goes_after(alloc, host, &mut flash, launcher, (WIDE, FAILED_LONG_FETCH))
-}
-
-fn goes_with_third_pull<L: Launcher>(alloc: Global, launcher: &mut L) -> Result<bool, AllocError> {
-    let mut host = with_files(alloc, &[THIRD_PULL])?;
-    goes_on_wide(alloc, &mut host, launcher)
-}
-
-fn fails_in_pieces(alloc: Global) -> Result<bool, AllocError> {
-    let mut launcher = MemoryLauncher::new(alloc, &[])?;
-    let goes = goes_with_third_pull(alloc, &mut launcher)?;
-    Ok(goes && launcher.launches().len() == 1)
-}
-
 #[test]
 fn a_fetch_fails_at_a_later_piece(rt: HostRuntime) -> Result<(), AllocError> {
-    assert!(rt; fails_in_pieces(rt.alloc())?);
+    let third = Fails::of(Object::Host, &[THIRD_PULL]);
+    let sessions = (WIDE, FAILED_LONG_FETCH);
+    assert!(rt; both_launch(rt.alloc(), sessions, third, &[&[b'l'; 10000]])?);
     Ok(())
 }

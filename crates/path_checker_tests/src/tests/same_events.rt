@@ -1,6 +1,5 @@
 //! Whether two events are the same.
 
-use crate::tests::worked_plans::telling;
 use path_model::Event;
 use suit_commands::TestKind;
 use suit_params::{Digest, Param};
@@ -34,6 +33,19 @@ fn is_same_set(of: u32, param: &Param, other: &Event) -> bool {
             param: found,
         } => *component == of && is_same_param(param, found),
         _ => false,
+    }
+}
+
+// A word for the kind of an event, and its component or place. None for a parameter that is set.
+fn telling(event: &Event) -> Option<(&'static str, u64)> {
+    match event {
+        Event::Set { .. } => None,
+        Event::Tried { component, .. } => Some(("tried", *component as u64)),
+        Event::Matched { component, .. } => Some(("matched", *component as u64)),
+        Event::Missed { component } => Some(("missed", *component as u64)),
+        Event::Wrote { component } => Some(("wrote", *component as u64)),
+        Event::Invoked { component, .. } => Some(("invoked", *component as u64)),
+        Event::Failed { place } => Some(("failed", *place)),
     }
 }
 

@@ -5,8 +5,8 @@ ghost use Rattle.suit_commands.specs.Allowed.{IsMember, IsPlan, IsSequence, IsSh
 ghost use Rattle.suit_commands.specs.Plans.{lent_tree, plan_tree};
 
 use crate::tests::all_runs::all_runs;
+use crate::tests::parts::{lend_member, lend_shared, part};
 use crate::tests::same_events::is_same_event;
-use crate::tests::worked_plans::{lend_member, lend_shared, part};
 use path_checker::{CheckVerdict, check};
 use path_model::{BadPath, Event, Identity, first_uncovered};
 use std::alloc::{AllocError, Global};

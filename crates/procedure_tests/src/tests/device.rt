@@ -7,7 +7,7 @@ ghost use Rattle.suit_commands.specs.Numbers.{work_number};
 
 use crate::tests::player::{CAPACITIES, FILE, VENDOR};
 use det_cbor::{Bytes, Text};
-use flash_layout::{Entry, Layout, Memory, Places, Trail, VERSION_1, is_layout};
+use flash_layout::{Entry, Layout, MOST_ENTRIES, Memory, Places, Trail, VERSION_1, is_layout};
 use std::alloc::{AllocError, Global};
 use step_machine::{PlanEnd, Program, SlotChoice, Uris, World, run_plan};
 use suit_edge::{Disk, Edge, MemoryDisk, MemoryHost, MemoryLauncher};
@@ -23,7 +23,9 @@ const PLACES: Places = Places {
     layout_index: [0, 1, 2, 0, 0, 0, 0, 0],
 };
 
-const SLOTS: SlotChoice = SlotChoice { number: [0; 8] };
+const SLOTS: SlotChoice = SlotChoice {
+    number: [0; MOST_ENTRIES],
+};
 
 /// The objects of a device that tell what they have.
 #[derive(Drop)]

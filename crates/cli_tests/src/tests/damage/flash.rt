@@ -60,15 +60,6 @@ fn damage<D: Disk>(flash: &mut D, place: u64, change: u8) -> bool
         && flash.write_at(place, &[byte[0] ^ change]) == Edge::Done
 }
 
-// The images that a command with this status is to launch.
-fn images(command: &str, status: u8) -> &'static [&'static [u8]] {
-    if command == "run boot" && status == 0 {
-        &[b"abc"]
-    } else {
-        &[]
-    }
-}
-
 fn status_with<H: Host, D: Disk, L: Launcher>(
     alloc: Global,
     host: &mut H,
@@ -84,11 +75,13 @@ fn status_with<H: Host, D: Disk, L: Launcher>(
 
 // The status of a command, if it launched the image that is recorded where it is a boot that is done, and nothing else.
 fn launching_status(launcher: &MemoryLauncher, command: &str, status: u8) -> u8 {
-    if are_launched(launcher.launches(), images(command, status)) {
-        status
+    let launches = launcher.launches();
+    let is_right = if command == "run boot" && status == 0 {
+        are_launched(launches, &[b"abc"])
     } else {
-        OTHER_LAUNCHES
-    }
+        launches.is_empty()
+    };
+    if is_right { status } else { OTHER_LAUNCHES }
 }
 
 fn status_of_run<H: Host, D: Disk>(

@@ -1,6 +1,6 @@
 //! Notations of a megabyte, which are read in time linear in their length.
 
-use crate::tests::rows::is_read;
+use crate::tests::notation::rows::is_read;
 use cbor_diag::read_notation;
 use std::alloc::{AllocError, Global};
 

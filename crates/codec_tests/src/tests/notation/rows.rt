@@ -1,6 +1,7 @@
 //! Items and their notations: the bytes of RFC 8949, appendix A, and more. The two columns are the bytes in hexadecimal
 //! and the notation.
 
+use crate::tests::rows::bytes_of;
 use cbor_diag::{NotationFault, notation, read_notation};
 use det_cbor::{Item, decode, encode};
 use std::alloc::{AllocError, Global};
@@ -45,14 +46,6 @@ const OTHER_LETTERS: &str = "
 64f09f9880 -> \"\u{1f600}\"
 66c280e2808b7f -> \"\u{80}\u{200b}\\u007f\"
 ";
-
-/// The bytes of a text in hexadecimal. Another text is an error.
-fn bytes_of(alloc: Global, text: &str) -> Result<Vec<u8>, AllocError> {
-    match hex::decode(alloc, text) {
-        Ok(bytes) => Ok(bytes),
-        Err(_) => Err(AllocError),
-    }
-}
 
 /// Whether a text is read as the item that these bytes spell.
 pub(crate) fn is_read(alloc: Global, text: &str, bytes: &[u8]) -> Result<bool, AllocError> {

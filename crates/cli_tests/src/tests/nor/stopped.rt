@@ -2,11 +2,12 @@
 
 ghost use Rattle.std.specs.Prelude.{◌≡◌, IfOk, IfSome};
 
-use crate::commands::{Ending, FIRST, MADE, UPDATE, all_go, end_of_run, goes_on};
 use crate::files::with_files;
+use crate::tests::cut::after::{Ending, Slots, end_of_run, goes_on};
+use crate::tests::cut::recorded::{ON_TWO, UPDATE, goes_unlaunched};
 use nor_flash::{FuseNor, MemoryNor, NorDisk};
 use std::alloc::{AllocError, Global};
-use suit_edge::{Host, MemoryLauncher};
+use suit_edge::Host;
 
 /// What happens at a call of the device.
 #[derive(Clone, Copy, PartialEq, Eq)]
@@ -46,8 +47,7 @@ fn after_first<H: Host>(
     ensures { IfOk result (λ found. IfSome found (λ nor. nor.blocks ≡ 84)) }
 {
     let mut disk = disk_over(MemoryNor::new(alloc, 84, fails)?, u64::MAX);
-    let mut launcher = MemoryLauncher::new(alloc, &[])?;
-    let done = all_go(alloc, host, &mut disk, &mut launcher, FIRST)?;
+    let done = goes_unlaunched(alloc, host, ON_TWO, &mut disk)?;
     let nor = disk.into_nor().into_nor();
     Ok(if done { Some(nor) } else { None })
 }
@@ -69,7 +69,7 @@ fn end_on<H: Host>(
     }
     match ending {
         Ending::Installed => Ok(Ended::Done),
-        Ending::FlashFault if goes_on(alloc, host, &mut disk)? => Ok(Ended::Told),
+        Ending::FlashFault if goes_on(alloc, host, &mut disk, Slots::Two, &[])? => Ok(Ended::Told),
         _ => Ok(Ended::Wrong),
     }
 }
@@ -105,21 +105,10 @@ fn stops<H: Host>(alloc: Global, host: &mut H, stop: Stop) -> Result<u64, AllocE
     Ok(0)
 }
 
-// Whether both envelopes are made.
-fn makes<H: Host>(alloc: Global, host: &mut H) -> Result<bool, AllocError> {
-    let mut disk = disk_over(MemoryNor::new(alloc, 84, &[])?, u64::MAX);
-    let mut launcher = MemoryLauncher::new(alloc, &[])?;
-    all_go(alloc, host, &mut disk, &mut launcher, MADE)
-}
-
 // At how many calls of the device the second update is stopped so, and all goes on after each; 0 where it does not.
 fn calls(alloc: Global, stop: Stop) -> Result<u64, AllocError> {
-    let mut host = with_files(alloc)?;
-    if makes(alloc, &mut host)? {
-        stops(alloc, &mut host, stop)
-    } else {
-        Ok(0)
-    }
+    let mut host = with_files(alloc, &[])?;
+    stops(alloc, &mut host, stop)
 }
 
 #[test]

@@ -1,8 +1,8 @@
-//! The lane-wise comparisons beside plain loops, at each length up to 130.
+//! Comparisons by lanes beside plain loops, at each length up to 130.
 
 ghost use Rattle.std.specs.Prelude.{◌≤◌};
 
-use crate::{first_other, only_clears, same};
+use lane_bytes::{first_other, only_clears, same};
 
 /// The index of the first byte that differs, byte by byte.
 fn plain_first_other(a: &[u8], byte: u8) -> Option<usize> {

@@ -1,6 +1,5 @@
-//! The tests.
+//! Tests of notations.
 
-mod growing;
 mod large;
 mod refused;
 mod rows;

@@ -1,5 +1,0 @@
-//! Tests of `flash_layout`, over its public calls alone.
-#![tactic(auto)]
-
-#[cfg(test)]
-mod tests;

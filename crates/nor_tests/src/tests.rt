@@ -1,3 +1,0 @@
-mod erasing;
-mod real_file;
-mod stopped;
