@@ -1,6 +1,8 @@
 """Plans made against states that go on alone, by reading how they do: what is never freed beside what is read, what each of them does in its
-tail, tries whose last branch splits, overrides that are told together, and matches whose place is forgotten."""
+tail, tries whose last branch splits, overrides that are told together, matches whose place is forgotten, more matches than are kept,
+identities alone, and lists that are made again and again."""
 
+import against
 from bred import ALL, EACH, EIGHT, IMAGE, INVOKE, MATCH, SWAP, WRITE, again, nested, pick, run, sets, size, tries
 
 CONTENT = sets((18, ("bytes", 0xAA, 1)), (22, 1), (21, ("bytes", 20, 1)))
@@ -149,6 +151,113 @@ def places():
             *START, sets((3, IMAGE)), forks(count), again(9, size(EACH), MATCH, size(("v", 1)), MATCH, WRITE)), "twice", 2
 
 
+# ---- more matches than are kept of those used last: each component has a digest or a size of its own
+
+def digest(number, length=32):
+    return sets((3, ("digest", number, length)))
+
+
+def at_each(count, one):
+    """Something of its own at each of so many components."""
+    return tuple(node for at in range(count) for node in (pick(at), one(at)))
+
+
+def ways_of(count, one):
+    """So many ways, in each of which each of eight components has something of its own."""
+    return tries(*((*at_each(8, lambda at: one(8 * number + at)), MATCH) for number in range(count - 1)), None)
+
+
+DIGESTS = at_each(8, lambda at: digest(at))
+ALL_SIZES = (ALL, again(9, size(EACH), MATCH), pick(0))
+ALL_DIGESTS = (ALL, again(9, sets((3, ("v", ("digest", 300, 32)))), MATCH), pick(0))
+
+
+def distinct():
+    for count in (7, 8):
+        yield "%d forks, then sizes at eight digests" % count, (forks(count), *DIGESTS, *ALL_SIZES), "twice", 8
+    for count in (3, 5):
+        yield "%d forks, then sizes at eight digests, severed" % count, (forks(count), *DIGESTS, *ALL_SIZES), "severed", 8
+    fortieth = tries(*((digest(300 + number), MATCH) for number in range(40)), None)
+    yield "2 forks and 40 digests, then sizes at eight", (*DIGESTS, pick(0), forks(2), fortieth, *ALL_SIZES), "twice", 8
+    for count, ways in ((6, 8), (6, 16), (5, 32)):
+        yield "%d forks, then %d ways of eight sizes, then digests at eight" % (count, ways), (
+            *START_8, forks(count), ways_of(ways, lambda number: size(1_000 + number)), *ALL_DIGESTS), "twice", 8
+    yield "16 ways of eight digests, then sizes at eight", (
+        *START_8, forks(3), ways_of(16, digest), *ALL_SIZES), "twice", 8
+    for count in (15, 20):
+        every = tries(*((digest(300 + number), MATCH) for number in range(count)), None)
+        yield "%d digests, then pairs, severed" % count, (every, again(100, size(EACH), MATCH)), "severed", 2
+    eightieth = tries(*((digest(300 + number), MATCH) for number in range(80)), None)
+    yield "4 forks and 80 digests, then pairs", (forks(4), eightieth, again(100, size(EACH), MATCH)), "twice", 2
+
+
+# ---- identities alone: two conditions in a try each make three states of one, for three steps
+
+IDS = ((1, ("bytes", 7, 16)), (2, ("bytes", 7, 16)), (24, ("bytes", 7, 16)), (5, 9))
+ALL_IDS = (ALL, sets((3, IMAGE), *IDS), pick(0))
+
+
+def asked(*keys):
+    return tries(*((("test", key),) for key in keys), None)
+
+
+def enclosed(node, depth, inside):
+    return node if depth == 0 else inside(enclosed(node, depth - 1, inside))
+
+
+AT_FIVE = (pick(0, 1, 2, 3, 4), sets((3, IMAGE), *IDS), pick(0))
+CELLS = tuple(tries((sets((23, ("bytes", number, 1))), ("test", key)), None) for number, key in ((1, 24), (2, 5)))
+NINE = run(AT_FIVE[0], asked(1, 2), pick(1, 2, 3, 4), asked(24, 5), pick(0), *CELLS)
+
+
+def by_three():
+    ten = (ALL, asked(1, 2), pick(6, 7), asked(24, 5), pick(0))
+    for place in ("twice", "beside"):
+        yield "78,732 states by identity and cell, %s" % place, (*AT_FIVE, NINE), place, 8
+    yield "59,049 states by identity, then an override at two", (*ALL_IDS, run(*ten, pick(0, 1), size(5), pick(0))), "twice", 8
+    yield "59,049 states by identity, all overridden", (*ALL_IDS, run(*ten, ALL, size(5), pick(0))), "twice", 8
+    yield "59,049 states by identity, then 12 more are learnt", (
+        *ALL_IDS, run(ALL, asked(1, 2), pick(0, 1), asked(24, 5)), pick(2, 3, 4, 5, 6, 7), ("test", 24), ("test", 5), pick(0)), "twice", 8
+    yield "15 forks, then 32 identities are learnt", (
+        *ALL_IDS, forks(15), ALL, *(("test", key) for key in (1, 2, 24, 5)), pick(0), again(1, WRITE)), "twice", 8
+    # Each sequence round a fork costs one step and no way, and each state behind it is put back there.
+    eight = (ALL, asked(1, 2), pick(0))
+    for name, inside in (("runs", run), ("tries", lambda one: tries((one,), None))):
+        deep = tuple(enclosed(tries((size(20 + number), MATCH), None), 5, inside) for number in range(3))
+        yield "6,561 states by identity, then 3 forks in five %s" % name, (*ALL_IDS, run(*eight, *deep)), "twice", 8
+        whole = enclosed(run(pick(0, 1, 2, 3), *(asked(key) for key in (1, 2, 24, 5))), 5, inside)
+        yield "16 identities in five %s" % name, (*ALL_IDS, whole, pick(0)), "twice", 8
+    for identities, first in ((10, 5), (12, 0)):
+        yield "%d forks by identity and %d by match from %d on, beside" % (identities, 16 - identities, first), (
+            run(*against.in_turns(identities, 16 - identities, first)),), "beside", 8
+
+
+# ---- lists that are made again and again, and events that are kept twice
+
+def made_again():
+    both = (ALL, CONTENT, sets((3, IMAGE)))
+    for count in (2, 17):
+        matches = tuple(node for number in range(count) for node in (size(number), MATCH))
+        yield "12 forks, then %d matches at two and a swap" % count, (
+            *both, pick(0), forks(12), again(9, pick(0, 1), *matches, pick(0), SWAP)), "twice", 2
+    last = (ALL, sets((3, IMAGE), (18, ("bytes", 0xAA, 1)), (22, 6)), pick(7))
+    turns = (MATCH, size(1), MATCH, WRITE, MATCH, size(2), MATCH, WRITE)
+    yield "12 forks, then two matches and a write at the last of eight", (*last, forks(12), again(9, *turns)), "twice", 8
+    deep = tuple(node for one in against.DEEP for node in (alike(one), MATCH))
+    yield "12 forks, then 22 deep at two and a swap", (*last, forks(12), again(1, pick(6, 7), *deep, pick(7), SWAP)), "twice", 8
+    yield "writes in loops, then a fork, beside", (
+        *START, *looped((100, 100), again(9, WRITE)), tries((size(1), MATCH), None)), "beside", 2
+    for count in (3, 5):
+        yield "%d forks and writes in a run, severed" % count, (*START, run(forks(count), again(9, WRITE))), "severed", 2
+
+
+# ---- each procedure has a width of its own, so what is dear in one comes to what is dear in the other
+
+def along():
+    yield "7 forks, then sizes at eight digests, along", (forks(7), *DIGESTS, *ALL_SIZES), "along", 8
+    yield "78,732 states by identity and cell, along", (*AT_FIVE, NINE), "along", 8
+
+
 def against_alone():
-    for thought in (beside, tails, last_ones, told, places):
+    for thought in (beside, tails, last_ones, told, places, distinct, by_three, made_again, along):
         yield from thought()

@@ -17,9 +17,11 @@ from inputs import byte_string, head, parts_of
 
 WIDEST, LONGEST, LONGEST_FILE = worst.WIDEST, 16_200, 1_040_000
 DEEPEST = 7
-PLACES = ("invoke", "behind", "twice", "severed", "shared", "told", "beside")
+PLACES = ("invoke", "behind", "twice", "severed", "shared", "told", "beside", "along")
 # Overrides of eight keys, which are long when they are read, and each of which takes one step.
 LONG_COUNT = 56_000
+# As many sizes, each matched in 32 states, as the width allows.
+PAIR_COUNT = 65_500
 TESTS, ACTS = (3, 1, 2, 24, 5, 6), (18, 23, 31, 21, 22)
 NUMBERS, IDENTITIES, BYTES = (5, 14, 22), (1, 2, 24), (18, 23, 21)
 LENGTHS = (1, 2, 31, 64, 65, 300, 1_000, 1_100, 1_900, 4_000, 4_096, 4_097, 13_000)
@@ -212,6 +214,12 @@ def long_member():
     return byte_string(head(4, 2 * LONG_COUNT) + one * LONG_COUNT)
 
 
+@functools.lru_cache
+def dear_member():
+    forks = again(5, tries((size(("v", 9_000)), MATCH), None))
+    return byte_string(worst.spelled(commands_of((forks, again(PAIR_COUNT, size(EACH), MATCH), *ENDING))))
+
+
 class Plan:
     """Commands, in which member they stand, and of how many components."""
 
@@ -248,11 +256,11 @@ class Plan:
         if self.place == "severed":
             pairs.append(b"\x14\x82\x2f" + byte_string(hashlib.sha256(spelled[0]).digest()))
             beside = b"\x14" + spelled[0]
-        elif self.place == "beside":
-            # A long member that only the other procedure runs.
-            long = long_member()
-            pairs += [b"\x09" + spelled[0], b"\x14\x82\x2f" + byte_string(hashlib.sha256(long).digest())]
-            beside = b"\x14" + long
+        elif self.place in ("beside", "along"):
+            # A member that only the other procedure runs: a long one, or one that is dear in time.
+            other = long_member() if self.place == "beside" else dear_member()
+            pairs += [b"\x09" + spelled[0], b"\x14\x82\x2f" + byte_string(hashlib.sha256(other).digest())]
+            beside = b"\x14" + other
         elif self.place == "twice":
             pairs.append(b"\x07" + spelled[0])
         elif self.place == "behind":
