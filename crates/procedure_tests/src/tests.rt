@@ -3,5 +3,6 @@
 mod device;
 mod drawing;
 mod drawn;
+mod no_trail;
 mod player;
 mod spelled;

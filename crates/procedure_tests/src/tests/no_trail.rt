@@ -1,0 +1,9 @@
+//! The trail that keeps nothing.
+
+use flash_layout::{NoTrail, Trail};
+
+// So many outcomes that none is left to be kept.
+#[test]
+fn no_trail_tells_the_highest_count(rt: HostRuntime) {
+    assert!(rt; NoTrail.kept() == u64::MAX);
+}
