@@ -3,8 +3,9 @@ use Rattle.std.proofs.Common.{◌≡◌, ℕ, zero, suc, ◌+◌, ◌-◌, ◌*�
 use Rattle.std.specs.List.{slice_range, All}
 use Rattle.std.proofs.lemmas.List.Elements.{All-head, All-tail}
 use Rattle.std.proofs.lemmas.List.{append-nil, length-append, length-replicate}
-use Rattle.flash_layout.specs.declared.frame.TheConstants.{VERSION_1}
+use Rattle.flash_layout.specs.declared.frame.Frame.{Frame}
 use Rattle.flash_layout.specs.declared.layout.Entry.{Entry}
+use Rattle.flash_layout.specs.Frames.{most}
 use Rattle.flash_layout.specs.declared.layout.Memory.{Memory}
 use Rattle.flash_layout.specs.declared.layout.Memory.TheVariants as memory
 use Rattle.flash_layout.specs.declared.key.Key.{Key}
@@ -67,30 +68,30 @@ entry_slice (e ∷ es) before after (suc i) k d typed short inside long =
 -- ---- the page
 
 -- where each component's fields stand in its bytes
-page_placed : ((e : Entry) → IsTypedEntry e → IsShort e → HasEntryPlaces e (entry_bytes e)) → (layout : List Entry) (key : Key) → AreTyped layout key → All IsShort layout → length layout ≤ 8
-    → HasPagePlaces layout key (config_page VERSION_1 layout key)
+page_placed : ((e : Entry) → IsTypedEntry e → IsShort e → HasEntryPlaces e (entry_bytes e)) → (frame : Frame) (layout : List Entry) (key : Key) → AreTyped layout key → All IsShort layout → length layout ≤ most frame
+    → HasPagePlaces frame layout key (config_page frame layout key)
 unfolding config_page
-page_placed placed layout key typed short few =
+page_placed placed frame layout key typed short few =
     let entries = entries_bytes layout in
-    let zeros : List ℕ = replicate (142 * 8 - length entries) 0 in
-    let front : List ℕ = 0xA5 ∷ 1 ∷ key.length ∷ length layout ∷ key.bytes in
+    let zeros : List ℕ = replicate (142 * most frame - length entries) 0 in
+    let front : List ℕ = 0xA5 ∷ frame.version ∷ key.length ∷ length layout ∷ key.bytes in
     let room : length front ≡ 68 = omega (arith, typed.room) in
     let long : length entries ≡ 142 * length layout = entries_long layout typed.entries short in
     let last : length (front ++ entries) ≡ 68 + 142 * length layout = omega (arith, room, long, length-append front entries) in
-    let padding : 142 * 8 - length entries ≡ 1204 - (68 + 142 * length layout) = omega (arith, long) in
+    let padding : 142 * most frame - length entries ≡ (68 + 142 * most frame) - (68 + 142 * length layout) = omega (arith, long) in
     record {
-      long = omega (arith, last, long, few, length-append front (entries ++ zeros), length-append front entries, length-append entries zeros, length-replicate {A = ℕ} (142 * 8 - length entries) 0);
+      long = omega (arith, last, long, few, length-append front (entries ++ zeros), length-append front entries, length-append entries zeros, length-replicate {A = ℕ} (142 * most frame - length entries) 0);
       gate = refl;
       version = refl;
       key_size = refl;
       count = refl;
-      key_bytes = field (0xA5 ∷ 1 ∷ key.length ∷ length layout ∷ []) key.bytes (entries ++ zeros) (front ++ (entries ++ zeros)) 4 68 refl refl typed.room;
+      key_bytes = field (0xA5 ∷ frame.version ∷ key.length ∷ length layout ∷ []) key.bytes (entries ++ zeros) (front ++ (entries ++ zeros)) 4 68 refl refl typed.room;
       each = λ i d inside. subst (HasEntryPlaces (get_or layout i d)) (sym (entry_slice layout front zeros i 68 d typed.entries short inside room))
           (placed (get_or layout i d) (typed.entries i d inside) (short i d inside));
-      rest = field (front ++ entries) zeros [] (front ++ (entries ++ zeros)) (68 + 142 * length layout) 1204
-          (sym (append_assoc front entries zeros) ∙ ap (λ (l : List ℕ). (front ++ entries) ++ l) (sym (append-nil zeros))) last (length-replicate {A = ℕ} (142 * 8 - length entries) 0 ∙ padding)
+      rest = field (front ++ entries) zeros [] (front ++ (entries ++ zeros)) (68 + 142 * length layout) (68 + 142 * most frame)
+          (sym (append_assoc front entries zeros) ∙ ap (λ (l : List ℕ). (front ++ entries) ++ l) (sym (append-nil zeros))) last (length-replicate {A = ℕ} (142 * most frame - length entries) 0 ∙ padding)
           ∙ ap (λ (n : ℕ). replicate n 0) padding;
     }
 
 pub page_places : ((e : Entry) → IsTypedEntry e → IsShort e → HasEntryPlaces e (entry_bytes e)) → PagePlaces
-page_places placed size page layout key typed is = subst (HasPagePlaces layout key) (sym is.is) (page_placed placed layout key typed (short_of VERSION_1 size layout is.allowed) is.allowed.few)
+page_places placed frame size page layout key typed is = subst (HasPagePlaces frame layout key) (sym is.is) (page_placed placed frame layout key typed (short_of frame size layout is.allowed) is.allowed.few)

@@ -207,7 +207,7 @@ entries_long (e ∷ es) typed short =
 -- ---- the page
 
 pub short_of : (frame : Frame) (size : ℕ) (layout : List Entry) → IsLayout frame size layout → All IsShort layout
-short_of frame size layout allowed = All-weaker (IsEntry size) IsShort (λ e is. is.short) layout allowed.each
+short_of frame size layout allowed = All-weaker (IsEntry frame size) IsShort (λ e is. is.short) layout allowed.each
 
 page_fields : (frame : Frame) (layout : List Entry) (key : Key) → AreTyped layout key → All IsShort layout → length layout ≤ most frame → page_at frame (config_page frame layout key) ≡ Ok (layout, key)
 unfolding page_at config_page

@@ -8,6 +8,7 @@ mod Judged
 mod Kept
 mod Laws
 mod Loading
+mod MovedLayout
 mod OneAnswers
 pub mod OneLayout
 mod Overlapping

@@ -1,14 +1,16 @@
 -- An image says one configuration at most.
-use Rattle.std.proofs.Common.{◌≡◌, ℕ, ◌+◌, ◌*◌, List, get_or, refl, sym, ap, subst, ◌∙◌, arith, ⊎_elim}
+use Rattle.std.proofs.Common.{◌≡◌, ◌<◌, ◌≤◌, ℕ, ◌+◌, ◌*◌, List, get_or, length, Option, Some, inl, inr, refl, sym, ap, subst, ◌∙◌, arith, ⊎_elim}
 use Rattle.std.proofs.lemmas.List.Edits.{get_or-between}
 use Rattle.flash_layout.specs.declared.frame.Frame.{Frame}
-use Rattle.flash_layout.specs.declared.frame.TheConstants.{VERSION_1}
 use Rattle.flash_layout.specs.declared.layout.Entry.{Entry}
 use Rattle.flash_layout.specs.declared.key.Key.{Key}
-use Rattle.flash_layout.specs.Frames.{config_page_of, head_of, most}
+use Rattle.flash_layout.specs.FrameFacts.{by_first}
+use Rattle.flash_layout.specs.Frames.{First, IsFrame, Second, config_page_of, head_of, head_size, most}
 use Rattle.flash_layout.specs.ConfigPage.{config_page, IsConfigPage}
 use Rattle.flash_layout.specs.Configs.{Blank, Bad, Configured, IsBlank, IsBad, IsConfigured}
 use Rattle.flash_layout.specs.ConfigLaws.{OneConfig, OneAnswer}
+use Rattle.flash_layout.specs.Formats.{HasOpenGate}
+use Rattle.flash_layout.specs.RootLaws.{second_open}
 
 pub opens : (frame : Frame) (layout : List Entry) (key : Key) → get_or (config_page frame layout key) 0 0 ≡ 0xA5
 unfolding config_page
@@ -19,26 +21,40 @@ gate frame size head layout key page = sym (get_or-between head 0 (68 + 142 * mo
 
 -- of a configured image
 module _ (size : ℕ) (image : List ℕ) (layout : List Entry) (key : Key) (frame : Frame) (is : IsConfigured size image layout key frame) where
-  -- its version's frame is told
-  pub as_version_1 : IsConfigured size image layout key VERSION_1
-  as_version_1 = subst (IsConfigured size image layout key) is.version is
+  gate_by : IsFrame size frame → HasOpenGate image
+  gate_by (First one base room) =
+      let at : frame.base + 0 ≡ 0 = omega (arith, base) in
+      let low : frame.base + 0 < frame.base + head_size frame = omega (arith, by_first frame 49152 147456 one) in
+      inl (ap (λ (k : ℕ). get_or image k 0) (sym at) ∙ sym (get_or-between image frame.base (frame.base + head_size frame) 0 0 low) ∙ gate frame size (head_of frame image) layout key is.page)
+  gate_by (Second two base room low) = inr (second_open image frame is.told two)
 
-  gate_open : get_or image 0 0 ≡ 0xA5
-  gate_open = sym (get_or-between image 0 49152 0 0 (omega arith)) ∙ gate VERSION_1 size (head_of VERSION_1 image) layout key as_version_1.page
+  -- a gate is open
+  pub gate_open : HasOpenGate image
+  gate_open = gate_by is.placed
+
+  large_by : IsFrame size frame → 49152 ≤ length image
+  large_by (First one base room) = omega (arith, is.whole, by_first frame 49152 147456 one)
+  large_by (Second two base room low) = omega (arith, is.whole, base)
+
+  pub large : 49152 ≤ length image
+  large = large_by is.placed
 
   pub blank_configured : IsBlank image → ⊥
-  blank_configured blank = ⊎_elim (λ small. omega (arith, small, as_version_1.whole)) (λ closed. closed gate_open) blank
+  blank_configured blank = ⊎_elim (λ small. omega (arith, small, large)) (λ closed. ⊎_elim closed.0 closed.1 gate_open) blank
 
 blank_bad : (size : ℕ) (image : List ℕ) → IsBlank image → IsBad size image → ⊥
-blank_bad size image blank bad = ⊎_elim (λ small. omega (arith, small, bad.whole)) (λ closed. closed bad.gate) blank
+blank_bad size image blank bad = ⊎_elim (λ small. omega (arith, small, bad.whole)) (λ closed. ⊎_elim closed.0 closed.1 bad.gate) blank
+
+some_same : (a b : Frame) → ◌≡◌ {A = Option Frame} (Some a) (Some b) → a ≡ b
+some_same a b e = cc
 
 pub same_configured : OneConfig → (size : ℕ) (image : List ℕ) (layout others : List Entry) (key other : Key) (frame there : Frame) → IsConfigured size image layout key frame
     → IsConfigured size image others other there → (layout ≡ others) × (key ≡ other) × (frame ≡ there)
 same_configured one size image layout others key other frame there p q =
-    let a = as_version_1 size image layout key frame p in
-    let b = as_version_1 size image others other there q in
-    let same = one VERSION_1 size (config_page_of VERSION_1 (head_of VERSION_1 image)) layout key others other a.typed b.typed a.page b.page in
-    (same.0, same.1, p.version ∙ sym q.version)
+    let frames : there ≡ frame = some_same there frame (sym q.told ∙ p.told) in
+    let page = subst (λ (f : Frame). IsConfigPage f size (config_page_of f (head_of f image)) others other) frames q.page in
+    let same = one frame size (config_page_of frame (head_of frame image)) layout key others other p.typed q.typed p.page page in
+    (same.0, same.1, sym frames)
 
 pub one_answer : OneConfig → OneAnswer
 one_answer one size image Blank Blank p q = refl

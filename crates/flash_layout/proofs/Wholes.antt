@@ -1,5 +1,5 @@
 -- A component that is read is as the rules allow it by itself, but for the size of the flash.
-use Rattle.std.proofs.Common.{◌≡◌, ◌≤◌, ℕ, ◌^◌, ◌-◌, Bool, true, false, true≢false, List, [], ◌∷◌, length, get_or, Option, Some, None, option_and_then, Result, Ok, refl, sym, ap, subst, ◌∙◌, arith}
+use Rattle.std.proofs.Common.{◌≡◌, ◌<◌, ◌≤◌, ℕ, ◌^◌, ◌-◌, Bool, true, false, true≢false, List, [], ◌∷◌, length, get_or, Option, Some, None, option_and_then, Result, Ok, refl, sym, ap, subst, ◌∙◌, arith}
 use Rattle.std.specs.Prelude.{IfSome, nat_le, ◌==◌, slice_index, if◌then◌else◌, codes, All}
 use Rattle.std.specs.Str.{bytes_eq}
 use Rattle.std.proofs.lemmas.Bool.Decides.{nat_tests}
@@ -13,6 +13,7 @@ use Rattle.json_fields.specs.Values.{number_up_to, hex_of, uuid_of}
 use Rattle.json_fields.specs.Pointers.{key_token}
 use Rattle.json_fields.specs.Arrays.{array_of}
 use Rattle.json_fields.specs.Objects.{object_of, required}
+use Rattle.flash_layout.specs.declared.frame.Frame.{Frame}
 use Rattle.flash_layout.specs.declared.frame.TheConstants.{VERSION_1}
 use Rattle.flash_layout.specs.declared.layout.Entry.{Entry}
 use Rattle.flash_layout.specs.declared.layout.Memory.{Memory}
@@ -21,11 +22,12 @@ use Rattle.flash_layout.specs.declared.component_fields.ComponentFields.{Compone
 use Rattle.flash_layout.specs.declared.device_fields.DeviceFields.{DeviceFields}
 use Rattle.flash_layout.specs.declared.starts.Starts.{Starts}
 use Rattle.suit_params.specs.Identifiers.{spelled_id}
-use Rattle.flash_layout.specs.Layouts.{IsInRam, IsOfMemory, IsLayout}
+use Rattle.flash_layout.specs.Layouts.{IsBehindHead, IsInRam, IsOfMemory, IsLayout, slot_size, slot_starts}
 use Rattle.flash_layout.specs.ComponentFields.{short_id, id_of, capacity_limit, some_capacity, capacity_of, no_starts, one_or_two, flash_starts, starts_of, no_component, memory_said, takes_component, starts_in, entry_with, whole, component_of}
-use Rattle.flash_layout.specs.Devices.{some_components, components_of, takes_device, described_layout}
-use Rattle.flash_layout.specs.Overlaps.{IsClearItself, LiesInside}
-use Rattle.flash_layout.specs.LayoutFaults.{AreHeld}
+use Rattle.flash_layout.specs.Devices.{some_components, components_of, frame_with, no_device, takes_device, described_layout}
+use Rattle.flash_layout.specs.Frames.{First, IsFrame, Second, frame_size}
+use Rattle.flash_layout.specs.Overlaps.{IsClearItself, LiesClear, LiesInside}
+use Rattle.flash_layout.specs.LayoutFaults.{AreHeld, HasBaseInside}
 use Rattle.flash_layout.proofs.Kept.{err_not_ok, ok_same, bind_ok, under_ok, found_ok, object_kept, array_kept}
 
 -- ---- single values
@@ -209,14 +211,28 @@ AreRead t = IfSome t.components AreWhole
 
 takes_kept : (t u : DeviceFields) (key : List ℕ) (d : Data) → AreRead t → takes_device t key d ≡ Ok u → AreRead u
 takes_kept t u key d h e =
-    either_kept AreRead (bytes_eq key (codes "components")) _ _
-    (set_kept AreRead (components_of d) (λ entries. record t { components = Some entries }) (λ entries is. components_are d entries is)) (none_kept AreRead) u e
+    either_kept AreRead (bytes_eq key (codes "base")) _ _ (set_kept AreRead (number_up_to (2 ^ 64 - 1) d) (λ base. record t { base = Some base }) (λ base is. h))
+    (either_kept AreRead (bytes_eq key (codes "components")) _ _
+    (set_kept AreRead (components_of d) (λ entries. record t { components = Some entries }) (λ entries is. components_are d entries is)) (none_kept AreRead)) u e
 
-pub described_whole : (d : Data) (layout : List Entry) → described_layout d ≡ Ok layout → AreWhole layout
-described_whole d layout e =
-    let p = bind_ok (object_of takes_device (record { components = None }) d) (λ t. required (codes "components") t.components) layout e in
-    let read = object_kept AreRead takes_device takes_kept d (record { components = None }) p.0 tt p.1 in
-    if_some AreWhole p.0.components layout (required_ok (codes "components") p.0.components layout p.2) read
+-- the components are whole, and the frame is that of a base, or version 1's
+pub record IsDescribed (layout : List Entry) (frame : Frame) : Type 0 where
+  pub whole : AreWhole layout
+  pub base : Option ℕ
+  pub frame_is : frame_with base ≡ frame
+
+pub described_whole : (d : Data) (layout : List Entry) (frame : Frame) → described_layout d ≡ Ok (layout, frame) → IsDescribed layout frame
+described_whole d layout frame e =
+    let p = bind_ok (object_of takes_device no_device d) (λ t. required (codes "components") t.components >>= λ entries. Ok (entries, frame_with t.base)) (layout, frame) e in
+    let q = bind_ok (required (codes "components") p.0.components) (λ entries. Ok (entries, frame_with p.0.base)) (layout, frame) p.2 in
+    let same = ok_same (q.0, frame_with p.0.base) (layout, frame) q.2 in
+    let read = object_kept AreRead takes_device takes_kept d no_device p.0 tt p.1 in
+    let whole = if_some AreWhole p.0.components q.0 (required_ok (codes "components") p.0.components q.0 q.1) read in
+    record {
+      whole = subst AreWhole (ap (λ (x : List Entry × Frame). x.0) same) whole;
+      base = p.0.base;
+      frame_is = ap (λ (x : List Entry × Frame). x.1) same;
+    }
 
 formed_few : (e : Entry) (m : Memory) → IsFormed e m → e.slots ≤ 2
 formed_few e memory.Flash h = h.few
@@ -230,21 +246,34 @@ whole_slots layout h k d lt = whole_few (get_or layout k d) (h.each k d lt)
 
 -- ---- layouts
 
-held_by : (size : ℕ) (e : Entry) (m : Memory) → IsFormed e m → IsClearItself e → (e.memory ≡ m → LiesInside size e) → e.memory ≡ m → IsOfMemory size e m
-held_by size e memory.Flash h clear inside is = (h.some, h.few, h.rest, clear, inside is)
-held_by size e memory.Ram h clear inside is = h
+lies : (frame : Frame) (size : ℕ) (e : Entry) → LiesInside size e → LiesClear frame e → All (λ p. IsBehindHead frame size p (slot_size e)) (slot_starts e)
+lies frame size e inside clear k d lt = let there = inside k d lt in (there.0, there.1, clear k d lt)
 
-pub allowed_layout : (size : ℕ) (layout : List Entry) → AreWhole layout → AreHeld size layout → IsLayout VERSION_1 size layout
-allowed_layout size layout whole held = record {
+held_by : (frame : Frame) (size : ℕ) (e : Entry) (m : Memory) → IsFormed e m → IsClearItself e → LiesInside size e → LiesClear frame e → IsOfMemory frame size e m
+held_by frame size e memory.Flash h clear inside over = (h.some, h.few, h.rest, clear, lies frame size e inside over)
+held_by frame size e memory.Ram h clear inside over = h
+
+pub allowed_layout : (frame : Frame) (size : ℕ) (layout : List Entry) → AreWhole layout → AreHeld frame size layout → IsLayout frame size layout
+allowed_layout frame size layout whole held = record {
   some = whole.some;
   few = held.few;
   each = λ k d lt. let e = get_or layout k d in let w = whole.each k d lt in record {
     short = w.short;
     some = w.some;
-    held = held_by size e e.memory w.formed ((held.clear k lt k (omega arith) lt).itself d refl) (λ _. held.inside k lt d) refl;
+    held = held_by frame size e e.memory w.formed ((held.clear k lt k (omega arith) lt).itself d refl) (held.inside k lt d) (held.base.clear k lt d);
   };
   apart = λ i j d below lt. record {
     other = held.apart i j below lt d;
     clear = (held.clear i (omega (arith, below, lt)) j (omega (arith, below)) lt).others d (omega (arith, below));
   };
 }
+
+-- ---- frames
+
+frame_from : (size : ℕ) (base : Option ℕ) → size < 2 ^ 64 → 49152 ≤ size → HasBaseInside size (frame_with base) → IsFrame size (frame_with base)
+frame_from size None low large inside = First refl refl large
+frame_from size (Some base) low large inside = let there = inside refl in Second refl there.0 there.1 (omega (arith, low, there.1))
+
+pub frame_placed : (size : ℕ) (layout : List Entry) (frame : Frame) → IsDescribed layout frame → size < 2 ^ 64 → 49152 ≤ size → HasBaseInside size frame → IsFrame size frame
+frame_placed size layout frame is low large inside =
+    subst (IsFrame size) is.frame_is (frame_from size is.base low large (subst (HasBaseInside size) (sym is.frame_is) inside))

@@ -1,9 +1,9 @@
 -- The configuration that an image of the flash has: a layout, a key, and the frame that tells where its parts stand.
-use Rattle.std.specs.Prelude.{◌≡◌, ◌⊎◌, ◌<◌, ◌≤◌, ◌+◌, ℕ, List, length}
+use Rattle.std.specs.Prelude.{◌≡◌, ◌⊎◌, ◌<◌, ◌≤◌, ◌+◌, ℕ, List, length, Option, Some, None}
 use Rattle.suit_edge.specs.Faults.{Faulted}
 use Rattle.suit_edge.specs.Gate.{IsOpen}
 use Rattle.flash_layout.specs.declared.frame.Frame.{Frame}
-use Rattle.flash_layout.specs.declared.frame.TheConstants.{CONFIG_GATE, VERSION_1}
+use Rattle.flash_layout.specs.declared.frame.TheConstants.{CONFIG_GATE, HEAD_SIZE, ROOT_GATE}
 use Rattle.flash_layout.specs.declared.layout.Entry.{Entry}
 use Rattle.flash_layout.specs.declared.key.Key.{Key}
 use Rattle.flash_layout.specs.declared.load.Loaded.{Loaded}
@@ -11,27 +11,33 @@ use Rattle.flash_layout.specs.declared.load.Loaded.TheVariants as loaded
 use Rattle.flash_layout.specs.Layouts.{AreTyped, IsLayout, IsKey}
 use Rattle.flash_layout.specs.ConfigPage.{IsConfigPage}
 use Rattle.flash_layout.specs.Frames.{IsFrame, config_page_of, head_of, head_size}
+use Rattle.flash_layout.specs.Roots.{frame_told}
 
 pub data Config : Type 0 where
   Blank : Config
   Bad : Config
   Configured : List Entry → Key → Frame → Config
 
--- a small flash, or a gate that is not open
+-- neither the gate of version 1 nor that of the root is open
+abbrev pub AreGatesClosed : List ℕ → Type 0
+AreGatesClosed image = (IsOpen image CONFIG_GATE → ⊥) × (IsOpen image ROOT_GATE → ⊥)
+
+-- a small flash, or gates that are not open
 abbrev pub IsBlank : List ℕ → Type 0
-IsBlank image = (length image < head_size VERSION_1) ⊎ (IsOpen image CONFIG_GATE → ⊥)
+IsBlank image = (length image < HEAD_SIZE) ⊎ AreGatesClosed image
 
 pub record IsConfigured (size : ℕ) (image : List ℕ) (layout : List Entry) (key : Key)
     (frame : Frame) : Type 0 where
-  pub version : frame ≡ VERSION_1
+  pub placed : IsFrame size frame
+  pub told : frame_told image ≡ Some frame
   pub whole : frame.base + head_size frame ≤ length image
   pub typed : AreTyped layout key
   pub page : IsConfigPage frame size (config_page_of frame (head_of frame image)) layout key
 
--- an open gate before the page of no layout and key
+-- an open gate, and no layout and key
 pub record IsBad (size : ℕ) (image : List ℕ) : Type 0 where
-  pub whole : head_size VERSION_1 ≤ length image
-  pub gate : IsOpen image CONFIG_GATE
+  pub whole : HEAD_SIZE ≤ length image
+  pub gate : IsOpen image CONFIG_GATE ⊎ IsOpen image ROOT_GATE
   pub none : (layout : List Entry) (key : Key) (frame : Frame)
       → IsConfigured size image layout key frame → ⊥
 
@@ -40,6 +46,14 @@ abbrev pub ConfigOf : ℕ → List ℕ → Config → Type 0
 ConfigOf size image Blank = IsBlank image
 ConfigOf size image Bad = IsBad size image
 ConfigOf size image (Configured layout key frame) = IsConfigured size image layout key frame
+
+-- ---- the frame
+
+-- the frame that the root tells, if it is one of a flash of that size
+abbrev pub FrameOf : ℕ → List ℕ → Option Frame → Type 0
+FrameOf size image (Some frame) = IsFrame size frame × (frame_told image ≡ Some frame)
+FrameOf size image None =
+    (frame : Frame) → IsFrame size frame → frame_told image ≡ Some frame → ⊥
 
 -- ---- the answers of a load
 

@@ -1,31 +1,34 @@
--- What holds by the frame of version 1 holds by each frame of a flash, as there is one version.
-use Rattle.std.proofs.Common.{◌≡◌, ◌≤◌, ℕ, refl, sym, ap, subst, arith}
+-- The frame of version 1, and what each frame of a flash has.
+use Rattle.std.proofs.Common.{◌≡◌, ◌≤◌, ℕ, refl, sym, subst, arith}
 use Rattle.flash_layout.specs.declared.frame.Frame.{Frame}
 use Rattle.flash_layout.specs.declared.frame.TheConstants.{VERSION_1}
-use Rattle.flash_layout.specs.Frames.{First, IsFrame, bank_size, head_size}
+use Rattle.flash_layout.specs.Frames.{First, IsBase, IsFrame, Second}
 
-pub is_first : (size : ℕ) (frame : Frame) → IsFrame size frame → frame ≡ VERSION_1
-is_first size frame (First version base room) = λ i. record { version = version i; base = base i }
+pub is_first : (size : ℕ) (frame : Frame) → IsFrame size frame → frame.version ≡ 1 → frame ≡ VERSION_1
+is_first size frame (First version base room) one = λ i. record { version = version i; base = base i }
+is_first size frame (Second version base room low) one = absurd (omega (arith, version, one))
 
 pub version_1 : (size : ℕ) → 49152 ≤ size → IsFrame size VERSION_1
 version_1 size room = First refl refl room
 
-pub of_version : (size : ℕ) (frame : Frame) → frame ≡ VERSION_1 → head_size frame ≤ size
-    → IsFrame size frame
-of_version size frame version room =
-    First (ap (λ (f : Frame). f.version) version) (ap (λ (f : Frame). f.base) version) (subst (λ (f : Frame). head_size f ≤ size) version room)
-
--- a flash has room for its head
+-- a flash has room for the head of version 1
 pub has_room : (size : ℕ) (frame : Frame) → IsFrame size frame → 49152 ≤ size
 has_room size frame (First version base room) = room
+has_room size frame (Second version base room low) = omega (arith, base, room)
 
-module _ (size : ℕ) (frame : Frame) (is : IsFrame size frame) (P : Frame → Type 0) where
+-- and the base of version 2 lies behind it
+pub second_base : (size : ℕ) (frame : Frame) → IsFrame size frame → frame.version ≡ 2 → 49152 ≤ frame.base
+second_base size frame (First version base room) two = absurd (omega (arith, version, two))
+second_base size frame (Second version base room low) two = base
+
+-- and there is room behind it
+pub second_parts : (size : ℕ) (frame : Frame) → IsFrame size frame → frame.version ≡ 2 → IsBase size frame.base
+second_parts size frame (First version base room) two = absurd (omega (arith, version, two))
+second_parts size frame (Second version base room low) two = (base, room)
+
+module _ (size : ℕ) (frame : Frame) (is : IsFrame size frame) (one : frame.version ≡ 1) (P : Frame → Type 0) where
   pub of_first : P VERSION_1 → P frame
-  of_first first = subst P (sym (is_first size frame is)) first
+  of_first first = subst P (sym (is_first size frame is one)) first
 
   pub to_first : P frame → P VERSION_1
-  to_first held = subst P (is_first size frame is) held
-
--- the room for a bank
-pub bank_fits : (size : ℕ) (frame : Frame) → IsFrame size frame → bank_size frame ≤ 16384
-bank_fits size frame is = of_first size frame is (λ (f : Frame). bank_size f ≤ 16384) (omega arith)
+  to_first held = subst P (is_first size frame is one) held

@@ -3,23 +3,31 @@ use Rattle.std.specs.Prelude.{◌≡◌, ◌⊎◌, ◌<◌, ◌≤◌, ◌+◌,
 use Rattle.suit_edge.specs.declared.page.TheConstants.{CLOSED}
 use Rattle.suit_edge.specs.Faults.{Faulted}
 use Rattle.suit_edge.specs.Flash.{Flash, Now}
+use Rattle.suit_edge.specs.Gate.{IsOpen}
 use Rattle.suit_edge.specs.Ranges.{Outside}
 use Rattle.flash_layout.specs.declared.formatting.Formatted.{Formatted}
 use Rattle.flash_layout.specs.declared.formatting.Formatted.TheVariants as formatted
 use Rattle.flash_layout.specs.declared.frame.Frame.{Frame}
-use Rattle.flash_layout.specs.declared.frame.TheConstants.{LENGTH_SIZE}
+use Rattle.flash_layout.specs.declared.frame.TheConstants.{CONFIG_GATE, LENGTH_SIZE, ROOT_BYTES, ROOT_GATE}
 use Rattle.flash_layout.specs.declared.key.Key.{Key}
 use Rattle.flash_layout.specs.declared.layout.Entry.{Entry}
 use Rattle.flash_layout.specs.Configs.{Blank, Configured, ConfigOf}
-use Rattle.flash_layout.specs.Frames.{HasNoRecord, head_of, page_bytes, record_place}
+use Rattle.flash_layout.specs.Frames.{HasNoRecord, checkpoint_place, head_of, journal_place, page_bytes, record_place}
 use Rattle.flash_layout.specs.Layouts.{slot_starts}
 use Rattle.flash_layout.specs.Slots.{AreEmpty}
 
--- the layout and the key, no record, and each slot empty
+-- with version 2 there is neither a journal nor a checkpoint
+abbrev pub HasNoWork : Frame → List ℕ → Type 0
+HasNoWork frame image =
+    frame.version ≡ 2
+    → (IsOpen image (journal_place frame) → ⊥) × (IsOpen image (checkpoint_place frame) → ⊥)
+
+-- the layout and the key, no record, no work begun, and each slot empty
 pub record IsFormatted (frame : Frame) (size : ℕ) (layout : List Entry) (key : Key) (image : List ℕ)
     : Type 0 where
   pub config : ConfigOf size image (Configured layout key frame)
   pub no_record : HasNoRecord frame (head_of frame image)
+  pub no_work : HasNoWork frame image
   pub empty : AreEmpty layout image
 
 -- Where each image that a power loss at the start may leave is blank, the image is blank or formatted.
@@ -34,6 +42,15 @@ IsBlankOrFormatted frame size layout key start image =
 abbrev pub OutsideRecordGates : Frame → ℕ → Type 0
 OutsideRecordGates frame i = Outside (record_place frame 0) 1 i × Outside (record_place frame 1) 1 i
 
+-- all but the gates of the work area of version 2
+abbrev pub OutsideWorkGates : Frame → ℕ → Type 0
+OutsideWorkGates frame i =
+    frame.version ≡ 2 → Outside (journal_place frame) 1 i × Outside (checkpoint_place frame) 1 i
+
+-- all but the root, where it is written
+abbrev pub OutsideRoot : Frame → ℕ → Type 0
+OutsideRoot frame i = frame.version ≡ 2 → Outside ROOT_GATE ROOT_BYTES i
+
 -- all but the lengths of slots that start there
 abbrev pub OutsideLengths : List ℕ → ℕ → Type 0
 OutsideLengths starts i = All (λ p. Outside p LENGTH_SIZE i) starts
@@ -42,11 +59,18 @@ OutsideLengths starts i = All (λ p. Outside p LENGTH_SIZE i) starts
 abbrev pub OutsideAllLengths : List Entry → ℕ → Type 0
 OutsideAllLengths layout i = All (λ e. OutsideLengths (slot_starts e) i) layout
 
--- all but those that formatting writes: the page that is read, the record gates, and the lengths of the slots
+-- all but what is written first: gates, and the lengths of the slots
+abbrev pub OutsidePrepared : Frame → List Entry → ℕ → Type 0
+OutsidePrepared frame layout i =
+    OutsideRecordGates frame i × OutsideWorkGates frame i × OutsideAllLengths layout i
+
+-- all but what is written last: the page that is read, and the root
+abbrev pub OutsideOpened : Frame → ℕ → Type 0
+OutsideOpened frame i = Outside frame.base (page_bytes frame) i × OutsideRoot frame i
+
+-- all but those that formatting writes
 abbrev pub OutsideFormat : Frame → List Entry → ℕ → Type 0
-OutsideFormat frame layout i =
-    Outside frame.base (page_bytes frame) i × OutsideRecordGates frame i
-    × OutsideAllLengths layout i
+OutsideFormat frame layout i = OutsideOpened frame i × OutsidePrepared frame layout i
 
 -- ---- by the answer
 
@@ -58,7 +82,7 @@ abbrev pub IfFormatted : Formatted → Type 0 → Type 0
 IfFormatted formatted.Done P = P
 IfFormatted _ P = Unit {0}
 
--- not blank exactly where the gate was open, and then nothing has changed
+-- not blank exactly where a gate was open, and then nothing has changed
 abbrev pub IfNotBlank : Formatted → Type 0 → Type 0 → Type 0
 IfNotBlank formatted.NotBlank Opened Same = Opened × Same
 IfNotBlank formatted.Done Opened Same = Opened → ⊥
@@ -66,11 +90,25 @@ IfNotBlank formatted.FlashFault Opened Same = Unit {0}
 
 -- ---- inside
 
+-- the gate of version 1 or that of the root is open
+abbrev pub HasOpenGate : List ℕ → Type 0
+HasOpenGate image = IsOpen image CONFIG_GATE ⊎ IsOpen image ROOT_GATE
+
+abbrev pub HasNoRoot : List ℕ → Type 0
+HasNoRoot image = IsOpen image ROOT_GATE → ⊥
+
 -- both record gates are closed
 abbrev pub AreClosed : Frame → List ℕ → Type 0
 AreClosed frame image =
     (slice_index image (record_place frame 0) ≡ CLOSED)
     × (slice_index image (record_place frame 1) ≡ CLOSED)
+
+-- and those of the work area of version 2
+abbrev pub IsWorkClosed : Frame → List ℕ → Type 0
+IsWorkClosed frame image =
+    frame.version ≡ 2
+    → (slice_index image (journal_place frame) ≡ CLOSED)
+    × (slice_index image (checkpoint_place frame) ≡ CLOSED)
 
 -- the length of the slot that starts there is 0
 abbrev pub IsClearAt : List ℕ → ℕ → Type 0
@@ -90,10 +128,8 @@ HasLength size p = p + LENGTH_SIZE ≤ size
 abbrev pub HaveLengths : ℕ → Entry → Type 0
 HaveLengths size e = (e.slots ≤ 2) × All (HasLength size) (slot_starts e)
 
--- all but the configuration page is written
+-- all but the configuration page and the root is written
 pub record IsPrepared (frame : Frame) (layout : List Entry) (image : List ℕ) : Type 0 where
   pub closed : AreClosed frame image
+  pub work : IsWorkClosed frame image
   pub clear : AreAllClearAt layout image
-
-abbrev pub OutsidePrepared : Frame → List Entry → ℕ → Type 0
-OutsidePrepared frame layout i = OutsideRecordGates frame i × OutsideAllLengths layout i

@@ -1,19 +1,25 @@
 -- What the places of a frame have to do with one another, whatever its version is.
-use Rattle.std.proofs.Common.{◌≡◌, ◌<◌, ◌≤◌, zero, suc, ℕ, ◌+◌, ◌-◌, List, length, get_or, take, drop, ◌∙◌, ap, arith}
+use Rattle.std.proofs.Common.{◌≡◌, inl, inr, ◌<◌, ◌^◌, ◌≤◌, zero, suc, ℕ, ◌+◌, ◌-◌, List, length, get_or, take, drop, ◌∙◌, ap, arith}
 use Rattle.std.specs.Prelude.{◌==◌, if◌then◌else◌}
 use Rattle.std.specs.List.{slice_range}
 use Rattle.std.proofs.lemmas.List.{take-take, drop-take, drop-drop}
 use Rattle.std.proofs.lemmas.List.Edits.{get_or-between, length-between}
-use Rattle.suit_edge.specs.Ranges.{Within}
+use Rattle.suit_edge.specs.Ranges.{Outside, Within}
 use Rattle.flash_layout.specs.declared.frame.Frame.{Frame}
-use Rattle.flash_layout.specs.declared.frame.TheConstants.{CONFIG_GATE}
-use Rattle.flash_layout.specs.Frames.{First, IsFrame, bank_from, bank_of, bank_place, bank_size, by_version, config_page_of, config_size, head_of, head_size, page_bytes, record_from, record_place}
+use Rattle.flash_layout.specs.declared.frame.TheConstants.{CONFIG_GATE, ROOT_BYTES, ROOT_GATE}
+use Rattle.flash_layout.specs.Frames.{First, Second, IsFrame, bank_from, bank_of, bank_place, bank_size, by_version, config_page_of, config_size, frame_size, head_of, head_size, page_bytes, record_from, record_place}
 use Rattle.flash_layout.specs.Layouts.{AreClear, IsBehindHead}
+
+-- the bytes of the record pages and the banks
+abbrev pub behind_pages : Frame → ℕ
+behind_pages frame = 8192 + bank_size frame + bank_size frame
 
 -- of a frame of a flash of that size
 pub record FrameFacts (size : ℕ) (frame : Frame) : Type 0 where
-  -- the gate of the configuration stands on the configuration page
-  pub gate : Within frame.base (config_size frame) CONFIG_GATE
+  -- the record pages and the banks lie apart from the gate of version 1 and from the root
+  pub gate : Outside (record_place frame 0) (behind_pages frame) CONFIG_GATE
+  pub root : (i : ℕ) → Within ROOT_GATE ROOT_BYTES i
+      → Outside (record_place frame 0) (behind_pages frame) i
   -- eight components are read at least, and all that is read stands on that page
   pub some : 1204 ≤ page_bytes frame
   pub page : page_bytes frame ≤ config_size frame
@@ -23,12 +29,20 @@ pub record FrameFacts (size : ℕ) (frame : Frame) : Type 0 where
   pub head : record_from frame 2 + bank_size frame + bank_size frame ≤ head_size frame
   -- an envelope of 16,384 bytes has room in a bank
   pub large : 16384 ≤ bank_size frame
+  pub whole : head_size frame ≤ frame_size frame
   -- the head lies in the flash
   pub inside : frame.base + head_size frame ≤ size
+  -- and so does the work area of version 2
+  pub area : frame.version ≡ 2 → frame.base + 225280 ≤ size
+  -- by places that are numbers of the code
+  pub numbers : frame.base + frame_size frame < 2 ^ 64
   -- and shares no byte with slots
-  pub clear : (p n : ℕ) → IsBehindHead size p n → AreClear frame.base (head_size frame) p n
+  pub clear : (p n : ℕ) → IsBehindHead frame size p n → AreClear frame.base (head_size frame) p n
 
-by_first : (frame : Frame) (first second : ℕ) → frame.version ≡ 1 → by_version frame first second ≡ first
+pub by_second : (frame : Frame) (first second : ℕ) → frame.version ≡ 2 → by_version frame first second ≡ second
+by_second frame first second is = ap (λ (n : ℕ). if n == 1 then first else second) is
+
+pub by_first : (frame : Frame) (first second : ℕ) → frame.version ≡ 1 → by_version frame first second ≡ first
 by_first frame first second is = ap (λ (n : ℕ). if n == 1 then first else second) is
 
 pub facts : (size : ℕ) (frame : Frame) → IsFrame size frame → FrameFacts size frame
@@ -38,15 +52,44 @@ facts size frame (First is base room) =
     let b = by_first frame 16384 65536 is in
     let m = by_first frame 8 32 is in
     record {
-      gate = (omega (arith, base), omega (arith, c));
+      gate = inl (omega (arith, c, base));
+      root = λ i within. let low = within.0 in inr (omega (arith, base, c, b, low));
       some = omega (arith, m);
       page = omega (arith, c, m);
       first_bank = omega (arith, by_first frame 0 0 is);
       second_bank = omega (arith, b, by_first frame 16384 65536 is);
       head = omega (arith, c, b, h);
       large = omega (arith, b);
+      whole = omega (arith, h, by_first frame 49152 225280 is);
       inside = omega (arith, h, base, room);
+      area = λ two. absurd (omega (arith, is, two));
+      numbers = omega (arith, base, by_first frame 49152 225280 is);
       clear = λ p n there. let low = there.0 in (λ before. omega (arith, h, base, low), λ behind. omega (arith, base, low, behind));
+    }
+facts size frame (Second is base room low) =
+    let h = by_second frame 49152 147456 is in
+    let c = by_second frame 4096 8192 is in
+    let b = by_second frame 16384 65536 is in
+    let m = by_second frame 8 32 is in
+    let f = by_second frame 49152 225280 is in
+    record {
+      gate = inl (omega (arith, c, base));
+      root = λ i within. let high = within.1 in inl (omega (arith, base, c, high));
+      some = omega (arith, m);
+      page = omega (arith, c, m);
+      first_bank = omega (arith, by_second frame 0 0 is);
+      second_bank = omega (arith, b, by_second frame 16384 65536 is);
+      head = omega (arith, c, b, h);
+      large = omega (arith, b);
+      whole = omega (arith, h, f);
+      inside = omega (arith, h, room);
+      area = λ two. room;
+      numbers = omega (arith, f, low);
+      clear = λ p n there.
+          let apart = there.2 in (
+            λ before. omega (arith, h, f, apart.0 before),
+            λ behind. apart.1 behind,
+          );
     }
 
 -- ---- ranges

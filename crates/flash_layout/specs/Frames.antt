@@ -1,6 +1,6 @@
 -- Where the parts of a flash stand. The head is so many bytes from the frame's base on; its parts are told by their
 -- places in it.
-use Rattle.std.specs.Prelude.{◌≡◌, ◌≤◌, ◌+◌, ◌*◌, ℕ, ◌==◌, if◌then◌else◌, List, slice_range}
+use Rattle.std.specs.Prelude.{◌≡◌, ◌≤◌, ◌<◌, ◌+◌, ◌^◌, ◌*◌, ℕ, ◌==◌, if◌then◌else◌, List, slice_range}
 use Rattle.suit_edge.specs.Gate.{IsOpen}
 use Rattle.flash_layout.specs.declared.frame.Frame.{Frame}
 use Rattle.flash_layout.specs.declared.frame.TheConstants.{ENTRY_SIZE, FRONT_SIZE}
@@ -24,14 +24,34 @@ record_size frame = 4096
 abbrev pub bank_size : Frame → ℕ
 bank_size frame = by_version frame 16384 65536
 
+-- the head, and the work area behind it, which version 1 lacks
+abbrev pub frame_size : Frame → ℕ
+frame_size frame = by_version frame 49152 225280
+
 -- how many components a layout has, at most
 abbrev pub most : Frame → ℕ
 most frame = by_version frame 8 32
 
+-- ---- the work area of version 2
+
+-- where the page of the journal starts, and that of the checkpoint, each with its gate
+abbrev pub journal_place : Frame → ℕ
+journal_place frame = frame.base + 147456
+
+abbrev pub checkpoint_place : Frame → ℕ
+checkpoint_place frame = frame.base + 155648
+
 -- ---- the frames of a flash of this size
 
+-- the base of version 2 leaves room before it for the head of version 1, and behind it for the head and the work area
+abbrev pub IsBase : ℕ → ℕ → Type 0
+IsBase size base = (49152 ≤ base) × (base + 225280 ≤ size)
+
+-- the places of a frame are numbers of the code
 pub data IsFrame (size : ℕ) (frame : Frame) : Type 0 where
   First : frame.version ≡ 1 → frame.base ≡ 0 → 49152 ≤ size → IsFrame size frame
+  Second : frame.version ≡ 2 → 49152 ≤ frame.base → frame.base + 225280 ≤ size
+      → frame.base + 225280 < 2 ^ 64 → IsFrame size frame
 
 -- ---- the head
 

@@ -6,7 +6,7 @@ use Rattle.flash_layout.specs.declared.layout.Entry.{Entry}
 use Rattle.flash_layout.specs.declared.layout.Memory.{Memory}
 use Rattle.flash_layout.specs.declared.layout.Memory.TheVariants as memory
 use Rattle.flash_layout.specs.declared.key.Key.{Key}
-use Rattle.flash_layout.specs.Frames.{most}
+use Rattle.flash_layout.specs.Frames.{frame_size, most}
 use Rattle.suit_params.specs.Identifiers.{spelled_id}
 
 -- ---- slots
@@ -27,9 +27,14 @@ slot_size e = LENGTH_SIZE + e.capacity
 abbrev pub AreClear : ℕ → ℕ → ℕ → ℕ → Type 0
 AreClear p m q n = (p ≤ q → p + m ≤ q) × (q ≤ p → q + n ≤ p)
 
--- the range lies behind the head of the flash, and within it
-abbrev pub IsBehindHead : ℕ → ℕ → ℕ → Type 0
-IsBehindHead size p n = (SLOTS_START ≤ p) × (p + n ≤ size)
+-- the range lies where slots may be on a flash of this size
+abbrev pub IsInside : ℕ → ℕ → ℕ → Type 0
+IsInside size p n = (SLOTS_START ≤ p) × (p + n ≤ size)
+
+-- and shares no byte with the head and the work area
+abbrev pub IsBehindHead : Frame → ℕ → ℕ → ℕ → Type 0
+IsBehindHead frame size p n =
+    (SLOTS_START ≤ p) × (p + n ≤ size) × AreClear frame.base (frame_size frame) p n
 
 -- a range shares no byte with those that start there
 abbrev pub IsClearOf : ℕ → ℕ → List ℕ → ℕ → Type 0
@@ -47,23 +52,23 @@ IsInRam e =
     × (e.capacity ≤ 1048576)
 
 -- one or two slots, apart, within the flash of this size
-abbrev pub IsInFlash : ℕ → Entry → Type 0
-IsInFlash size e =
+abbrev pub IsInFlash : Frame → ℕ → Entry → Type 0
+IsInFlash frame size e =
     (1 ≤ e.slots) × (e.slots ≤ 2) × (e.slots ≡ 1 → slice_index e.starts 1 ≡ 0)
     ×
     (e.slots ≡ 2
     → AreClear (slice_index e.starts 0) (slot_size e) (slice_index e.starts 1)
     (slot_size e))
-    × All (λ p. IsBehindHead size p (slot_size e)) (slot_starts e)
+    × All (λ p. IsBehindHead frame size p (slot_size e)) (slot_starts e)
 
-abbrev pub IsOfMemory : ℕ → Entry → Memory → Type 0
-IsOfMemory size e memory.Flash = IsInFlash size e
-IsOfMemory size e memory.Ram = IsInRam e
+abbrev pub IsOfMemory : Frame → ℕ → Entry → Memory → Type 0
+IsOfMemory frame size e memory.Flash = IsInFlash frame size e
+IsOfMemory frame size e memory.Ram = IsInRam e
 
-pub record IsEntry (size : ℕ) (e : Entry) : Type 0 where
+pub record IsEntry (frame : Frame) (size : ℕ) (e : Entry) : Type 0 where
   pub short : length (spelled_id e.identifier) ≤ 64
   pub some : 1 ≤ e.capacity
-  pub held : IsOfMemory size e e.memory
+  pub held : IsOfMemory frame size e e.memory
 
 -- two components have other identifiers, and share no byte
 pub record AreApart (a b : Entry) : Type 0 where
@@ -73,7 +78,7 @@ pub record AreApart (a b : Entry) : Type 0 where
 pub record IsLayout (frame : Frame) (size : ℕ) (layout : List Entry) : Type 0 where
   pub some : 1 ≤ length layout
   pub few : length layout ≤ most frame
-  pub each : All (IsEntry size) layout
+  pub each : All (IsEntry frame size) layout
   pub apart : AllPairs AreApart layout
 
 -- ---- keys

@@ -8,6 +8,8 @@ pub mod ConfigPage
 pub mod PageReading
 pub mod PagePlaces
 pub mod ConfigLaws
+pub mod Roots
+pub mod RootLaws
 pub mod Configs
 pub mod ToldFrames
 pub mod LoadLaws
@@ -18,5 +20,6 @@ pub mod Devices
 pub mod SlotLaws
 pub mod Overlaps
 pub mod LayoutFaults
+pub mod Moving
 pub mod FaultCounts
 pub mod Trails

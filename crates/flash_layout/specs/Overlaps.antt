@@ -1,7 +1,9 @@
 -- Which components of a layout have the same identifier, share a byte, or lie outside the flash. Places are whole numbers.
 use Rattle.std.specs.Prelude.{◌≡◌, ◌≢◌, ◌<◌, ◌≤◌, ℕ, List, length, slice_index, slice_index_or, All, Option, MatchOption}
+use Rattle.flash_layout.specs.declared.frame.Frame.{Frame}
 use Rattle.flash_layout.specs.declared.layout.Entry.{Entry}
-use Rattle.flash_layout.specs.Layouts.{slot_starts, slot_size, AreClear, AreAllClear, IsBehindHead}
+use Rattle.flash_layout.specs.Frames.{frame_size}
+use Rattle.flash_layout.specs.Layouts.{slot_starts, slot_size, AreClear, AreAllClear, IsClearOf, IsInside}
 
 -- ---- identifiers
 
@@ -51,18 +53,36 @@ TellsOverlap layout answer =
 
 -- ---- the flash
 
--- its slots lie behind the head of a flash of this size, and within it
+-- its slots lie where slots may be on a flash of this size
 abbrev pub LiesInside : ℕ → Entry → Type 0
-LiesInside size e = All (λ p. IsBehindHead size p (slot_size e)) (slot_starts e)
+LiesInside size e = All (λ p. IsInside size p (slot_size e)) (slot_starts e)
 
-abbrev pub IsInside : ℕ → List Entry → ℕ → Type 0
-IsInside size layout i = (d : Entry) → LiesInside size (slice_index_or layout i d)
+abbrev pub LieInside : ℕ → List Entry → ℕ → Type 0
+LieInside size layout i = (d : Entry) → LiesInside size (slice_index_or layout i d)
 
 -- the first one that does not
 pub record IsFirstOutside (size : ℕ) (layout : List Entry) (i : ℕ) : Type 0 where
   pub inside : i < length layout
-  pub outside : IsInside size layout i → ⊥
-  pub least : (k : ℕ) → k < i → IsInside size layout k
+  pub outside : LieInside size layout i → ⊥
+  pub least : (k : ℕ) → k < i → LieInside size layout k
 
 abbrev pub AreInside : ℕ → List Entry → Type 0
-AreInside size layout = (i : ℕ) → i < length layout → IsInside size layout i
+AreInside size layout = (i : ℕ) → i < length layout → LieInside size layout i
+
+-- ---- the head and the work area
+
+-- no slot of a component shares a byte with them
+abbrev pub LiesClear : Frame → Entry → Type 0
+LiesClear frame e = IsClearOf frame.base (frame_size frame) (slot_starts e) (slot_size e)
+
+abbrev pub LieClear : Frame → List Entry → ℕ → Type 0
+LieClear frame layout i = (d : Entry) → LiesClear frame (slice_index_or layout i d)
+
+-- the first one with a slot that does
+pub record IsFirstOver (frame : Frame) (layout : List Entry) (i : ℕ) : Type 0 where
+  pub inside : i < length layout
+  pub over : LieClear frame layout i → ⊥
+  pub least : (k : ℕ) → k < i → LieClear frame layout k
+
+abbrev pub AreClearOfBase : Frame → List Entry → Type 0
+AreClearOfBase frame layout = (i : ℕ) → i < length layout → LieClear frame layout i

@@ -1,13 +1,14 @@
 -- Where the fields of the configuration page stand, by their places in it. All numbers are big-endian.
 use Rattle.std.specs.Prelude.{◌≡◌, ◌<◌, ◌≤◌, ◌+◌, ◌-◌, ◌*◌, ℕ, List, ◌∷◌, length, replicate, slice_index, slice_index_or, slice_range, Option, Some, None}
 use Rattle.std.specs.Int.{w64, from_be_bytes}
-use Rattle.flash_layout.specs.declared.frame.TheConstants.{VERSION_1}
+use Rattle.flash_layout.specs.declared.frame.Frame.{Frame}
 use Rattle.flash_layout.specs.declared.layout.Entry.{Entry}
 use Rattle.flash_layout.specs.declared.layout.Memory.{Memory}
 use Rattle.flash_layout.specs.declared.layout.Memory.TheVariants as memory
 use Rattle.flash_layout.specs.declared.key.Key.{Key}
 use Rattle.flash_layout.specs.Layouts.{IsTypedEntry, AreTyped}
 use Rattle.flash_layout.specs.ConfigPage.{entry_bytes, IsConfigPage}
+use Rattle.flash_layout.specs.Frames.{page_bytes}
 use Rattle.suit_params.specs.Identifiers.{spelled_id}
 
 abbrev pub IsMemoryByte : Memory → ℕ → Type 0
@@ -49,21 +50,23 @@ OfEachEntry P = (e : Entry) → IsTypedEntry e → length (spelled_id e.identifi
 abbrev pub entry_place : ℕ → ℕ
 entry_place i = 68 + 142 * i
 
-pub record HasPagePlaces (layout : List Entry) (key : Key) (page : List ℕ) : Type 0 where
-  pub long : length page ≡ 1204
+pub record HasPagePlaces (frame : Frame) (layout : List Entry) (key : Key) (page : List ℕ)
+    : Type 0 where
+  pub long : length page ≡ page_bytes frame
   pub gate : slice_index page 0 ≡ 0xA5
-  pub version : slice_index page 1 ≡ 1
+  pub version : slice_index page 1 ≡ frame.version
   pub key_size : slice_index page 2 ≡ key.length
   pub count : slice_index page 3 ≡ length layout
   pub key_bytes : slice_range page 4 68 ≡ key.bytes
   pub each : (i : ℕ) (d : Entry) → i < length layout
       → HasEntryPlaces (slice_index_or layout i d)
       (slice_range page (entry_place i) (entry_place (i + 1)))
-  pub rest : slice_range page (entry_place (length layout)) 1204
-      ≡ replicate (1204 - entry_place (length layout)) 0
+  pub rest : slice_range page (entry_place (length layout)) (page_bytes frame)
+      ≡ replicate (page_bytes frame - entry_place (length layout)) 0
 
--- each configuration page of layout version 1 has its fields there
+-- each configuration page has its fields there
 abbrev pub PagePlaces : Type 0
 PagePlaces =
-    (size : ℕ) (page : List ℕ) (layout : List Entry) (key : Key) → AreTyped layout key
-    → IsConfigPage VERSION_1 size page layout key → HasPagePlaces layout key page
+    (frame : Frame) (size : ℕ) (page : List ℕ) (layout : List Entry) (key : Key)
+    → AreTyped layout key → IsConfigPage frame size page layout key
+    → HasPagePlaces frame layout key page

@@ -3,28 +3,44 @@
 ghost use Rattle.std.specs.Prelude.{◌≡◌, ◌≤◌, All, IfOk};
 ghost use Rattle.serde_json.specs.View.{view};
 ghost use Rattle.json_fields.specs.Answers.{Gives};
-ghost use Rattle.flash_layout.specs.Devices.{described_layout};
+ghost use Rattle.flash_layout.specs.Devices.{described_layout, frame_with};
 
-use crate::Layout;
 use crate::component_fields::OneComponent;
-use json_fields::{Draft, FlawKind, JsonFault, array, flawed, object, required};
+use crate::frame::VERSION_1;
+use crate::root::second_frame;
+use crate::{Frame, Layout};
+use json_fields::{Draft, FlawKind, JsonFault, array, flawed, number, object, required};
 use serde_json::Value;
 use std::alloc::Global;
 
 /// The fields that were read.
 #[derive(Drop)]
 pub(crate) struct DeviceFields {
+    base: Option<u64>,
     components: Option<Layout>,
 }
 
-/// The components of a device, each as the rules allow it by itself.
-pub(crate) fn device(alloc: Global, value: &Value) -> Result<Layout, JsonFault>
-    ensures { Gives (λ layout. layout) result (described_layout (view value.now)) }
+// The frame of a device: a base chooses version 2.
+fn frame_with(base: Option<u64>) -> Frame
+    ensures { result ≡ frame_with base }
 {
-    let mut fields = DeviceFields { components: None };
+    match base {
+        None => VERSION_1,
+        Some(base) => second_frame(base),
+    }
+}
+
+/// The components of a device, each as the rules allow it by itself, and its frame.
+pub(crate) fn device(alloc: Global, value: &Value) -> Result<(Layout, Frame), JsonFault>
+    ensures { Gives (λ device. device) result (described_layout (view value.now)) }
+{
+    let mut fields = DeviceFields {
+        base: None,
+        components: None,
+    };
     object(alloc, value, &mut fields)?;
     let layout = required(alloc, "components", fields.components)?;
-    Ok(layout)
+    Ok((layout, frame_with(fields.base)))
 }
 
 impl Draft for DeviceFields {
@@ -33,6 +49,10 @@ impl Draft for DeviceFields {
     ghost takes = { takes_device };
 
     fn take(&mut self, alloc: Global, key: &str, value: &Value) -> Result<(), JsonFault> {
+        if key == "base" {
+            self.base = Some(number(alloc, value, u64::MAX)?);
+            return Ok(());
+        }
         if key != "components" {
             return flawed(alloc, FlawKind::Field);
         }

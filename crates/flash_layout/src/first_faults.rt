@@ -1,10 +1,27 @@
-//! The first components that share a byte, or lie outside the flash.
+//! The first components that are alike, share a byte, lie outside the flash, or lie over the base.
 
 ghost use Rattle.std.specs.Prelude.{◌≤◌, ◌<◌, ◌↔◌, All, IsTrue, length, MatchOption};
-ghost use Rattle.flash_layout.specs.Overlaps.{IsClearItself, ShareNone, SharesNone, IsFirstShared, TellsOverlap, IsFirstOutside, AreInside};
+ghost use Rattle.suit_params.specs.Alike.{TellsAlike};
+ghost use Rattle.flash_layout.specs.Overlaps.{identifier_of, IsClearItself, ShareNone, SharesNone, IsFirstShared, TellsOverlap, IsFirstOutside, AreInside, IsFirstOver, AreClearOfBase};
 
-use crate::Entry;
-use crate::rules::{all_clear, clear, slots_of, starts_behind};
+use crate::frame::MOST_ENTRIES;
+use crate::rules::{all_clear, clear, slots_of, starts_clear, starts_inside};
+use crate::{Entry, Frame};
+use suit_params::first_like;
+
+/// The first two of at most 32 components that have the same identifier: the least second one, and then the least
+/// first one.
+pub(crate) fn first_alike(entries: &[Entry]) -> Option<(u32, u32)>
+    requires { length entries.now ≤ MOST_ENTRIES }
+    ensures { TellsAlike identifier_of entries.now result }
+{
+    for last in 0..entries.len() {
+        if let Some(first) = first_like(entries, last) {
+            return Some((first as u32, last as u32));
+        }
+    }
+    None
+}
 
 // Whether a component's slots share no byte.
 fn is_clear_itself(entry: &Entry) -> bool
@@ -50,10 +67,10 @@ fn first_shared(entries: &[Entry], i: usize) -> Option<usize>
     None
 }
 
-/// The first two of at most eight components that share a byte: the least first one, and then the least second
+/// The first two of at most 32 components that share a byte: the least first one, and then the least second
 /// one, which may be the first one itself.
 pub(crate) fn first_overlap(entries: &[Entry]) -> Option<(u32, u32)>
-    requires few { length entries.now ≤ 8 }
+    requires few { length entries.now ≤ MOST_ENTRIES }
     requires slots { All (λ e. e.slots ≤ 2) entries.now }
     ensures { TellsOverlap entries.now result }
 {
@@ -65,17 +82,32 @@ pub(crate) fn first_overlap(entries: &[Entry]) -> Option<(u32, u32)>
     None
 }
 
-/// The first of at most eight components with a slot that does not lie behind the head of a flash of this size and
-/// within it.
+/// The first of at most 32 components with a slot that does not lie where slots may be on a flash of this size.
 pub(crate) fn first_outside(size: u64, entries: &[Entry]) -> Option<u32>
-    requires few { length entries.now ≤ 8 }
+    requires few { length entries.now ≤ MOST_ENTRIES }
     requires slots { All (λ e. e.slots ≤ 2) entries.now }
     ensures { MatchOption result (AreInside size entries.now)
         (IsFirstOutside size entries.now) }
 {
     for i in 0..entries.len() {
         let entry = &entries[i];
-        if !starts_behind(size, slots_of(entry), entry.capacity) {
+        if !starts_inside(size, slots_of(entry), entry.capacity) {
+            return Some(i as u32);
+        }
+    }
+    None
+}
+
+/// The first of at most 32 components with a slot that shares a byte with the head or the work area of a frame.
+pub(crate) fn first_over(frame: Frame, entries: &[Entry]) -> Option<u32>
+    requires few { length entries.now ≤ MOST_ENTRIES }
+    requires slots { All (λ e. e.slots ≤ 2) entries.now }
+    ensures { MatchOption result (AreClearOfBase frame entries.now)
+        (IsFirstOver frame entries.now) }
+{
+    for i in 0..entries.len() {
+        let entry = &entries[i];
+        if !starts_clear(frame, slots_of(entry), entry.capacity) {
             return Some(i as u32);
         }
     }

@@ -1,7 +1,7 @@
 //! Where the parts of a flash stand, and how large they are.
 
-ghost use Rattle.std.specs.Prelude.{◌≡◌, ◌<◌, ◌≤◌, ◌+◌, ◌*◌, ◌^◌};
-ghost use Rattle.flash_layout.specs.Frames.{bank_place, bank_size, by_version, config_size, head_size, most, page_bytes, record_place};
+ghost use Rattle.std.specs.Prelude.{◌≡◌, ◌<◌, ◌≤◌, ◌↔◌, ◌+◌, ◌*◌, ◌^◌, IsTrue};
+ghost use Rattle.flash_layout.specs.Frames.{IsBase, bank_place, bank_size, by_version, checkpoint_place, config_size, frame_size, head_size, journal_place, most, page_bytes, record_place};
 
 /// Where the head of a flash is, and which version its layout has. The head is a configuration page, two record pages and
 /// two banks, one behind another.
@@ -27,6 +27,9 @@ pub const PAGE_SIZE: u64 = 4_096;
 
 /// The bytes of a bank.
 pub const BANK_SIZE: u64 = 16_384;
+
+/// How many bytes the head of version 2 and its work area have.
+pub const AREA_SIZE: u64 = 225_280;
 
 /// Where the slots of a layout begin at the earliest.
 pub const SLOTS_START: u64 = 49_152;
@@ -55,6 +58,12 @@ pub const PAGE_BYTES: usize = FRONT_SIZE + ENTRIES_SIZE;
 /// Those of each version, at most.
 pub const MOST_BYTES: usize = FRONT_SIZE + ENTRY_SIZE * MOST_ENTRIES;
 
+/// Where the gate of the root is, behind the banks of version 1. The root tells where the head of version 2 stands.
+pub const ROOT_GATE: u64 = 45_056;
+
+/// The bytes of the root: the gate, the version and the base.
+pub const ROOT_BYTES: usize = 10;
+
 /// Where the gate of the configuration page is.
 pub const CONFIG_GATE: u64 = VERSION_1.base;
 
@@ -67,6 +76,24 @@ pub fn head_size(frame: Frame) -> u64
     } else {
         147_456
     }
+}
+
+/// How many bytes the head and the work area behind it have.
+pub(crate) fn frame_size(frame: Frame) -> u64
+    ensures { result ≡ frame_size frame }
+{
+    if frame.version == 1 {
+        HEAD_SIZE
+    } else {
+        AREA_SIZE
+    }
+}
+
+/// Whether a flash of this size may have this base of layout version 2.
+pub(crate) fn is_base(size: u64, base: u64) -> bool
+    ensures { IsTrue result ↔ IsBase size base }
+{
+    HEAD_SIZE <= base && AREA_SIZE <= size && base <= size - AREA_SIZE
 }
 
 /// How many components a layout may have.
@@ -115,6 +142,24 @@ pub fn record_page(frame: Frame, which: u64) -> u64
     ensures { result ≡ record_place frame which }
 {
     frame.base + config_size(frame) + which * PAGE_SIZE
+}
+
+/// Where the page of the journal of version 2 starts, with its gate.
+pub(crate) fn journal_page(frame: Frame) -> u64
+    requires room { frame.base + frame_size frame < 2 ^ 64 }
+    requires version { frame.version ≡ 2 }
+    ensures { result ≡ journal_place frame }
+{
+    frame.base + 147_456
+}
+
+/// Where the page of the checkpoint of version 2 starts, with its gate.
+pub(crate) fn checkpoint_page(frame: Frame) -> u64
+    requires room { frame.base + frame_size frame < 2 ^ 64 }
+    requires version { frame.version ≡ 2 }
+    ensures { result ≡ checkpoint_place frame }
+{
+    frame.base + 155_648
 }
 
 // How many bytes of banks stand before that one.

@@ -1,15 +1,17 @@
 //! Laws of the flash's frame and of the configuration page. Each call here does nothing: its contract is the law.
 
-ghost use Rattle.std.specs.Prelude.{◌≡◌, slice_index, slice_range};
+ghost use Rattle.std.specs.Prelude.{◌≡◌, ℕ, slice_index, slice_range};
 ghost use Rattle.flash_layout.specs.ConfigLaws.{OneAnswer, OneConfig};
-ghost use Rattle.flash_layout.specs.FrameLaws.{FrameLaws};
+ghost use Rattle.flash_layout.specs.FrameLaws.{FrameLaws, RootLaws, SecondLaws};
 ghost use Rattle.flash_layout.specs.LoadLaws.{LoadLaws};
 ghost use Rattle.flash_layout.specs.PagePlaces.{IsIdentifierField, IsIdField, IsMemoryByte, IsNumberField, OfEachEntry, PagePlaces};
 ghost use Rattle.flash_layout.specs.SlotLaws.{SlotLaws};
 
-/// Where the parts of a flash of layout version 1 stand.
+/// Where the parts of a flash stand, and which frame a root tells.
 pub fn frame_laws()
-    ensures { FrameLaws }
+    ensures first { FrameLaws }
+    ensures second { (base : ℕ) → SecondLaws base }
+    ensures root { RootLaws }
 {}
 
 /// Where the fields of a configuration page stand, and those of each component in its bytes.

@@ -16,7 +16,7 @@ pub enum LayoutFault {
     BadHex(Text),
     /// A text that is no UUID.
     BadUuid(Text),
-    /// The number of components, above eight.
+    /// The number of components, above eight, or above 32 with a base.
     TooMany(u64),
     /// Two components with the same identifier: the first such pair.
     TwoAlike { first: u32, second: u32 },
@@ -24,6 +24,10 @@ pub enum LayoutFault {
     Overlap { first: u32, second: u32 },
     /// The first component with a slot that starts in the head of the flash or ends behind the flash.
     Outside(u32),
+    /// The base lies in the first 49,152 bytes, or the head and the work area end behind the flash.
+    BaseOutside,
+    /// The first component with a slot that shares a byte with the head or the work area at the base.
+    BaseOverlap(u32),
     NoMemory,
 }
 

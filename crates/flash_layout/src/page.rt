@@ -4,7 +4,6 @@ ghost use Rattle.std.specs.Prelude.{◌≡◌, ◌≤◌, ◌+◌, [], ◌++◌,
 ghost use Rattle.flash_layout.specs.ConfigPage.{number_bytes};
 ghost use Rattle.flash_layout.specs.PageReading.{number_at};
 
-use crate::frame::ENTRIES_SIZE;
 use arrayvec::ArrayVec;
 use std::marker::Model;
 
@@ -46,13 +45,13 @@ impl<const MOST: usize> Page<MOST> {
 
     /// Adds zeros at the end.
     pub(crate) fn put_zeros(&mut self, count: usize)
-        requires few { count ≤ ENTRIES_SIZE }
-        requires room { length self.old + count ≤ MOST }
+        requires { length self.old + count ≤ MOST }
         ensures bytes { self.new ≡ self.old ++ replicate count 0 }
         ensures long { length self.new ≡ length self.old + count }
     {
-        let zeros = [0; ENTRIES_SIZE];
-        self.put(&zeros[..count]);
+        for _ in 0..count {
+            self.put(&[0]);
+        }
     }
 
     /// Adds a number in eight bytes.

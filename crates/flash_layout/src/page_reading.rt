@@ -5,17 +5,18 @@ ghost use Rattle.suit_params.specs.Answering.{Gives};
 ghost use Rattle.flash_layout.specs.declared.layout.Entry.{Entry};
 ghost use Rattle.flash_layout.specs.declared.key.Key.{Key};
 ghost use Rattle.flash_layout.specs.ConfigPage.{IsConfigPage};
+ghost use Rattle.flash_layout.specs.Frames.{page_bytes};
 ghost use Rattle.flash_layout.specs.Layouts.{AreTyped};
 ghost use Rattle.flash_layout.specs.PageReading.{entries_at, entry_at, id_at, key_at, memory_at, page_at};
 
-use crate::frame::{ENTRY_SIZE, FRONT_SIZE, MAX_ENTRIES, PAGE_BYTES, VERSION_1};
+use crate::frame::{ENTRY_SIZE, FRONT_SIZE, most, page_bytes};
 use crate::id_reading::read_identifier;
 use crate::key::is_key;
 use crate::page::read_number;
 use crate::page_writing::write_page;
 use crate::rules::is_layout;
 use crate::typing::typed;
-use crate::{Entry, Key, Layout, Memory};
+use crate::{Entry, Frame, Key, Layout, Memory};
 use std::alloc::{AllocError, Global};
 use suit_params::{Fault, Why, refused};
 
@@ -81,7 +82,7 @@ fn read_entries(alloc: Global, bytes: &[u8], count: usize) -> Result<Layout, Fau
 
 // The key.
 fn read_key(page: &[u8]) -> Key
-    requires { length page.now ≡ PAGE_BYTES }
+    requires { FRONT_SIZE ≤ length page.now }
     ensures { result ≡ key_at page.now }
 {
     let mut key = Key {
@@ -94,46 +95,47 @@ fn read_key(page: &[u8]) -> Key
 
 // The layout and the key, without a judgement.
 #[tactic(auto, unfolding(crate::specs::PageReading::page_at))]
-fn read_page(alloc: Global, page: &[u8]) -> Result<(Layout, Key), Fault>
-    requires { length page.now ≡ PAGE_BYTES }
-    ensures { Gives (λ c. c) result (page_at VERSION_1 page.now) }
+fn read_page(alloc: Global, frame: Frame, page: &[u8]) -> Result<(Layout, Key), Fault>
+    requires { length page.now ≡ page_bytes frame }
+    ensures { Gives (λ c. c) result (page_at frame page.now) }
 {
     let count = page[3] as usize;
-    if MAX_ENTRIES < count {
+    if most(frame) < count {
         return Ok(refused(3, Why::Shape)?);
     }
-    let layout = read_entries(alloc, &page[FRONT_SIZE..PAGE_BYTES], count)?;
+    let layout = read_entries(alloc, &page[FRONT_SIZE..page_bytes(frame)], count)?;
     Ok((layout, read_key(page)))
 }
 
 // Whether the bytes are the page of a layout and a key that the rules allow.
-fn spells(size: u64, page: &[u8], layout: &Layout, key: &Key) -> bool
-    ensures { IsTrue result ↔ IsConfigPage VERSION_1 size page.now layout.now key.now }
+fn spells(frame: Frame, size: u64, page: &[u8], layout: &Layout, key: &Key) -> bool
+    ensures { IsTrue result ↔ IsConfigPage frame size page.now layout.now key.now }
 {
-    if !is_key(key) || !is_layout(size, layout) {
+    if !is_key(key) || !is_layout(frame, size, layout) {
         return false;
     }
-    write_page(layout, key, VERSION_1).as_slice() == page
+    write_page(layout, key, frame).as_slice() == page
 }
 
-/// The layout and the key of a page, where the rules allow them on a flash of this size, or `None` where it
+/// The layout and the key of a page, where the rules allow them on a flash of this size with this frame, or `None` where it
 /// is the page of none.
 pub(crate) fn decode_page(
     alloc: Global,
+    frame: Frame,
     size: u64,
     page: &[u8],
 ) -> Result<Option<(Layout, Key)>, AllocError>
-    requires { length page.now ≡ PAGE_BYTES }
-    ensures ok { IfOk result (λ r. IfSome r (λ c. IsConfigPage VERSION_1 size page.now c.0 c.1)) }
+    requires { length page.now ≡ page_bytes frame }
+    ensures ok { IfOk result (λ r. IfSome r (λ c. IsConfigPage frame size page.now c.0 c.1)) }
     ensures typed { IfOk result (λ r. IfSome r (λ c. AreTyped c.0 c.1)) }
     ensures every { (layout : List Entry) (key : Key) → AreTyped layout key
-        → IsConfigPage VERSION_1 size page.now layout key
+        → IsConfigPage frame size page.now layout key
         → IfOk result (λ r. r ≡ Some (layout, key)) }
 {
-    match read_page(alloc, page) {
+    match read_page(alloc, frame, page) {
         Ok((layout, key)) => {
             typed(&layout, &key);
-            if spells(size, page, &layout, &key) {
+            if spells(frame, size, page, &layout, &key) {
                 Ok(Some((layout, key)))
             } else {
                 Ok(None)

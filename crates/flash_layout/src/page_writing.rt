@@ -5,7 +5,7 @@ ghost use Rattle.suit_params.specs.Identifiers.{spelled_id};
 ghost use Rattle.flash_layout.specs.Frames.{most, page_bytes};
 ghost use Rattle.flash_layout.specs.ConfigPage.{config_page, entries_bytes, entry_bytes, identifier_field, ids_field, memory_byte, numbers_field, optional_id, padded, page_front};
 
-use crate::frame::{ENTRIES_SIZE, ENTRY_SIZE, FRONT_SIZE, PAGE_BYTES};
+use crate::frame::{ENTRY_SIZE, FRONT_SIZE, MOST_BYTES, most};
 use crate::page::Page;
 use crate::spelling::spell_id;
 use crate::{Entry, Frame, Key, Layout, Memory};
@@ -13,9 +13,9 @@ use suit_edge::OPEN;
 use suit_params::Identifier;
 
 // Adds the length of an identifier's spelling, and the spelling with zeros after it.
-fn put_spelling(page: &mut Page<PAGE_BYTES>, spelling: &[u8])
+fn put_spelling(page: &mut Page<MOST_BYTES>, spelling: &[u8])
     requires short { length spelling.now ≤ 64 }
-    requires room { length page.old + 65 ≤ PAGE_BYTES }
+    requires room { length page.old + 65 ≤ MOST_BYTES }
     ensures bytes { page.new ≡ page.old ++ length spelling.now ∷ padded 64 spelling.now }
     ensures long { length page.new ≡ length page.old + 65 }
 {
@@ -25,9 +25,9 @@ fn put_spelling(page: &mut Page<PAGE_BYTES>, spelling: &[u8])
 }
 
 // Adds an identifier.
-fn put_identifier(page: &mut Page<PAGE_BYTES>, identifier: &Identifier)
+fn put_identifier(page: &mut Page<MOST_BYTES>, identifier: &Identifier)
     requires short { length (spelled_id identifier.now) ≤ 64 }
-    requires room { length page.old + 65 ≤ PAGE_BYTES }
+    requires room { length page.old + 65 ≤ MOST_BYTES }
     ensures bytes { page.new ≡ page.old ++ identifier_field identifier.now }
     ensures long { length page.new ≡ length page.old + 65 }
 {
@@ -38,8 +38,8 @@ fn put_identifier(page: &mut Page<PAGE_BYTES>, identifier: &Identifier)
 }
 
 // Adds a UUID.
-fn put_uuid(page: &mut Page<PAGE_BYTES>, id: &[u8; 16])
-    requires { length page.old + 17 ≤ PAGE_BYTES }
+fn put_uuid(page: &mut Page<MOST_BYTES>, id: &[u8; 16])
+    requires { length page.old + 17 ≤ MOST_BYTES }
     ensures bytes { page.new ≡ page.old ++ 1 ∷ id.now }
     ensures long { length page.new ≡ length page.old + 17 }
 {
@@ -48,8 +48,8 @@ fn put_uuid(page: &mut Page<PAGE_BYTES>, id: &[u8; 16])
 }
 
 // Adds a UUID, or that there is none.
-fn put_id(page: &mut Page<PAGE_BYTES>, id: &Option<[u8; 16]>)
-    requires { length page.old + 17 ≤ PAGE_BYTES }
+fn put_id(page: &mut Page<MOST_BYTES>, id: &Option<[u8; 16]>)
+    requires { length page.old + 17 ≤ MOST_BYTES }
     ensures bytes { page.new ≡ page.old ++ optional_id id.now }
     ensures long { length page.new ≡ length page.old + 17 }
 {
@@ -60,8 +60,8 @@ fn put_id(page: &mut Page<PAGE_BYTES>, id: &Option<[u8; 16]>)
 }
 
 // Adds the three UUIDs of a component.
-fn put_ids(page: &mut Page<PAGE_BYTES>, entry: &Entry)
-    requires { length page.old + 51 ≤ PAGE_BYTES }
+fn put_ids(page: &mut Page<MOST_BYTES>, entry: &Entry)
+    requires { length page.old + 51 ≤ MOST_BYTES }
     ensures bytes { page.new ≡ page.old ++ ids_field entry.now }
     ensures long { length page.new ≡ length page.old + 51 }
 {
@@ -71,8 +71,8 @@ fn put_ids(page: &mut Page<PAGE_BYTES>, entry: &Entry)
 }
 
 // Adds a component's capacity, and where its slots start.
-fn put_numbers(page: &mut Page<PAGE_BYTES>, entry: &Entry)
-    requires { length page.old + 24 ≤ PAGE_BYTES }
+fn put_numbers(page: &mut Page<MOST_BYTES>, entry: &Entry)
+    requires { length page.old + 24 ≤ MOST_BYTES }
     ensures bytes { page.new ≡ page.old ++ numbers_field entry.now }
     ensures long { length page.new ≡ length page.old + 24 }
 {
@@ -93,9 +93,9 @@ fn memory_byte(memory: Memory) -> u8
 
 // Adds a component.
 #[tactic(auto, unfolding(crate::specs::ConfigPage::entry_bytes))]
-fn put_entry(page: &mut Page<PAGE_BYTES>, entry: &Entry)
+fn put_entry(page: &mut Page<MOST_BYTES>, entry: &Entry)
     requires short { length (spelled_id entry.now.identifier) ≤ 64 }
-    requires room { length page.old + ENTRY_SIZE ≤ PAGE_BYTES }
+    requires room { length page.old + ENTRY_SIZE ≤ MOST_BYTES }
     ensures bytes { page.new ≡ page.old ++ entry_bytes entry.now }
     ensures long { length page.new ≡ length page.old + ENTRY_SIZE }
 {
@@ -106,9 +106,9 @@ fn put_entry(page: &mut Page<PAGE_BYTES>, entry: &Entry)
 }
 
 // Adds components.
-fn put_entries(page: &mut Page<PAGE_BYTES>, entries: &[Entry])
+fn put_entries(page: &mut Page<MOST_BYTES>, entries: &[Entry])
     requires short { All (λ e. length (spelled_id e.identifier) ≤ 64) entries.now }
-    requires room { length page.old + ENTRY_SIZE * length entries.now ≤ PAGE_BYTES }
+    requires room { length page.old + ENTRY_SIZE * length entries.now ≤ MOST_BYTES }
     ensures bytes { page.new ≡ page.old ++ entries_bytes entries.now }
     ensures long { length page.new ≡ length page.old + ENTRY_SIZE * length entries.now }
 {
@@ -118,8 +118,8 @@ fn put_entries(page: &mut Page<PAGE_BYTES>, entries: &[Entry])
 }
 
 // Adds the open gate, the version, the lengths and the key.
-fn put_front(page: &mut Page<PAGE_BYTES>, version: u8, count: u8, key: &Key)
-    requires { length page.old + FRONT_SIZE ≤ PAGE_BYTES }
+fn put_front(page: &mut Page<MOST_BYTES>, version: u8, count: u8, key: &Key)
+    requires { length page.old + FRONT_SIZE ≤ MOST_BYTES }
     ensures bytes { page.new
         ≡ page.old ++ OPEN ∷ version ∷ key.now.length ∷ count ∷ key.now.bytes }
     ensures long { length page.new ≡ length page.old + FRONT_SIZE }
@@ -128,10 +128,9 @@ fn put_front(page: &mut Page<PAGE_BYTES>, version: u8, count: u8, key: &Key)
     page.put(&key.bytes);
 }
 
-/// The page of a layout and a key on a flash with this frame, with its gate open: that of layout version 1. Takes no memory.
+/// The page of a layout and a key on a flash with this frame, with its gate open. Takes no memory.
 #[tactic(auto, unfolding(crate::specs::ConfigPage::config_page))]
-pub(crate) fn write_page(layout: &Layout, key: &Key, frame: Frame) -> Page<PAGE_BYTES>
-    requires version { frame.version ≡ 1 }
+pub fn write_page(layout: &Layout, key: &Key, frame: Frame) -> Page<MOST_BYTES>
     requires few { length layout.now ≤ most frame }
     requires short { All (λ e. length (spelled_id e.identifier) ≤ 64) layout.now }
     ensures bytes { result ≡ config_page frame layout.now key.now }
@@ -141,6 +140,6 @@ pub(crate) fn write_page(layout: &Layout, key: &Key, frame: Frame) -> Page<PAGE_
     let mut page = Page::new();
     put_front(&mut page, frame.version, entries.len() as u8, key);
     put_entries(&mut page, entries);
-    page.put_zeros(ENTRIES_SIZE - ENTRY_SIZE * entries.len());
+    page.put_zeros(ENTRY_SIZE * most(frame) - ENTRY_SIZE * entries.len());
     page
 }

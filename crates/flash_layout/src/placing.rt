@@ -3,7 +3,7 @@
 ghost use Rattle.std.specs.Prelude.{◌≤◌, length, IfOk, IfErr, MatchOption};
 ghost use Rattle.flash_layout.specs.Placement.{ArePlaces, HasPlace, HaveOtherPlaces, IsFirstUnknown, IsUnknown};
 
-use crate::frame::MAX_ENTRIES;
+use crate::frame::MOST_ENTRIES;
 use crate::place::MAX_COMPONENTS;
 use crate::{Entry, Layout, Places, Unknown};
 use suit_params::{Identifier, Identifiers};
@@ -23,7 +23,7 @@ fn find(entries: &[Entry], identifier: &Identifier) -> Option<usize>
 
 /// The places of a manifest's components in a layout, or the first component that the layout lacks.
 pub fn places(layout: &Layout, components: &Identifiers) -> Result<Places, Unknown>
-    requires entries { length layout.now ≤ MAX_ENTRIES }
+    requires entries { length layout.now ≤ MOST_ENTRIES }
     requires components { length components.now ≤ MAX_COMPONENTS }
     ensures ok { IfOk result (ArePlaces layout.now components.now) }
     ensures other { IfOk result (HaveOtherPlaces components.now) }

@@ -2,11 +2,12 @@
 
 ghost use Rattle.std.specs.Prelude.{◌≡◌, ◌↔◌, ◌≤◌, ◌<◌, ◌+◌, ℕ, All, AllPairs, IsTrue, length, slice_index, slice_index_or};
 ghost use Rattle.flash_layout.specs.declared.layout.Entry.{Entry};
-ghost use Rattle.flash_layout.specs.Layouts.{AreAllClear, AreApart, AreClear, IsBehindHead, IsClearOf, IsEntry, IsInFlash, IsLayout, IsOfMemory, IsInRam, slot_size, slot_starts};
+ghost use Rattle.flash_layout.specs.Frames.{frame_size};
+ghost use Rattle.flash_layout.specs.Layouts.{AreAllClear, AreApart, AreClear, IsBehindHead, IsClearOf, IsInside, IsEntry, IsInFlash, IsLayout, IsOfMemory, IsInRam, slot_size, slot_starts};
 
-use crate::frame::{LENGTH_SIZE, MAX_ENTRIES, SLOTS_START, VERSION_1};
+use crate::frame::{LENGTH_SIZE, SLOTS_START, frame_size, most};
 use crate::spelling::spell_id;
-use crate::{Entry, Layout, Memory};
+use crate::{Entry, Frame, Layout, Memory};
 
 /// How many bytes a component in working memory may hold.
 pub const MAX_RAM: u64 = 1048576;
@@ -68,9 +69,9 @@ pub fn slots_of(entry: &Entry) -> &[u64]
     }
 }
 
-/// Whether slots that start there lie behind the head of a flash of this size, and within it.
-pub(crate) fn starts_behind(size: u64, starts: &[u64], capacity: u64) -> bool
-    ensures { IsTrue result ↔ All (λ p. IsBehindHead size p (LENGTH_SIZE + capacity)) starts.now }
+/// Whether slots that start there lie where slots may be on a flash of this size.
+pub(crate) fn starts_inside(size: u64, starts: &[u64], capacity: u64) -> bool
+    ensures { IsTrue result ↔ All (λ p. IsInside size p (LENGTH_SIZE + capacity)) starts.now }
 {
     for p in starts {
         if *p < SLOTS_START || !ends_by(*p, capacity, size) {
@@ -80,9 +81,47 @@ pub(crate) fn starts_behind(size: u64, starts: &[u64], capacity: u64) -> bool
     true
 }
 
+// Whether a slot shares no byte with the head and the work area.
+fn is_clear_of(frame: Frame, start: u64, capacity: u64) -> bool
+    ensures { IsTrue result
+        ↔ AreClear frame.base (frame_size frame) start (LENGTH_SIZE + capacity) }
+{
+    if start < frame.base {
+        ends_by(start, capacity, frame.base)
+    } else {
+        frame_size(frame) <= start - frame.base
+    }
+}
+
+/// Whether slots that start there share no byte with the head and the work area.
+pub(crate) fn starts_clear(frame: Frame, starts: &[u64], capacity: u64) -> bool
+    ensures { IsTrue result
+        ↔ IsClearOf frame.base (frame_size frame) starts.now (LENGTH_SIZE + capacity) }
+{
+    for p in starts {
+        if !is_clear_of(frame, *p, capacity) {
+            return false;
+        }
+    }
+    true
+}
+
+// Whether slots that start there may be there, on a flash of this size with this frame.
+fn starts_behind(frame: Frame, size: u64, starts: &[u64], capacity: u64) -> bool
+    ensures { IsTrue result
+        ↔ All (λ p. IsBehindHead frame size p (LENGTH_SIZE + capacity)) starts.now }
+{
+    for p in starts {
+        if *p < SLOTS_START || !ends_by(*p, capacity, size) || !is_clear_of(frame, *p, capacity) {
+            return false;
+        }
+    }
+    true
+}
+
 // Whether a component in flash has one or two slots, apart, where they may be.
-fn is_flash(size: u64, entry: &Entry) -> bool
-    ensures { IsTrue result ↔ IsInFlash size entry.now }
+fn is_flash(frame: Frame, size: u64, entry: &Entry) -> bool
+    ensures { IsTrue result ↔ IsInFlash frame size entry.now }
 {
     if entry.slots < 1 || 2 < entry.slots {
         return false;
@@ -100,7 +139,7 @@ fn is_flash(size: u64, entry: &Entry) -> bool
     {
         return false;
     }
-    starts_behind(size, slots_of(entry), entry.capacity)
+    starts_behind(frame, size, slots_of(entry), entry.capacity)
 }
 
 // Whether a component in working memory is as it may be.
@@ -111,31 +150,31 @@ fn is_ram(entry: &Entry) -> bool
 }
 
 // Whether a component's memory is as it may be.
-fn is_held(size: u64, entry: &Entry) -> bool
-    ensures { IsTrue result ↔ IsOfMemory size entry.now entry.now.memory }
+fn is_held(frame: Frame, size: u64, entry: &Entry) -> bool
+    ensures { IsTrue result ↔ IsOfMemory frame size entry.now entry.now.memory }
 {
     match entry.memory {
-        Memory::Flash => is_flash(size, entry),
+        Memory::Flash => is_flash(frame, size, entry),
         Memory::Ram => is_ram(entry),
     }
 }
 
 // Whether the rules allow a component by itself, on a flash of this size.
-fn is_entry(size: u64, entry: &Entry) -> bool
-    ensures { IsTrue result ↔ IsEntry size entry.now }
+fn is_entry(frame: Frame, size: u64, entry: &Entry) -> bool
+    ensures { IsTrue result ↔ IsEntry frame size entry.now }
 {
     match spell_id(&entry.identifier) {
-        Ok(_) => 1 <= entry.capacity && is_held(size, entry),
+        Ok(_) => 1 <= entry.capacity && is_held(frame, size, entry),
         Err(_) => false,
     }
 }
 
 // Whether the rules allow each by itself.
-fn each_entry(size: u64, entries: &[Entry]) -> bool
-    ensures { IsTrue result ↔ All (IsEntry size) entries.now }
+fn each_entry(frame: Frame, size: u64, entries: &[Entry]) -> bool
+    ensures { IsTrue result ↔ All (IsEntry frame size) entries.now }
 {
     for entry in entries {
-        if !is_entry(size, entry) {
+        if !is_entry(frame, size, entry) {
             return false;
         }
     }
@@ -184,17 +223,18 @@ fn all_apart(entries: &[Entry]) -> bool
     true
 }
 
-/// Whether the rules allow a layout on a flash of this size: one to eight components with different
-/// identifiers, each spelled in at most 64 bytes; working memory of 1 to 1,048,576 bytes; slots of at
-/// least one byte, of which no two share a byte, behind the first 49,152 bytes and within the flash.
-pub fn is_layout(size: u64, layout: &Layout) -> bool
-    ensures { IsTrue result ↔ IsLayout VERSION_1 size layout.now }
+/// Whether the rules allow a layout on a flash of this size with this frame: one to eight components, or up to 32 with
+/// version 2, with different identifiers, each spelled in at most 64 bytes; working memory of 1 to 1,048,576 bytes;
+/// slots of at least one byte, of which no two share a byte, behind the first 49,152 bytes and within the flash, and
+/// clear of what stands at the base.
+pub fn is_layout(frame: Frame, size: u64, layout: &Layout) -> bool
+    ensures { IsTrue result ↔ IsLayout frame size layout.now }
 {
     let entries = layout.as_slice();
-    if entries.len() < 1 || MAX_ENTRIES < entries.len() {
+    if entries.len() < 1 || most(frame) < entries.len() {
         return false;
     }
-    if !each_entry(size, entries) {
+    if !each_entry(frame, size, entries) {
         return false;
     }
     all_apart(entries)

@@ -6,7 +6,7 @@ ghost use Rattle.suit_params.specs.Identifiers.{identifier_items};
 ghost use Rattle.flash_layout.specs.PageReading.{identifier_at, parts_from};
 ghost use Rattle.flash_layout.specs.Placement.{ArePlaces, HasPlace, HaveOtherPlaces, IsFirstUnknown, IsUnknown};
 
-use crate::frame::MAX_ENTRIES;
+use crate::frame::MOST_ENTRIES;
 use crate::place::MAX_COMPONENTS;
 use crate::{Entry, Layout, Places, Unknown};
 use det_cbor::{Bytes, Cursor};
@@ -53,7 +53,7 @@ fn find_spelled(entries: &[Entry], bytes: &[u8]) -> Option<usize>
 /// The places of a manifest's components in a layout, or the first component that the layout lacks. Their identifiers are
 /// told by the spelling of their array (draft-ietf-suit-manifest-25, section 8.4.5), as a manifest holds it. Takes no memory.
 pub fn places_spelled(layout: &Layout, identifiers: &[u8]) -> Result<Places, Unknown>
-    requires entries { length layout.now ≤ MAX_ENTRIES }
+    requires entries { length layout.now ≤ MOST_ENTRIES }
     requires components { (ids : List (List (List ℕ)))
         × (identifiers.now ≡ spell (ArrayOf (identifier_items ids))) × (length ids ≤ MAX_COMPONENTS) }
     ensures ok { (ids : List (List (List ℕ)))

@@ -10,9 +10,12 @@ returns-in_err-layout-clause-refused c =
     rw (p.1, p.2) (fault_of_fields c.args.size (view c.args.value.now) _ c.in_err-layout.ensures)
 
 pub judge-requires : goal.judge-requires
-judge-requires c = whole_slots c.in_ok-layout.layout (described_whole (view c.args.value.now) c.in_ok-layout.layout c.in_ok-layout.ensures)
+judge-requires c =
+    let is = c.in_ok-layout in
+    whole_slots is.layout (described_whole (view c.args.value.now) is.layout is.frame is.ensures).whole
 
 pub returns-in_err-judge-clause-refused : goal.returns-in_err-judge-clause-refused
 returns-in_err-judge-clause-refused c =
+    let is = c.in_ok-layout in
     let p = err_from_is_err_and c.from_residual-in_err-judge.result c.from_residual-in_err-judge.ensures.1 in
-    rw (p.1, p.2) (fault_of_entries c.args.size (view c.args.value.now) c.in_ok-layout.layout _ c.in_ok-layout.ensures c.in_err-judge.ensures)
+    rw (p.1, p.2) (fault_of_entries c.args.size (view c.args.value.now) is.layout is.frame _ is.ensures c.in_err-judge.ensures)

@@ -4,4 +4,4 @@ use Rattle.flash_layout.specs.Layouts.{IsEntry}
 use Rattle.flash_layout.proofs.rules.each_entry.Given as goal
 
 abbrev pub invariant-loop-entry : goal.invariant-loop-entry
-invariant-loop-entry l = (k : ℕ) (d : Entry) → k < l.entry-index → IsEntry l.size (get_or l.entries k d)
+invariant-loop-entry l = (k : ℕ) (d : Entry) → k < l.entry-index → IsEntry l.frame l.size (get_or l.entries k d)

@@ -1,0 +1,6 @@
+use Rattle.std.proofs.Common.{ℕ, ◌+◌, ◌<◌, get_or}
+use Rattle.flash_layout.specs.Layouts.{IsInside}
+use Rattle.flash_layout.proofs.rules.starts_inside.Given as goal
+
+abbrev pub invariant-loop-p : goal.invariant-loop-p
+invariant-loop-p l = (k : ℕ) → k < l.p-index → IsInside l.size (get_or l.starts k 0) (8 + l.capacity)
