@@ -135,7 +135,7 @@ module _ (frame : Frame) (b : Flash) (size w : ℕ) (held : Option Record) (new 
 
   -- the page is sure
   pub page_firm : IsFirmOn (InSome (page_at gate place (length body))) b
-  page_firm = firm_fewer (InSome (page_at gate place (length body))) (InHead frame) (λ i h. ⊎_elim (λ g. (gate_low i g.0, gate_high i g.1)) (λ o. ⊎_elim (λ p. (body_low i p.0, body_high i p.1)) (λ none. absurd none) o) h) b x.firm
+  page_firm = firm_fewer (InSome (page_at gate place (length body))) (InHead frame) (λ i h. ⊎_elim (λ g. inr (gate_low i g.0, gate_high i g.1)) (λ o. ⊎_elim (λ p. inr (body_low i p.0, body_high i p.1)) (λ none. absurd none) o) h) b x.firm
     where
       gate_low : (i : ℕ) → gate ≤ i → frame.base ≤ i
       gate_low i h = omega (arith, h, x.gate_is)

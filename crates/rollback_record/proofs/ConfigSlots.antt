@@ -60,16 +60,16 @@ entry_slots e rest = refl
 
 -- ---- all of them
 
-slots_at : (size : ℕ) (layout : List Entry) (rest : List ℕ) → All IsTypedEntry layout → All (IsEntry size) layout → (i : ℕ) (d : Entry) → i < length layout → get_or (entries_bytes layout ++ rest) (142 * i + 1) 0 ≡ (get_or layout i d).slots
-slots_at size [] rest typed each i d lt = absurd (omega (arith, lt))
-slots_at size (e ∷ layout) rest typed each zero d lt = ap (λ (l : List ℕ). get_or l 1 0) (append_assoc (entry_bytes e) (entries_bytes layout) rest) ∙ entry_slots e (entries_bytes layout ++ rest)
-slots_at size (e ∷ layout) rest typed each (suc i) d lt =
-    let long = entry_long e (All-head IsTypedEntry e layout typed) (All-head (IsEntry size) e layout each).short in
+slots_at : (frame : Frame) (size : ℕ) (layout : List Entry) (rest : List ℕ) → All IsTypedEntry layout → All (IsEntry frame size) layout → (i : ℕ) (d : Entry) → i < length layout → get_or (entries_bytes layout ++ rest) (142 * i + 1) 0 ≡ (get_or layout i d).slots
+slots_at frame size [] rest typed each i d lt = absurd (omega (arith, lt))
+slots_at frame size (e ∷ layout) rest typed each zero d lt = ap (λ (l : List ℕ). get_or l 1 0) (append_assoc (entry_bytes e) (entries_bytes layout) rest) ∙ entry_slots e (entries_bytes layout ++ rest)
+slots_at frame size (e ∷ layout) rest typed each (suc i) d lt =
+    let long = entry_long e (All-head IsTypedEntry e layout typed) (All-head (IsEntry frame size) e layout each).short in
     let back : 142 * suc i + 1 - 142 ≡ 142 * i + 1 = omega arith in
     ap (λ (l : List ℕ). get_or l (142 * suc i + 1) 0) (append_assoc (entry_bytes e) (entries_bytes layout) rest)
     ∙ get_or-append_right (entry_bytes e) (entries_bytes layout ++ rest) 142 (142 * suc i + 1) 0 long (omega arith)
     ∙ ap (λ (k : ℕ). get_or (entries_bytes layout ++ rest) k 0) back
-    ∙ slots_at size layout rest (All-tail IsTypedEntry e layout typed) (All-tail (IsEntry size) e layout each) i d (omega (arith, lt))
+    ∙ slots_at frame size layout rest (All-tail IsTypedEntry e layout typed) (All-tail (IsEntry frame size) e layout each) i d (omega (arith, lt))
 
 -- ---- the page
 
@@ -86,7 +86,7 @@ module _ (frame : Frame) (size : ℕ) (page : List ℕ) (layout : List Entry) (k
       ap (λ (l : List ℕ). get_or l (142 * i + 69) 0) is.is
       ∙ get_or-append_right (page_front frame layout key) (padded (142 * most frame) (entries_bytes layout)) 68 (142 * i + 69) 0 front (omega arith)
       ∙ ap (λ (k : ℕ). get_or (padded (142 * most frame) (entries_bytes layout)) k 0) back
-      ∙ slots_at size layout (replicate (142 * most frame - length (entries_bytes layout)) 0) typed is.allowed.each i d lt
+      ∙ slots_at frame size layout (replicate (142 * most frame - length (entries_bytes layout)) 0) typed is.allowed.each i d lt
 
   -- a component of the layout that has two slots has a second one
   pub second_slot : (i : ℕ) (d : Entry) → i < length layout → (get_or layout i d).slots ≡ 2 → HasSecondSlot page i

@@ -3,11 +3,9 @@ use Rattle.std.proofs.Common.{◌≡◌, ◌<◌, ◌≤◌, ℕ, ◌+◌, List,
 use Rattle.std.specs.Prelude.{◌-◌}
 use Rattle.std.specs.List.{slice_range}
 use Rattle.flash_layout.specs.declared.frame.Frame.{Frame}
-use Rattle.flash_layout.specs.declared.frame.TheConstants.{VERSION_1}
 use Rattle.flash_layout.specs.declared.slot.Record.{Record}
 use Rattle.flash_layout.specs.FrameFacts.{FrameFacts, page_there}
-use Rattle.flash_layout.specs.Frames.{IsFrame, config_page_of, head_of, head_size, page_bytes, record_place}
-use Rattle.flash_layout.specs.FirstFrame.{to_first}
+use Rattle.flash_layout.specs.Frames.{config_page_of, head_of, head_size, page_bytes, record_place}
 use Rattle.rollback_record.specs.HeadRecord.{HaveRead, RecordOf}
 use Rattle.rollback_record.specs.RecordPage.{record_length}
 use Rattle.rollback_record.proofs.Pages.{bytes_in}
@@ -20,12 +18,6 @@ small_none frame reads small which r few is =
 -- the record that was loaded
 pub loaded_as : (frame : Frame) (reads : List ℕ) (o p : Option Record) → o ≡ p → RecordOf frame (head_of frame reads) o → RecordOf frame (head_of frame reads) p
 loaded_as frame reads o p same held = subst (λ (q : Option Record). RecordOf frame (head_of frame reads) q) same held
-
--- and by version 1
-pub loaded : (size : ℕ) (frame : Frame) → IsFrame size frame → (reads : List ℕ) (o p : Option Record) → o ≡ p → RecordOf frame (head_of frame reads) o
-    → RecordOf VERSION_1 (head_of VERSION_1 reads) p
-loaded size frame is reads o p same held =
-    to_first size frame is (λ (f : Frame). RecordOf f (head_of f reads) p) (loaded_as frame reads o p same held)
 
 module _ (size : ℕ) (frame : Frame) (is : FrameFacts size frame) where
   -- the configuration page

@@ -9,10 +9,19 @@ pub mod Loads
 pub mod FrameLoads
 pub mod Commits
 pub mod OneAnswers
-mod SomeAnswers
+pub mod SomeAnswers
 pub mod SoundBy
-mod Sounds
+pub mod Sounds
 mod SoundSince
 mod Installed
 pub mod StillSound
+pub mod HeadPlaces
 pub mod HeadSince
+pub mod MovedSlots
+pub mod MovedFirst
+pub mod MovedSecond
+pub mod Rooting
+pub mod MovingFlash
+pub mod Filling
+pub mod Migrations
+pub mod AlikeSound

@@ -2,12 +2,10 @@
 use Rattle.std.proofs.Common.{◌≡◌, ◌≢◌, inl, inr, ⊎_elim, ◌<◌, ◌≤◌, ℕ, ◌+◌, ◌-◌, List, ◌∷◌, length, get_or, take, drop, Option, Some, None, sym, ◌∙◌, ap, subst, arith}
 use Rattle.std.specs.List.{slice_range}
 use Rattle.std.proofs.lemmas.Bool.{cases_lt, cases_eq}
-use Rattle.std.proofs.lemmas.List.{take-take, drop-take}
 use Rattle.std.proofs.lemmas.List.Edits.{get_or-between}
 use Rattle.suit_edge.specs.Ranges.{Outside}
 use Rattle.suit_edge.specs.RangeLaws.{same_range}
 use Rattle.flash_layout.specs.declared.frame.Frame.{Frame}
-use Rattle.flash_layout.specs.declared.frame.TheConstants.{VERSION_1}
 use Rattle.flash_layout.specs.declared.slot.Record.{Record}
 use Rattle.flash_layout.specs.FrameFacts.{FrameFacts}
 use Rattle.flash_layout.specs.FrameFacts as places
@@ -17,17 +15,6 @@ use Rattle.rollback_record.specs.HeadRecord.{record_bytes, Counts, HoldsRecord, 
 use Rattle.rollback_record.specs.Committing.{InHead, IsNext, IsSpare}
 use Rattle.rollback_record.proofs.Fields.{one_record}
 use Rattle.rollback_record.proofs.Widths.{most_few}
-
--- ---- by the frame of version 1
-
-pub inner_range : (image : List ℕ) (n from to : ℕ) → from ≤ to → to ≤ n → slice_range (take n image) from to ≡ slice_range image from to
-inner_range image n from to low high =
-    let e : n ≡ from + (n - from) = omega arith in
-    let few : to - from ≤ n - from = omega arith in
-    ap (take (to - from)) (ap (λ (k : ℕ). drop from (take k image)) e ∙ drop-take from (n - from) image) ∙ take-take (to - from) (n - from) (drop from image) few
-
-pub config_in : (image : List ℕ) → config_page_of VERSION_1 (head_of VERSION_1 image) ≡ slice_range image 0 1204
-config_in image = take-take 1204 49152 image (omega arith)
 
 module _ (size : ℕ) (frame : Frame) (is : FrameFacts size frame) where
   -- ---- the head
@@ -72,7 +59,7 @@ module _ (size : ℕ) (frame : Frame) (is : FrameFacts size frame) where
     config_same =
         places.page_there size frame is a
         ∙ sym (same_range c a frame.base (frame.base + page_bytes frame) long (omega (arith, large_c, is.page, is.head))
-        (λ i low high. apart i (low, omega (arith, high, is.page, is.head)) (inl (omega (arith, high, is.page)))))
+        (λ i low high. apart i (inr (low, omega (arith, high, is.page, is.head))) (inl (omega (arith, high, is.page)))))
         ∙ sym (places.page_there size frame is c)
 
     beside : (v i : ℕ) → v + w ≡ 1 → page v ≤ i → i < page v + record_length frame → Outside (page w) (record_length frame) i
@@ -86,7 +73,7 @@ module _ (size : ℕ) (frame : Frame) (is : FrameFacts size frame) where
         let few : v < 2 = omega (arith, other) in
         bytes_in a v few
         ∙ sym (same_range c a (page v) (page v + record_length frame) long (omega (arith, large_c, few, is.head, most_few frame))
-        (λ i low high. apart i (omega (arith, low), omega (arith, high, few, is.head, most_few frame)) (beside v i other low high)))
+        (λ i low high. apart i (inr (omega (arith, low), omega (arith, high, few, is.head, most_few frame))) (beside v i other low high)))
         ∙ sym (bytes_in c v few)
 
     to_new : (v : ℕ) (r : Record) → v + w ≡ 1 → Counts frame (head a) v r → Counts frame (head c) v r

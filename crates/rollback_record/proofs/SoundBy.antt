@@ -1,13 +1,12 @@
 -- A sound image by the frame that it tells.
 use Rattle.std.proofs.Common.{ℕ, List, length, Some, None, subst}
 use Rattle.flash_layout.specs.declared.frame.Frame.{Frame}
-use Rattle.flash_layout.specs.declared.frame.TheConstants.{VERSION_1}
 use Rattle.flash_layout.specs.declared.key.Key.{Key}
 use Rattle.flash_layout.specs.declared.layout.Entry.{Entry}
 use Rattle.flash_layout.specs.declared.slot.Record.{Record}
 use Rattle.flash_layout.specs.Configs.{ConfigOf, Blank, Configured}
 use Rattle.flash_layout.specs.Frames.{head_of}
-use Rattle.flash_layout.specs.ToldFrames.{IsTold, by_told, told_version_1}
+use Rattle.flash_layout.specs.ToldFrames.{IsTold, by_told}
 use Rattle.rollback_record.specs.HeadRecord.{RecordOf}
 use Rattle.rollback_record.specs.SoundFlash.{IsInstalled, Sound, SoundBlank, SoundEmpty, SoundInstalled, recorded_bank}
 
@@ -29,6 +28,3 @@ sound_by frame image told (SoundInstalled layout key other r is held installed) 
     InstalledBy layout key r (by_told (length image) image frame told layout key other is)
     (subst (λ (f : Frame). RecordOf f (head_of f image) (Some r)) same held)
     (subst (λ (f : Frame). IsInstalled layout key (recorded_bank f (head_of f image) r) r) same installed)
-
-pub sound_by_version_1 : (image : List ℕ) → Sound image → SoundBy VERSION_1 image
-sound_by_version_1 image sound = sound_by VERSION_1 image (told_version_1 (length image) image) sound

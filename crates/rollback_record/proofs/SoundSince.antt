@@ -6,7 +6,7 @@ use Rattle.suit_edge.specs.Ranges.{Outside}
 use Rattle.flash_layout.specs.declared.frame.Frame.{Frame}
 use Rattle.flash_layout.specs.declared.slot.Record.{Record}
 use Rattle.flash_layout.specs.Frames.{IsFrame, head_of, record_place}
-use Rattle.flash_layout.specs.ToldFrames.{told_by}
+use Rattle.flash_layout.specs.ToldFrames.{IsTold}
 use Rattle.rollback_record.specs.HeadRecord.{RecordOf}
 use Rattle.rollback_record.specs.RecordPage.{record_length}
 use Rattle.rollback_record.specs.Committing.{HasHeldOrNew, InHead, IsSpare, KeepsBesideSpare}
@@ -19,13 +19,13 @@ spare_two : (frame : Frame) (head : List ℕ) (o : Option Record) (w : ℕ) → 
 spare_two frame head None w spare = omega (arith, spare)
 spare_two frame head (Some r) w spare = spare.0
 
-module _ (size : ℕ) (frame : Frame) (is : IsFrame size frame) (a b : Flash) (held : Option Record) (new : Record) (law : IsFlash a size) (was : RecordOf frame (head_of frame a.reads) held)
+module _ (size : ℕ) (frame : Frame) (is : IsFrame size frame) (a b : Flash) (told : IsTold size a.reads frame) (held : Option Record) (new : Record) (law : IsFlash a size) (was : RecordOf frame (head_of frame a.reads) held)
     (firm : IsFirmOn (InHead frame) a) (run : Passes a b (HasHeldOrNew frame held new)) (kept : KeepsBesideSpare frame held a b) where
   abbrev Beside : List ℕ → Type 0
   Beside image = ImageOn (Outside (record_place frame kept.which) (record_length frame)) a image
 
   frame_is : HasFrame frame a.reads
-  frame_is = record { is = subst (λ (n : ℕ). IsFrame n frame) (sym law.fits) is; told = told_by size frame is (length a.reads) a.reads }
+  frame_is = record { is = subst (λ (n : ℕ). IsFrame n frame) (sym law.fits) is; told = subst (λ (n : ℕ). IsTold n a.reads frame) (sym law.fits) told }
 
   committed_image : (image : List ℕ) → HasHeldOrNew frame held new image × Beside image → IsCommitted frame held new a.reads image
   committed_image image p =

@@ -13,13 +13,16 @@ use Rattle.flash_layout.specs.ConfigPage.{IsConfigPage}
 use Rattle.flash_layout.specs.Configs.{Config, ConfigOf, Blank, Configured}
 use Rattle.flash_layout.specs.Formats.{IsFormatted}
 use Rattle.flash_layout.specs.FrameFacts.{FrameFacts, bank_high, bank_there, facts}
-use Rattle.flash_layout.specs.Frames.{HasNoRecord, bank_of, bank_place, bank_size, config_page_of, head_of, head_size, record_from, record_place}
+use Rattle.flash_layout.specs.FirstFrame.{has_room}
+use Rattle.flash_layout.specs.Frames.{HasNoRecord, IsFrame, bank_of, bank_place, bank_size, config_page_of, head_of, head_size, record_from, record_place}
+use Rattle.flash_layout.specs.Roots.{frame_by, frame_told}
 use Rattle.rollback_record.specs.Committing.{InHead}
 use Rattle.rollback_record.specs.HeadRecord.{Counts, RecordOf}
 use Rattle.rollback_record.specs.RecordPage.{record_length}
 use Rattle.rollback_record.specs.SoundFlash.{Follows, FollowsBlank, FollowsOn, IsInstalled, IsNoEarlier, Sound, SoundBlank, SoundEmpty, SoundInstalled, recorded_bank}
-use Rattle.rollback_record.specs.SoundLaws.{HasNewInRange, IsCommitted, IsInstalledFor}
+use Rattle.rollback_record.specs.SoundLaws.{HasNewInRange, IsCommitted, IsInstalledFor, TellsFrame}
 use Rattle.rollback_record.proofs.OneAnswers.{one_answer}
+use Rattle.rollback_record.proofs.HeadPlaces.{tells_head, tells_outside}
 use Rattle.rollback_record.proofs.Pages.{config_same}
 use Rattle.rollback_record.proofs.Widths.{most_few}
 use Rattle.rollback_record.proofs.SoundBy.{SoundBy, BlankBy, EmptyBy, InstalledBy, sound_by}
@@ -95,23 +98,33 @@ onward law a b c (FollowsOn first) (FollowsOn second) =
           (u.0, u.1, later_still r s.0 u.0 s.2 u.2);
     })
 
--- ---- heads that agree on the configuration page
+-- ---- heads that agree on what tells the frame, and on the configuration page
 
 module _ (size : ℕ) (frame : Frame) (placed : FrameFacts size frame) (a c : List ℕ) (large : frame.base + head_size frame ≤ length a) (long : length c ≡ length a)
-    (page : config_page_of frame (head_of frame a) ≡ config_page_of frame (head_of frame c)) (gate : get_or c 0 0 ≡ get_or a 0 0) where
+    (page : config_page_of frame (head_of frame a) ≡ config_page_of frame (head_of frame c)) (tells : (i : ℕ) → TellsFrame i → get_or c i 0 ≡ get_or a i 0) where
   long_c : frame.base + head_size frame ≤ length c
   long_c = omega (arith, long, large)
 
+  told_same : 45066 ≤ length a → frame_told c ≡ frame_told a
+  told_same room = ap frame_by (same_range c a 45056 45066 long (omega (arith, long, room)) (λ i low high. tells i (inr (low, high))))
+
   pub same_config : (layout : List Entry) (key : Key) → ConfigOf (length a) a (Configured layout key frame) → ConfigOf (length c) c (Configured layout key frame)
   same_config layout key is = record {
-    version = is.version;
+    placed = subst (λ (n : ℕ). IsFrame n frame) (sym long) is.placed;
+    told = told_same (omega (arith, has_room (length a) frame is.placed)) ∙ is.told;
     whole = long_c;
     typed = is.typed;
     page = subst (λ (n : ℕ). IsConfigPage frame n (config_page_of frame (head_of frame c)) layout key) (sym long) (subst (λ (l : List ℕ). IsConfigPage frame (length a) l layout key) page is.page);
   }
 
   pub same_blank : ConfigOf (length a) a Blank → ConfigOf (length c) c Blank
-  same_blank is = ⊎_elim (λ short. inl (omega (arith, short, long))) (λ closed. inr (λ opened. closed (sym gate ∙ opened))) is
+  same_blank is = ⊎_elim
+      (λ short. inl (omega (arith, short, long)))
+      (λ closed. inr (
+        λ opened. closed.0 (sym (tells 0 (inl refl)) ∙ opened),
+        λ opened. closed.1 (sym (tells 45056 (inr (omega arith, omega arith))) ∙ opened),
+      ))
+      is
 
   -- and on a bank
   pub same_bank : (b n : ℕ) → b < 2 → n ≤ bank_size frame → ((i : ℕ) → bank_place frame b ≤ i → i < bank_place frame b + n → get_or c i 0 ≡ get_or a i 0)
@@ -128,19 +141,21 @@ module _ (size : ℕ) (frame : Frame) (placed : FrameFacts size frame) (a c : Li
   page_same : config_page_of frame (head_of frame a) ≡ config_page_of frame (head_of frame c)
   page_same = config_same size frame placed a c w large long two apart
 
-  gate_same : get_or c 0 0 ≡ get_or a 0 0
-  gate_same = apart 0 (placed.gate.0, omega (arith, placed.gate.1, placed.head)) (inl (omega (arith, placed.gate.1)))
+  tells_same : (i : ℕ) → TellsFrame i → get_or c i 0 ≡ get_or a i 0
+  tells_same i tells =
+      apart i (tells_head size frame placed i tells)
+      (tells_outside size frame placed (record_place frame w) (record_length frame) (omega arith) (omega (arith, two, most_few frame)) i tells)
 
   configured : (layout : List Entry) (key : Key) → ConfigOf (length a) a (Configured layout key frame) → ConfigOf (length c) c (Configured layout key frame)
-  configured = same_config size frame placed a c large long page_same gate_same
+  configured = same_config size frame placed a c large long page_same tells_same
 
   blank : ConfigOf (length a) a Blank → ConfigOf (length c) c Blank
-  blank = same_blank size frame placed a c large long page_same gate_same
+  blank = same_blank size frame placed a c large long page_same tells_same
 
   bank_same : (b n : ℕ) → b < 2 → n ≤ bank_size frame → bank_of frame (head_of frame a) b n ≡ bank_of frame (head_of frame c) b n
   bank_same b n few short =
-      same_bank size frame placed a c large long page_same gate_same b n few short
-      (λ i low high. apart i (omega (arith, low), omega (arith, high, short, bank_high size frame placed b few)) (inr (omega (arith, low, two, most_few frame))))
+      same_bank size frame placed a c large long page_same tells_same b n few short
+      (λ i low high. apart i (inr (omega (arith, low), omega (arith, high, short, bank_high size frame placed b few))) (inr (omega (arith, low, two, most_few frame))))
 
   installed_same : (layout : List Entry) (key : Key) (r : Record) → r.bank < 2 → r.length ≤ bank_size frame → IsInstalled layout key (recorded_bank frame (head_of frame a) r) r
       → IsInstalled layout key (recorded_bank frame (head_of frame c) r) r

@@ -15,7 +15,7 @@ use Rattle.rollback_record.specs.Committing.{HasSpare, IsSpare}
 use Rattle.rollback_record.specs.HeadRecord.{Counts, RecordOf, record_bytes}
 use Rattle.rollback_record.specs.RecordPage.{record_length}
 use Rattle.rollback_record.specs.SoundFlash.{Follows, FollowsBlank, FollowsOn, IsInstalled, Sound, SoundBlank, SoundEmpty, SoundInstalled, recorded_bank}
-use Rattle.rollback_record.specs.SoundLaws.{HasFrame, IsStillSound, SaysRecorded}
+use Rattle.rollback_record.specs.SoundLaws.{HasFrame, IsStillSound, SaysRecorded, TellsFrame}
 use Rattle.rollback_record.proofs.OneAnswers.{one_answer}
 use Rattle.rollback_record.proofs.Pages.{bytes_in, counts_of}
 use Rattle.rollback_record.proofs.Widths.{most_few}
@@ -24,8 +24,12 @@ use Rattle.rollback_record.proofs.Sounds.{same_bank, same_blank, same_config}
 
 at_front : (frame : Frame) (held : Option Record) (before image : List ℕ) → SameOn (SaysRecorded frame held) before image → (i : ℕ) → frame.base ≤ i → i < frame.base + bank_from frame 0
     → get_or image i 0 ≡ get_or before i 0
-at_front frame None before image same i low high = same.same i (low, high)
-at_front frame (Some r) before image same i low high = same.same i (inl (low, high))
+at_front frame None before image same i low high = same.same i (inr (low, high))
+at_front frame (Some r) before image same i low high = same.same i (inr (inl (low, high)))
+
+at_tells : (frame : Frame) (held : Option Record) (before image : List ℕ) → SameOn (SaysRecorded frame held) before image → (i : ℕ) → TellsFrame i → get_or image i 0 ≡ get_or before i 0
+at_tells frame None before image same i tells = same.same i (inl tells)
+at_tells frame (Some r) before image same i tells = same.same i (inl tells)
 
 module _ (frame : Frame) (held : Option Record) (a c : List ℕ) (has : HasFrame frame a) (was : RecordOf frame (head_of frame a) held) (same : SameOn (SaysRecorded frame held) a c) where
   is : FrameFacts (length a) frame
@@ -43,8 +47,8 @@ module _ (frame : Frame) (held : Option Record) (a c : List ℕ) (has : HasFrame
       ∙ sym (same_range c a frame.base (frame.base + page_bytes frame) same.size (omega (arith, large_c, is.page, is.head)) (λ i low high. front i low (omega (arith, high, is.page, is.first_bank))))
       ∙ sym (page_there (length a) frame is c)
 
-  gate_same : get_or c 0 0 ≡ get_or a 0 0
-  gate_same = front 0 is.gate.0 (omega (arith, is.gate.1, is.first_bank))
+  tells_same : (i : ℕ) → TellsFrame i → get_or c i 0 ≡ get_or a i 0
+  tells_same = at_tells frame held a c same
 
   bytes_same : (v : ℕ) → v < 2 → record_bytes frame (head_of frame a) v ≡ record_bytes frame (head_of frame c) v
   bytes_same v few =
@@ -88,21 +92,21 @@ module _ (frame : Frame) (held : Option Record) (a c : List ℕ) (has : HasFrame
   }
 
   configured : (layout : List Entry) (key : Key) → ConfigOf (length a) a (Configured layout key frame) → ConfigOf (length c) c (Configured layout key frame)
-  configured = same_config (length a) frame is a c is.inside same.size page_same gate_same
+  configured = same_config (length a) frame is a c is.inside same.size page_same tells_same
 
   -- the bank of the record that is held
   banked : (layout : List Entry) (key : Key) (r : Record) → RecordOf frame (head_of frame a) (Some r) → IsInstalled layout key (recorded_bank frame (head_of frame a) r) r
       → IsInstalled layout key (recorded_bank frame (head_of frame c) r) r
   banked layout key r stands installed =
       subst (λ (l : List ℕ). IsInstalled layout key l r)
-      (same_bank (length a) frame is a c is.inside same.size page_same gate_same r.bank r.length stands.counts.page.fields.bank stands.counts.page.fields.size (λ i low high. at_held.same i (inr (low, high))))
+      (same_bank (length a) frame is a c is.inside same.size page_same tells_same r.bank r.length stands.counts.page.fields.bank stands.counts.page.fields.size (λ i low high. at_held.same i (inr (inr (low, high)))))
       installed
     where
       at_held : SameOn (SaysRecorded frame (Some r)) a c
       at_held = subst (λ (o : Option Record). SameOn (SaysRecorded frame o) a c) (one_answer frame (head_of frame a) held (Some r) was stands) same
 
   sound_of : SoundBy frame a → Sound c
-  sound_of (BlankBy blank) = SoundBlank (same_blank (length a) frame is a c is.inside same.size page_same gate_same blank)
+  sound_of (BlankBy blank) = SoundBlank (same_blank (length a) frame is a c is.inside same.size page_same tells_same blank)
   sound_of (EmptyBy layout key config none) = SoundEmpty layout key frame (configured layout key config) (recorded None none)
   sound_of (InstalledBy layout key r config stands installed) = SoundInstalled layout key frame r (configured layout key config) (recorded (Some r) stands) (banked layout key r stands installed)
 

@@ -4,6 +4,7 @@ use Rattle.suit_edge.specs.Flash.{Flash, Keeps}
 use Rattle.suit_edge.specs.Gate.{IsGate}
 use Rattle.suit_edge.specs.Ranges.{Within, Outside}
 use Rattle.flash_layout.specs.declared.frame.Frame.{Frame}
+use Rattle.flash_layout.specs.declared.frame.TheConstants.{HEAD_SIZE}
 use Rattle.flash_layout.specs.declared.slot.Record.{Record}
 use Rattle.flash_layout.specs.Frames.{head_of, head_size, record_from, record_place}
 use Rattle.rollback_record.specs.declared.spare.RecordPages.{RecordPages}
@@ -11,9 +12,10 @@ use Rattle.rollback_record.specs.declared.spare.Spare.{Spare}
 use Rattle.rollback_record.specs.HeadRecord.{Counts, RecordOf}
 use Rattle.rollback_record.specs.RecordPage.{record_length}
 
--- the places of the head
+-- the places of the head: the first bytes of the flash, which tell its frame, and those of the frame. In version 1 they
+-- are the same.
 abbrev pub InHead : Frame → ℕ → Type 0
-InHead frame = Within frame.base (head_size frame)
+InHead frame i = Within 0 HEAD_SIZE i ⊎ Within frame.base (head_size frame) i
 
 -- a record's generation is one above the one before it, and the first one's is 1
 abbrev pub IsNext : Option Record → Record → Type 0

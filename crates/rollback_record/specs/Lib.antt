@@ -7,4 +7,7 @@ pub mod RecordLaws
 pub mod SoundFlash
 pub mod SoundLaws
 pub mod SettledLaws
+pub mod Moved
+pub mod Migrating
+pub mod MigrationLaws
 pub mod InstalledLaws

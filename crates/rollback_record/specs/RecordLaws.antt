@@ -1,8 +1,10 @@
 -- The laws of each record page and of each head.
 use Rattle.std.specs.Prelude.{◌≡◌, ℕ, List, Option}
 use Rattle.flash_layout.specs.declared.frame.Frame.{Frame}
+use Rattle.flash_layout.specs.declared.frame.TheConstants.{VERSION_1}
 use Rattle.flash_layout.specs.declared.slot.Record.{Record}
-use Rattle.rollback_record.specs.RecordPage.{IsRecordPage}
+use Rattle.flash_layout.specs.Roots.{second_frame}
+use Rattle.rollback_record.specs.RecordPage.{IsRecordPage, record_length}
 use Rattle.rollback_record.specs.HeadRecord.{RecordOf}
 
 -- a page holds one record at most
@@ -16,3 +18,8 @@ OneAnswer = (frame : Frame) (head : List ℕ) (a b : Option Record) → RecordOf
 -- and it has one, or none
 abbrev pub SomeAnswer : Type 0
 SomeAnswer = (frame : Frame) (head : List ℕ) → (o : Option Record) × RecordOf frame head o
+
+-- how many bytes of a page are read, by the version of the layout
+pub record RecordLengths : Type 0 where
+  pub first : record_length VERSION_1 ≡ 99
+  pub second : (base : ℕ) → record_length (second_frame base) ≡ 123

@@ -1,12 +1,14 @@
 -- Laws of sound and settled flashes over the moments of a flash, which no clause can say.
-use Rattle.std.proofs.Common.{◌≡◌, inl, inr, ⊎_elim, ℕ, ◌+◌, List, length, get_or, Some, None, refl, sym, ◌∙◌, ap, subst, arith}
+use Rattle.std.proofs.Common.{◌≡◌, inl, inr, ⊎_elim, ℕ, ◌+◌, ◌-◌, List, get_or, Some, None, refl, sym, ◌∙◌, ap, subst, arith}
 use Rattle.std.proofs.lemmas.List.Edits.{get_or-between}
 use Rattle.suit_edge.specs.Flash.{Flash, Now, Passes, IsFirmOn, IsFlash, IsSame, IsSettled}
 use Rattle.suit_edge.specs.FlashLaws.{each_now}
-use Rattle.flash_layout.specs.declared.frame.TheConstants.{VERSION_1}
+use Rattle.suit_edge.specs.Ranges.{Within}
+use Rattle.flash_layout.specs.declared.frame.Frame.{Frame}
 use Rattle.flash_layout.specs.Configs.{Blank, Configured}
-use Rattle.flash_layout.specs.Frames.{head_of}
-use Rattle.flash_layout.specs.ToldFrames.{head_there, same_config}
+use Rattle.flash_layout.specs.Frames.{head_of, head_size}
+use Rattle.flash_layout.specs.Roots.{frame_told}
+use Rattle.flash_layout.specs.ToldFrames.{HasSameHead, front_there, same_config}
 use Rattle.rollback_record.specs.Committing.{InHead}
 use Rattle.rollback_record.specs.HeadRecord.{RecordOf}
 use Rattle.rollback_record.specs.SoundFlash.{HoldsSame, IsInstalled, Settled, Sound, SoundBlank, SoundEmpty, SoundInstalled, recorded_bank}
@@ -21,7 +23,11 @@ both a b P Q first second = record {
 }
 
 same_start : (image : List ℕ) → HoldsSame image image
-same_start image = record { size = refl; head = refl; slots = λ layout key frame config k d inside. refl }
+same_start image = record {
+  head = record { long = refl; front = refl; head = λ frame told. refl };
+  area = λ frame told. refl;
+  slots = λ layout key frame config k d inside. refl;
+}
 
 -- where nothing is pending, a sound flash is settled
 pub settles : (f : Flash) → IsSettled f → Sound f.reads → Settled f
@@ -38,28 +44,37 @@ settled_still a b size law same settled = record {
 }
 
 -- nothing but the head decides
-pub same_sound : (image other : List ℕ) → length other ≡ length image → head_of VERSION_1 other ≡ head_of VERSION_1 image
-    → Sound image → Sound other
-same_sound image other long head (SoundBlank is) = SoundBlank (same_config image other long head Blank is)
-same_sound image other long head (SoundEmpty layout key frame is none) =
-    SoundEmpty layout key frame (same_config image other long head (Configured layout key frame) is)
-    (subst (λ (h : List ℕ). RecordOf frame h None) (sym (head_there (length image) image other long head layout key frame is)) none)
-same_sound image other long head (SoundInstalled layout key frame r is held installed) =
-    let there = sym (head_there (length image) image other long head layout key frame is) in
-    SoundInstalled layout key frame r (same_config image other long head (Configured layout key frame) is)
+pub same_sound : (image other : List ℕ) → HasSameHead image other → Sound image → Sound other
+same_sound image other same (SoundBlank is) = SoundBlank (same_config image other same Blank is)
+same_sound image other same (SoundEmpty layout key frame is none) =
+    SoundEmpty layout key frame (same_config image other same (Configured layout key frame) is)
+    (subst (λ (h : List ℕ). RecordOf frame h None) (sym (same.head frame is.told)) none)
+same_sound image other same (SoundInstalled layout key frame r is held installed) =
+    let there = sym (same.head frame is.told) in
+    SoundInstalled layout key frame r (same_config image other same (Configured layout key frame) is)
     (subst (λ (h : List ℕ). RecordOf frame h (Some r)) there held)
     (subst (λ (h : List ℕ). IsInstalled layout key (recorded_bank frame h r) r) there installed)
 
 -- each image that a power loss may leave of it is sound
 pub each_sound : (f : Flash) → Settled f → (image : List ℕ) → Now f image → Sound image
-each_sound f settled image now = let same = settled.sure image now in same_sound f.reads image same.size same.head settled.sound
+each_sound f settled image now = same_sound f.reads image (settled.sure image now).head settled.sound
+
+-- a byte of the head, by its place in the flash
+head_byte : (frame : Frame) (image : List ℕ) (i : ℕ) → Within frame.base (head_size frame) i → get_or (head_of frame image) (i - frame.base) 0 ≡ get_or image i 0
+head_byte frame image i inside =
+    let low = inside.0 in
+    let high = inside.1 in
+    let at : frame.base + (i - frame.base) ≡ i = omega (arith, low) in
+    get_or-between image frame.base (frame.base + head_size frame) (i - frame.base) 0 (omega (arith, low, high)) ∙ ap (λ (j : ℕ). get_or image j 0) at
 
 -- and has its head, as a commit needs
-pub head_is_firm : (f : Flash) → Settled f → IsFirmOn (InHead VERSION_1) f
-head_is_firm f settled image now = record {
-  size = (settled.sure image now).size;
-  same = λ i k.
-      let at : 0 + i ≡ i = omega arith in
-      ap (λ (j : ℕ). get_or image j 0) (sym at) ∙ sym (get_or-between image 0 49152 i 0 (omega (arith, k.1))) ∙ ap (λ (l : List ℕ). get_or l i 0) (settled.sure image now).head
-      ∙ get_or-between f.reads 0 49152 i 0 (omega (arith, k.1)) ∙ ap (λ (j : ℕ). get_or f.reads j 0) at;
-}
+pub head_is_firm : (f : Flash) (frame : Frame) → frame_told f.reads ≡ Some frame → Settled f → IsFirmOn (InHead frame) f
+head_is_firm f frame told settled image now =
+    let same = (settled.sure image now).head in
+    record {
+      size = same.long;
+      same = λ i k. ⊎_elim
+          (λ front. front_there f.reads image same i (omega (arith, front.1)))
+          (λ own. sym (head_byte frame image i own) ∙ ap (λ (l : List ℕ). get_or l (i - frame.base) 0) (same.head frame told) ∙ head_byte frame f.reads i own)
+          k;
+    }

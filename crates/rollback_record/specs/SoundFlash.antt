@@ -1,6 +1,6 @@
 -- A sound flash: whatever it would start is authentic, and was judged safe. Each word speaks of the head's bytes, and of
 -- the contents of slots; the image tells by which frame.
-use Rattle.std.specs.Prelude.{◌≡◌, ◌≤◌, ℕ, List, length, take, Some, None, All}
+use Rattle.std.specs.Prelude.{◌≡◌, ◌≤◌, ◌+◌, ℕ, List, length, slice_range, take, Some, None, All}
 use Rattle.std.specs.List.{AllByRecursion}
 use Rattle.det_cbor.specs.DataItem.{IsByte}
 use Rattle.suit_params.specs.Refusing.{SaysWhole}
@@ -14,14 +14,15 @@ use Rattle.suit_manifest.specs.Manifests.{IsManifest}
 use Rattle.suit_manifest.specs.Procedures.{invocation_tree}
 use Rattle.path_model.specs.Safe.{Safe}
 use Rattle.flash_layout.specs.declared.frame.Frame.{Frame}
-use Rattle.flash_layout.specs.declared.frame.TheConstants.{VERSION_1}
 use Rattle.flash_layout.specs.declared.key.Key.{Key}
 use Rattle.flash_layout.specs.declared.layout.Entry.{Entry}
 use Rattle.flash_layout.specs.declared.slot.Record.{Record}
 use Rattle.flash_layout.specs.Configs.{ConfigOf, Blank, Configured}
-use Rattle.flash_layout.specs.Frames.{bank_of, head_of}
+use Rattle.flash_layout.specs.Frames.{bank_of, frame_size, head_of, head_size}
 use Rattle.flash_layout.specs.Placement.{HasPlace}
+use Rattle.flash_layout.specs.Roots.{frame_told}
 use Rattle.flash_layout.specs.Slots.{layout_slots, slot_content}
+use Rattle.flash_layout.specs.ToldFrames.{HasSameHead}
 use Rattle.rollback_record.specs.HeadRecord.{RecordOf}
 
 -- ---- the installed envelope
@@ -74,15 +75,22 @@ pub data Sound (image : List ℕ) : Type 0 where
 
 -- ---- a settled flash
 
--- the same head, and the same content in each slot of the layout that it says
+-- the bytes of the work area, which version 1 lacks
+abbrev pub area_of : Frame → List ℕ → List ℕ
+area_of frame image =
+    slice_range image (frame.base + head_size frame) (frame.base + frame_size frame)
+
+-- the same head and work area, by the frame that the image tells, and the same content in each slot of the layout
+-- that it says
 pub record HoldsSame (image other : List ℕ) : Type 0 where
-  pub size : length other ≡ length image
-  pub head : head_of VERSION_1 other ≡ head_of VERSION_1 image
+  pub head : HasSameHead image other
+  pub area : (frame : Frame) → frame_told image ≡ Some frame
+      → area_of frame other ≡ area_of frame image
   pub slots : (layout : List Entry) (key : Key) (frame : Frame)
       → ConfigOf (length image) image (Configured layout key frame)
       → All (λ slot. slot_content slot other ≡ slot_content slot image) (layout_slots layout)
 
--- reads give a sound image, and a power loss now leaves the head and each content as they read
+-- reads give a sound image, and a power loss now leaves the head, the work area and each content as they read
 pub record Settled (f : Flash) : Type 0 where
   pub sound : Sound f.reads
   pub sure : (image : List ℕ) → Now f image → HoldsSame f.reads image

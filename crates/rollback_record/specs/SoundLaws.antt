@@ -2,14 +2,14 @@
 use Rattle.std.specs.Prelude.{◌≡◌, ◌⊎◌, ◌<◌, ℕ, List, length, Option, Some, None, IfSome}
 use Rattle.suit_edge.specs.Ranges.{Outside, SameOn, Within}
 use Rattle.flash_layout.specs.declared.frame.Frame.{Frame}
-use Rattle.flash_layout.specs.declared.frame.TheConstants.{VERSION_1}
+use Rattle.flash_layout.specs.declared.frame.TheConstants.{CONFIG_GATE, ROOT_BYTES, ROOT_GATE}
 use Rattle.flash_layout.specs.declared.key.Key.{Key}
 use Rattle.flash_layout.specs.declared.layout.Entry.{Entry}
 use Rattle.flash_layout.specs.declared.slot.Record.{Record}
 use Rattle.flash_layout.specs.Configs.{ConfigOf, Configured}
 use Rattle.flash_layout.specs.Formats.{IsFormatted}
 use Rattle.flash_layout.specs.Frames.{HasNoRecord, IsFrame, bank_from, bank_place, config_page_of, head_of, record_place}
-use Rattle.flash_layout.specs.ToldFrames.{IsTold}
+use Rattle.flash_layout.specs.ToldFrames.{HasSameHead, IsTold}
 use Rattle.rollback_record.specs.HeadRecord.{RecordOf}
 use Rattle.rollback_record.specs.Committing.{HasHeldOrNew, InHead}
 use Rattle.rollback_record.specs.RecordPage.{IsInRange, record_length}
@@ -42,11 +42,17 @@ pub record IsCommitted (frame : Frame) (held : Option Record) (new : Record)
       before image
   pub record_is : HasHeldOrNew frame held new image
 
--- the places that say what is recorded: the configuration page, the record pages, and of the bank what the record tells
+-- the places that tell the frame: the gate of version 1, and the root
+abbrev pub TellsFrame : ℕ → Type 0
+TellsFrame i = (i ≡ CONFIG_GATE) ⊎ Within ROOT_GATE ROOT_BYTES i
+
+-- the places that say what is recorded: those, the configuration page, the record pages, and of the bank what the record
+-- tells
 abbrev pub SaysRecorded : Frame → Option Record → ℕ → Type 0
-SaysRecorded frame None i = Within frame.base (bank_from frame 0) i
+SaysRecorded frame None i = TellsFrame i ⊎ Within frame.base (bank_from frame 0) i
 SaysRecorded frame (Some r) i =
-    Within frame.base (bank_from frame 0) i ⊎ Within (bank_place frame r.bank) r.length i
+    TellsFrame i ⊎ Within frame.base (bank_from frame 0) i
+    ⊎ Within (bank_place frame r.bank) r.length i
 
 -- Of a sound image, and one with the same bytes at these places.
 pub record IsStillSound (frame : Frame) (held : Option Record) (before image : List ℕ)
@@ -75,8 +81,7 @@ pub record SoundLaws : Type 0 where
       → SameOn (SaysRecorded frame held) before image → Sound before
       → IsStillSound frame held before image
   -- nothing but the head decides
-  pub same : (image other : List ℕ) → length other ≡ length image
-      → head_of VERSION_1 other ≡ head_of VERSION_1 image → Sound image → Sound other
+  pub same : (image other : List ℕ) → HasSameHead image other → Sound image → Sound other
   -- a sound image goes on from itself, and going on is transitive
   pub itself : (a : List ℕ) → Sound a → Follows a a
   pub onward : (a b c : List ℕ) → Follows a b → Follows b c → Follows a c

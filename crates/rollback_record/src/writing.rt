@@ -1,6 +1,7 @@
 //! Writing the record.
 
 ghost use Rattle.flash_layout.specs.Frames.{IsFrame, config_page_of, head_of};
+ghost use Rattle.flash_layout.specs.ToldFrames.{IsTold};
 ghost use Rattle.rollback_record.specs.Committing.{HasHeldOrNew, HasSpare, InHead, IsNext, KeepsBesideSpare};
 ghost use Rattle.rollback_record.specs.HeadRecord.{RecordOf, ResultCounts};
 ghost use Rattle.rollback_record.specs.RecordPage.{IsInRange};
@@ -38,6 +39,7 @@ pub fn commit<D: Disk>(
     new: &Record,
 ) -> Result<(), FlashFault>
     requires frame { IsFrame (D.extent disk.old) frame }
+    requires told { IsTrue D.told → IsTold (D.extent disk.old) (D.flash disk.old).reads frame }
     requires two { spare.which < 2 }
     requires held { IsTrue D.told
         → RecordOf frame (head_of frame (D.flash disk.old).reads)

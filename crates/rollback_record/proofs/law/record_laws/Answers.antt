@@ -1,3 +1,4 @@
+use Rattle.std.proofs.Common.{refl}
 use Rattle.rollback_record.proofs.FieldPlaces.{record_places}
 use Rattle.rollback_record.proofs.Fields.{one_record}
 use Rattle.rollback_record.proofs.OneAnswers.{one_answer}
@@ -15,3 +16,6 @@ returns-clause-some c = some_answer
 
 pub returns-clause-places : goal.returns-clause-places
 returns-clause-places c = record_places
+
+pub returns-clause-lengths : goal.returns-clause-lengths
+returns-clause-lengths c = record { first = refl; second = λ base. refl }

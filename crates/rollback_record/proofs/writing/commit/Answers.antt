@@ -66,12 +66,12 @@ returns-clause-ok g c t =
 
 pub returns-clause-sound : goal.returns-clause-sound
 returns-clause-sound g c t =
-    sound_by (g.D.Disk.extent c.args.disk.now) c.args.frame c.requires.frame _ _ _ _ (g.met.D.Disk.obeys c.args.disk.now t) (c.requires.held t) (c.requires.firm t) (returns-clause-any_moment g c t)
+    sound_by (g.D.Disk.extent c.args.disk.now) c.args.frame c.requires.frame _ _ (c.requires.told t) _ _ (g.met.D.Disk.obeys c.args.disk.now t) (c.requires.held t) (c.requires.firm t) (returns-clause-any_moment g c t)
     (returns-clause-keeps g c t) (c.requires.fields t)
 
 pub returns-clause-follows : goal.returns-clause-follows
 returns-clause-follows g c t =
-    follows_by (g.D.Disk.extent c.args.disk.now) c.args.frame c.requires.frame _ _ _ _ (g.met.D.Disk.obeys c.args.disk.now t) (c.requires.held t) (c.requires.firm t) (returns-clause-any_moment g c t)
+    follows_by (g.D.Disk.extent c.args.disk.now) c.args.frame c.requires.frame _ _ (c.requires.told t) _ _ (g.met.D.Disk.obeys c.args.disk.now t) (c.requires.held t) (c.requires.firm t) (returns-clause-any_moment g c t)
     (returns-clause-keeps g c t)
 
 pub write_known-answer-requires-clause-known : goal.write_known-answer-requires-clause-known
