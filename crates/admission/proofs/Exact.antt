@@ -80,19 +80,19 @@ admitting_or P (refusals.TooWide p w) x = inl (x (λ (same : refusals.TooWide p 
 admitting_or P (refusals.Unsafe p path) x = inl (x (λ (same : refusals.Unsafe p path ≡ refusals.NoMemory). absurd cc))
 admitting_or P refusals.NoMemory x = inr refl
 
-module _ (laws : AdmittingLaws) (layout : List Entry) (key bytes : List ℕ) where
-  pub admitted_exactly : (result : Result Admitted NotAdmitted) → IfErr result (λ e. e ≢ refusals.NoMemory → IsNotAdmitted layout key bytes e)
-      → (a : Admission) → IsAdmitted layout key bytes a → IfErr result (λ e. e ≡ refusals.NoMemory)
+module _ (laws : AdmittingLaws) (limit : ℕ) (layout : List Entry) (key bytes : List ℕ) where
+  pub admitted_exactly : (result : Result Admitted NotAdmitted) → IfErr result (λ e. e ≢ refusals.NoMemory → IsNotAdmitted limit layout key bytes e)
+      → (a : Admission) → IsAdmitted limit layout key bytes a → IfErr result (λ e. e ≡ refusals.NoMemory)
   admitted_exactly (Ok o) refused a is = tt
   admitted_exactly (Err e) refused a is =
-      ⊎_elim (λ not. absurd (laws.never_both layout key bytes a e is not)) (λ none. none) (admitting_or (IsNotAdmitted layout key bytes e) e refused)
+      ⊎_elim (λ not. absurd (laws.never_both limit layout key bytes a e is not)) (λ none. none) (admitting_or (IsNotAdmitted limit layout key bytes e) e refused)
 
-  pub not_admitted_exactly : (result : Result Admitted NotAdmitted) → IfOk result (λ a. IsAdmitted layout key bytes (admission_of a))
-      → IfErr result (λ e. e ≢ refusals.NoMemory → IsNotAdmitted layout key bytes e)
-      → (r : NotAdmitted) → IsNotAdmitted layout key bytes r → IsErrAnd result (λ e. RefuseAlike e r ⊎ (e ≡ refusals.NoMemory))
-  not_admitted_exactly (Ok a) admitted refused r not = absurd (laws.never_both layout key bytes (admission_of a) r admitted not)
+  pub not_admitted_exactly : (result : Result Admitted NotAdmitted) → IfOk result (λ a. IsAdmitted limit layout key bytes (admission_of a))
+      → IfErr result (λ e. e ≢ refusals.NoMemory → IsNotAdmitted limit layout key bytes e)
+      → (r : NotAdmitted) → IsNotAdmitted limit layout key bytes r → IsErrAnd result (λ e. RefuseAlike e r ⊎ (e ≡ refusals.NoMemory))
+  not_admitted_exactly (Ok a) admitted refused r not = absurd (laws.never_both limit layout key bytes (admission_of a) r admitted not)
   not_admitted_exactly (Err e) admitted refused r not =
-      ⊎_elim (λ x. inl (laws.one_refusal layout key bytes e r x not)) (λ none. inr none) (admitting_or (IsNotAdmitted layout key bytes e) e refused)
+      ⊎_elim (λ x. inl (laws.one_refusal limit layout key bytes e r x not)) (λ none. inr none) (admitting_or (IsNotAdmitted limit layout key bytes e) e refused)
 
 -- ---- a start
 

@@ -14,7 +14,6 @@ use Rattle.suit_manifest.specs.Procedures.{invocation_tree, update_tree}
 use Rattle.path_model.specs.CoverLaws.{BadPathRefutes}
 use Rattle.flash_layout.specs.declared.layout.Entry.{Entry}
 use Rattle.flash_layout.specs.Placement.{IsFirstUnknown}
-use Rattle.admission.specs.declared.opening.TheConstants.{LONGEST_TRIMMED}
 use Rattle.admission.specs.declared.refusal.NotAdmitted.{NotAdmitted}
 use Rattle.admission.specs.declared.refusal.NotAdmitted.TheVariants as refusals
 use Rattle.admission.specs.declared.refusal.NotSafe.{NotSafe}
@@ -49,7 +48,7 @@ procedures_tell not_safe.NoMemory (not_safe.TooWide q v) same = absurd same
 procedures_tell not_safe.NoMemory (not_safe.Unsafe q y) same = absurd same
 procedures_tell not_safe.NoMemory not_safe.NoMemory same = tt
 
-module _ (layout : List Entry) (key bytes : List ℕ) where
+module _ (limit : ℕ) (layout : List Entry) (key bytes : List ℕ) where
   -- ---- the judgements in their order
 
   abbrev to_procedures : Manifest → Members → Chain NotAdmitted
@@ -70,7 +69,7 @@ module _ (layout : List Entry) (key bytes : List ℕ) where
   to_authenticity said = first_then (AuthenticUnder key said) (IsUnauthentic said key) (λ answer. refusals.NotAuthentic answer) (λ _. to_manifest said)
 
   abbrev to_length : EnvelopeSays → Chain NotAdmitted
-  to_length said = first_then (IsShort LONGEST_TRIMMED said) (IsLong LONGEST_TRIMMED said) (λ size. refusals.TooLong size) (λ _. to_authenticity said)
+  to_length said = first_then (IsShort limit said) (IsLong limit said) (λ size. refusals.TooLong size) (λ _. to_authenticity said)
 
   abbrev all : Chain NotAdmitted
   all = first_then (Spell bytes) (SpellNone bytes) (λ r. refusals.NoEnvelope r) to_length
@@ -80,22 +79,22 @@ module _ (layout : List Entry) (key bytes : List ℕ) where
   past_envelope : (said : EnvelopeSays) (r : NotAdmitted) → Spell bytes said → (to_length said).stops r → all.stops r
   past_envelope said r spell stops = inr (said, spell, stops)
 
-  past_authenticity : (said : EnvelopeSays) (r : NotAdmitted) → AreAuthentic key bytes said → (to_manifest said).stops r → all.stops r
+  past_authenticity : (said : EnvelopeSays) (r : NotAdmitted) → AreAuthentic limit key bytes said → (to_manifest said).stops r → all.stops r
   past_authenticity said r are stops = past_envelope said r are.within.spell (inr (tt, are.within.short, inr (tt, are.authentic, stops)))
 
-  past_manifest : (said : EnvelopeSays) (manifest : Manifest) (r : NotAdmitted) → IsOffered key bytes said manifest → (to_places said manifest).stops r → all.stops r
+  past_manifest : (said : EnvelopeSays) (manifest : Manifest) (r : NotAdmitted) → IsOffered limit key bytes said manifest → (to_places said manifest).stops r → all.stops r
   past_manifest said manifest r is stops = past_authenticity said r is.are_authentic (inr (manifest, is.says, stops))
 
-  member_stops : (fault : MemberFault) → LacksMember layout key bytes fault → all.stops (of_members fault)
+  member_stops : (fault : MemberFault) → LacksMember limit layout key bytes fault → all.stops (of_members fault)
   member_stops fault x = past_manifest x.said x.manifest (of_members fault) x.offered (inr (tt, (x.places, x.placed), inl (Stopped fault x.lacks)))
 
-  procedure_stops : (refusal : NotSafe) → LacksSafety layout key bytes refusal → all.stops (of_procedures refusal)
+  procedure_stops : (refusal : NotSafe) → LacksSafety limit layout key bytes refusal → all.stops (of_procedures refusal)
   procedure_stops refusal x =
       let a = x.of in
       past_manifest a.said a.manifest (of_procedures refusal) x.complete.offered
       (inr (tt, (a.places, x.complete.placed), inr (a.members, x.complete.members, inl (Stopped refusal x.refuses))))
 
-  stops_so : (r : NotAdmitted) → IsNotAdmitted layout key bytes r → all.stops r
+  stops_so : (r : NotAdmitted) → IsNotAdmitted limit layout key bytes r → all.stops r
   stops_so (refusals.NoEnvelope r) x = inl (Stopped r x)
   stops_so (refusals.TooLong size) x = past_envelope x.said (refusals.TooLong size) x.spell (inl (Stopped size (record { long = x.long; size_is = x.size_is })))
   stops_so (refusals.NotAuthentic answer) x =
@@ -110,7 +109,7 @@ module _ (layout : List Entry) (key bytes : List ℕ) where
   stops_so (refusals.Unsafe procedure path) x = procedure_stops (not_safe.Unsafe procedure path) x
   stops_so refusals.NoMemory x = absurd x
 
-  goes_so : (a : Admission) → IsAdmitted layout key bytes a → all.goes
+  goes_so : (a : Admission) → IsAdmitted limit layout key bytes a → all.goes
   goes_so a is =
       let all_met = is.complete in
       let are = all_met.offered.are_authentic in (
@@ -152,20 +151,20 @@ module _ (layout : List Entry) (key bytes : List ℕ) where
           (authenticity_judged authenticity said (envelopes.wrapper bytes said spell.envelope) key) (λ a b same. same) (λ _ _. manifest_one)
 
       length_one : IsOne RefuseAlike (to_length said)
-      length_one = one_then RefuseAlike (IsShort LONGEST_TRIMMED said) (IsLong LONGEST_TRIMMED said) (λ x y. x ≡ y) (λ size. refusals.TooLong size) (λ _. to_authenticity said)
-          (length_judged LONGEST_TRIMMED said) (λ m n same. same) (λ _ _. authenticity_one)
+      length_one = one_then RefuseAlike (IsShort limit said) (IsLong limit said) (λ x y. x ≡ y) (λ size. refusals.TooLong size) (λ _. to_authenticity said)
+          (length_judged limit said) (λ m n same. same) (λ _ _. authenticity_one)
 
     all_one : IsOne RefuseAlike all
     all_one = one_then RefuseAlike (Spell bytes) (SpellNone bytes) (λ x y. x ≡ y) (λ r. refusals.NoEnvelope r) to_length
         (envelope_judged envelopes bytes) (λ r q same. same) length_one
 
-    pub never_both : (a : Admission) (r : NotAdmitted) → IsAdmitted layout key bytes a → IsNotAdmitted layout key bytes r → ⊥
+    pub never_both : (a : Admission) (r : NotAdmitted) → IsAdmitted limit layout key bytes a → IsNotAdmitted limit layout key bytes r → ⊥
     never_both a r is is_not = all_one.never r (goes_so a is) (stops_so r is_not)
 
-    pub one_refusal : (r other : NotAdmitted) → IsNotAdmitted layout key bytes r → IsNotAdmitted layout key bytes other → RefuseAlike r other
+    pub one_refusal : (r other : NotAdmitted) → IsNotAdmitted limit layout key bytes r → IsNotAdmitted limit layout key bytes other → RefuseAlike r other
     one_refusal r other x y = all_one.alike r other (stops_so r x) (stops_so other y)
 
-    pub one_admission : (a b : Admission) → IsAdmitted layout key bytes a → IsAdmitted layout key bytes b → AdmitAlike a b
+    pub one_admission : (a b : Admission) → IsAdmitted limit layout key bytes a → IsAdmitted limit layout key bytes b → AdmitAlike a b
     one_admission a b x y =
         let spell = x.complete.offered.are_authentic.within.spell in
         let said = (envelope_judged envelopes bytes).same a.said b.said spell y.complete.offered.are_authentic.within.spell in
@@ -181,7 +180,7 @@ module _ (layout : List Entry) (key bytes : List ℕ) where
 
 pub admitting_laws : EnvelopeLaws → AuthenticityLaw → ManifestLaws → MembersLaws → BadPathRefutes → AdmittingLaws
 admitting_laws envelopes authenticity manifests members refutes = record {
-  never_both = λ layout key bytes. never_both layout key bytes envelopes authenticity manifests members refutes;
-  one_admission = λ layout key bytes. one_admission layout key bytes envelopes authenticity manifests members refutes;
-  one_refusal = λ layout key bytes. one_refusal layout key bytes envelopes authenticity manifests members refutes;
+  never_both = λ limit layout key bytes. never_both limit layout key bytes envelopes authenticity manifests members refutes;
+  one_admission = λ limit layout key bytes. one_admission limit layout key bytes envelopes authenticity manifests members refutes;
+  one_refusal = λ limit layout key bytes. one_refusal limit layout key bytes envelopes authenticity manifests members refutes;
 }

@@ -69,8 +69,8 @@ module _ (envelopes : EnvelopeLaws) (manifests : ManifestLaws) (bytes : List ℕ
       let says = subst (λ (s : EnvelopeSays). HasManifest s n) (sym same) y.says in
       (same, (manifest_judged manifests said (envelopes.strings bytes said x.spell.envelope).manifest.1).same m n x.says says)
 
-admitted_starts : (layout : List Entry) (key bytes : List ℕ) (a : Admission) → IsAdmitted layout key bytes a → IsStartable layout key bytes a.said a.manifest a.places
-admitted_starts layout key bytes a is =
+admitted_starts : (limit : ℕ) (layout : List Entry) (key bytes : List ℕ) (a : Admission) → IsAdmitted limit layout key bytes a → IsStartable layout key bytes a.said a.manifest a.places
+admitted_starts limit layout key bytes a is =
     let offered = is.complete.offered in
     record {
       spell = record { spell = offered.are_authentic.within.spell; says = offered.says };

@@ -12,7 +12,6 @@ use Rattle.suit_manifest.specs.Procedures.{invocation_tree, update_tree}
 use Rattle.flash_layout.specs.declared.layout.Entry.{Entry}
 use Rattle.flash_layout.specs.declared.place.Places.{Places}
 use Rattle.flash_layout.specs.Placement.{ArePlaces, IsFirstUnknown}
-use Rattle.admission.specs.declared.opening.TheConstants.{LONGEST_TRIMMED}
 use Rattle.admission.specs.declared.refusal.NotAdmitted.TheVariants as refusals
 use Rattle.admission.specs.declared.refusal.NotOpened.{NotOpened}
 use Rattle.admission.specs.declared.refusal.NotOpened.TheVariants as not_opened
@@ -55,35 +54,35 @@ module _ (limit : ℕ) (bytes : List ℕ) where
 
 -- ---- admission
 
-module _ (layout : List Entry) (key bytes : List ℕ) where
-  pub envelope_not_admitted : (e : NotOpened) → IsNotWithin LONGEST_TRIMMED bytes e → of_opening e ≢ refusals.NoMemory → IsNotAdmitted layout key bytes (of_opening e)
+module _ (limit : ℕ) (layout : List Entry) (key bytes : List ℕ) where
+  pub envelope_not_admitted : (e : NotOpened) → IsNotWithin limit bytes e → of_opening e ≢ refusals.NoMemory → IsNotAdmitted limit layout key bytes (of_opening e)
   envelope_not_admitted (not_opened.NoEnvelope r) x some = x
   envelope_not_admitted (not_opened.TooLong size) x some = x
   envelope_not_admitted (not_opened.NoManifest r) x some = absurd x
   envelope_not_admitted not_opened.NoMemory x some = absurd x
 
-  pub manifest_not_admitted : (said : EnvelopeSays) → AreAuthentic key bytes said → (e : NotOpened) → IsManifestRefused said e → of_opening e ≢ refusals.NoMemory
-      → IsNotAdmitted layout key bytes (of_opening e)
+  pub manifest_not_admitted : (said : EnvelopeSays) → AreAuthentic limit key bytes said → (e : NotOpened) → IsManifestRefused said e → of_opening e ≢ refusals.NoMemory
+      → IsNotAdmitted limit layout key bytes (of_opening e)
   manifest_not_admitted said are (not_opened.NoEnvelope r) x some = absurd x
   manifest_not_admitted said are (not_opened.TooLong size) x some = absurd x
   manifest_not_admitted said are (not_opened.NoManifest r) x some = record { said = said; are_authentic = are; refuses = x }
   manifest_not_admitted said are not_opened.NoMemory x some = absurd (some refl)
 
-  pub component_not_admitted : (said : EnvelopeSays) (manifest : Manifest) → IsOffered key bytes said manifest → (component : ℕ)
-      → IsFirstUnknown layout manifest.components component → IsNotAdmitted layout key bytes (refusals.UnknownComponent component)
+  pub component_not_admitted : (said : EnvelopeSays) (manifest : Manifest) → IsOffered limit key bytes said manifest → (component : ℕ)
+      → IsFirstUnknown layout manifest.components component → IsNotAdmitted limit layout key bytes (refusals.UnknownComponent component)
   component_not_admitted said manifest offered component unknown = record { said = said; manifest = manifest; offered = offered; unknown = unknown }
 
-  module _ (said : EnvelopeSays) (manifest : Manifest) (places : Places) (offered : IsOffered key bytes said manifest) (placed : ArePlaces layout manifest.components places) where
+  module _ (said : EnvelopeSays) (manifest : Manifest) (places : Places) (offered : IsOffered limit key bytes said manifest) (placed : ArePlaces layout manifest.components places) where
     pub members_not_admitted : (fault : MemberFault) → IsLackBy (LacksMembers said manifest) fault → of_members fault ≢ refusals.NoMemory
-        → IsNotAdmitted layout key bytes (of_members fault)
+        → IsNotAdmitted limit layout key bytes (of_members fault)
     members_not_admitted (faults.Severed name) x some = record { said = said; manifest = manifest; places = places; offered = offered; placed = placed; lacks = x }
     members_not_admitted (faults.Differs name stated found) x some = record { said = said; manifest = manifest; places = places; offered = offered; placed = placed; lacks = x }
     members_not_admitted (faults.Refused r) x some = record { said = said; manifest = manifest; places = places; offered = offered; placed = placed; lacks = x }
     members_not_admitted faults.NoMemory x some = absurd (some refl)
 
-  module _ (a : Admission) (complete : IsComplete layout key bytes a) where
+  module _ (a : Admission) (complete : IsComplete limit layout key bytes a) where
     pub procedures_not_admitted : (e : NotSafe) → (e ≢ not_safe.NoMemory → IsNotSafe (update_tree a.manifest a.members) (invocation_tree a.manifest) e)
-        → of_procedures e ≢ refusals.NoMemory → IsNotAdmitted layout key bytes (of_procedures e)
+        → of_procedures e ≢ refusals.NoMemory → IsNotAdmitted limit layout key bytes (of_procedures e)
     procedures_not_admitted (not_safe.TooWide procedure width) x some =
         record { of = a; complete = complete; refuses = x (λ (same : not_safe.TooWide procedure width ≡ not_safe.NoMemory). absurd cc) }
     procedures_not_admitted (not_safe.Unsafe procedure path) x some =

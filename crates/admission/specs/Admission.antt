@@ -19,7 +19,6 @@ use Rattle.flash_layout.specs.declared.layout.Entry.{Entry}
 use Rattle.flash_layout.specs.declared.place.Places.{Places}
 use Rattle.flash_layout.specs.Placement.{ArePlaces, IsFirstUnknown}
 use Rattle.admission.specs.declared.admitting.Admitted.{Admitted}
-use Rattle.admission.specs.declared.opening.TheConstants.{LONGEST_TRIMMED}
 use Rattle.admission.specs.declared.refusal.NotAdmitted.{NotAdmitted}
 use Rattle.admission.specs.declared.refusal.NotAdmitted.TheVariants as refusals
 use Rattle.admission.specs.declared.refusal.NotSafe.{NotSafe}
@@ -38,13 +37,14 @@ pub record IsUnauthentic (said : EnvelopeSays) (key : List ℕ) (answer : Authen
 -- ---- what is met, one after the other
 
 -- the bytes spell an envelope within the limit, which is authentic under the key
-pub record AreAuthentic (key bytes : List ℕ) (said : EnvelopeSays) : Type 0 where
-  pub within : IsWithin LONGEST_TRIMMED bytes said
+pub record AreAuthentic (limit : ℕ) (key bytes : List ℕ) (said : EnvelopeSays) : Type 0 where
+  pub within : IsWithin limit bytes said
   pub authentic : IsAuthentic said.wrapper said.manifest key
 
 -- and has this manifest
-pub record IsOffered (key bytes : List ℕ) (said : EnvelopeSays) (manifest : Manifest) : Type 0 where
-  pub are_authentic : AreAuthentic key bytes said
+pub record IsOffered (limit : ℕ) (key bytes : List ℕ) (said : EnvelopeSays) (manifest : Manifest)
+    : Type 0 where
+  pub are_authentic : AreAuthentic limit key bytes said
   pub says : HasManifest said manifest
 
 -- an envelope, its manifest, the places of the manifest's components in the layout, and its members that stand apart
@@ -55,70 +55,73 @@ pub record Admission : Type 0 where
   pub members : Members
 
 -- the layout has the components, and the members are there and match
-pub record IsComplete (layout : List Entry) (key bytes : List ℕ) (a : Admission) : Type 0 where
-  pub offered : IsOffered key bytes a.said a.manifest
+pub record IsComplete (limit : ℕ) (layout : List Entry) (key bytes : List ℕ) (a : Admission)
+    : Type 0 where
+  pub offered : IsOffered limit key bytes a.said a.manifest
   pub placed : ArePlaces layout a.manifest.components a.places
   pub members : HasMembers a.said a.manifest a.members
 
 -- the envelope of these bytes is admitted: both its procedures may be run besides
-pub record IsAdmitted (layout : List Entry) (key bytes : List ℕ) (a : Admission) : Type 0 where
-  pub complete : IsComplete layout key bytes a
+pub record IsAdmitted (limit : ℕ) (layout : List Entry) (key bytes : List ℕ) (a : Admission)
+    : Type 0 where
+  pub complete : IsComplete limit layout key bytes a
   pub safe : AreSafe (update_tree a.manifest a.members) (invocation_tree a.manifest)
 
 -- ---- what is not met first
 
-pub record IsAuthenticityRefused (key bytes : List ℕ) (answer : Authenticity) : Type 0 where
+pub record IsAuthenticityRefused (limit : ℕ) (key bytes : List ℕ) (answer : Authenticity)
+    : Type 0 where
   pub said : EnvelopeSays
-  pub within : IsWithin LONGEST_TRIMMED bytes said
+  pub within : IsWithin limit bytes said
   pub unauthentic : IsUnauthentic said key answer
 
-pub record IsAuthenticWithout (key bytes : List ℕ) (r : Refusal) : Type 0 where
+pub record IsAuthenticWithout (limit : ℕ) (key bytes : List ℕ) (r : Refusal) : Type 0 where
   pub said : EnvelopeSays
-  pub are_authentic : AreAuthentic key bytes said
+  pub are_authentic : AreAuthentic limit key bytes said
   pub refuses : HasNoManifest said r
 
-pub record LacksComponent (layout : List Entry) (key bytes : List ℕ) (component : ℕ)
+pub record LacksComponent (limit : ℕ) (layout : List Entry) (key bytes : List ℕ) (component : ℕ)
     : Type 0 where
   pub said : EnvelopeSays
   pub manifest : Manifest
-  pub offered : IsOffered key bytes said manifest
+  pub offered : IsOffered limit key bytes said manifest
   pub unknown : IsFirstUnknown layout manifest.components component
 
-pub record LacksMember (layout : List Entry) (key bytes : List ℕ) (fault : MemberFault)
+pub record LacksMember (limit : ℕ) (layout : List Entry) (key bytes : List ℕ) (fault : MemberFault)
     : Type 0 where
   pub said : EnvelopeSays
   pub manifest : Manifest
   pub places : Places
-  pub offered : IsOffered key bytes said manifest
+  pub offered : IsOffered limit key bytes said manifest
   pub placed : ArePlaces layout manifest.components places
   pub lacks : LacksMembers said manifest fault
 
-pub record LacksSafety (layout : List Entry) (key bytes : List ℕ) (refusal : NotSafe)
+pub record LacksSafety (limit : ℕ) (layout : List Entry) (key bytes : List ℕ) (refusal : NotSafe)
     : Type 0 where
   pub of : Admission
-  pub complete : IsComplete layout key bytes of
+  pub complete : IsComplete limit layout key bytes of
   pub refuses : IsNotSafe (update_tree of.manifest of.members) (invocation_tree of.manifest) refusal
 
 -- why the envelope of these bytes is not admitted: all that is judged before is met, and this is not
-abbrev pub IsNotAdmitted : List Entry → List ℕ → List ℕ → NotAdmitted → Type 0
-IsNotAdmitted layout key bytes (refusals.NoEnvelope r) = SpellNone bytes r
-IsNotAdmitted layout key bytes (refusals.TooLong size) = IsAbove LONGEST_TRIMMED bytes size
-IsNotAdmitted layout key bytes (refusals.NotAuthentic answer) =
-    IsAuthenticityRefused key bytes answer
-IsNotAdmitted layout key bytes (refusals.NoManifest r) = IsAuthenticWithout key bytes r
-IsNotAdmitted layout key bytes (refusals.UnknownComponent component) =
-    LacksComponent layout key bytes component
-IsNotAdmitted layout key bytes (refusals.Severed name) =
-    LacksMember layout key bytes (faults.Severed name)
-IsNotAdmitted layout key bytes (refusals.Differs name stated found) =
-    LacksMember layout key bytes (faults.Differs name stated found)
-IsNotAdmitted layout key bytes (refusals.NoSequence r) =
-    LacksMember layout key bytes (faults.Refused r)
-IsNotAdmitted layout key bytes (refusals.TooWide procedure width) =
-    LacksSafety layout key bytes (not_safe.TooWide procedure width)
-IsNotAdmitted layout key bytes (refusals.Unsafe procedure path) =
-    LacksSafety layout key bytes (not_safe.Unsafe procedure path)
-IsNotAdmitted layout key bytes refusals.NoMemory = ⊥
+abbrev pub IsNotAdmitted : ℕ → List Entry → List ℕ → List ℕ → NotAdmitted → Type 0
+IsNotAdmitted limit layout key bytes (refusals.NoEnvelope r) = SpellNone bytes r
+IsNotAdmitted limit layout key bytes (refusals.TooLong size) = IsAbove limit bytes size
+IsNotAdmitted limit layout key bytes (refusals.NotAuthentic answer) =
+    IsAuthenticityRefused limit key bytes answer
+IsNotAdmitted limit layout key bytes (refusals.NoManifest r) = IsAuthenticWithout limit key bytes r
+IsNotAdmitted limit layout key bytes (refusals.UnknownComponent component) =
+    LacksComponent limit layout key bytes component
+IsNotAdmitted limit layout key bytes (refusals.Severed name) =
+    LacksMember limit layout key bytes (faults.Severed name)
+IsNotAdmitted limit layout key bytes (refusals.Differs name stated found) =
+    LacksMember limit layout key bytes (faults.Differs name stated found)
+IsNotAdmitted limit layout key bytes (refusals.NoSequence r) =
+    LacksMember limit layout key bytes (faults.Refused r)
+IsNotAdmitted limit layout key bytes (refusals.TooWide procedure width) =
+    LacksSafety limit layout key bytes (not_safe.TooWide procedure width)
+IsNotAdmitted limit layout key bytes (refusals.Unsafe procedure path) =
+    LacksSafety limit layout key bytes (not_safe.Unsafe procedure path)
+IsNotAdmitted limit layout key bytes refusals.NoMemory = ⊥
 
 -- ---- the code's answer
 

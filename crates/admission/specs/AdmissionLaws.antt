@@ -83,12 +83,14 @@ pub record JudgingLaws : Type 0 where
       → IsNotSafe update invocation r → IsNotSafe update invocation other → JudgeAlike r other
 
 pub record AdmittingLaws : Type 0 where
-  pub never_both : (layout : List Entry) (key bytes : List ℕ) (a : Admission) (r : NotAdmitted)
-      → IsAdmitted layout key bytes a → IsNotAdmitted layout key bytes r → ⊥
-  pub one_admission : (layout : List Entry) (key bytes : List ℕ) (a b : Admission)
-      → IsAdmitted layout key bytes a → IsAdmitted layout key bytes b → AdmitAlike a b
-  pub one_refusal : (layout : List Entry) (key bytes : List ℕ) (r other : NotAdmitted)
-      → IsNotAdmitted layout key bytes r → IsNotAdmitted layout key bytes other
+  pub never_both : (limit : ℕ) (layout : List Entry) (key bytes : List ℕ) (a : Admission)
+      (r : NotAdmitted)
+      → IsAdmitted limit layout key bytes a → IsNotAdmitted limit layout key bytes r → ⊥
+  pub one_admission : (limit : ℕ) (layout : List Entry) (key bytes : List ℕ) (a b : Admission)
+      → IsAdmitted limit layout key bytes a → IsAdmitted limit layout key bytes b → AdmitAlike a b
+  pub one_refusal : (limit : ℕ) (layout : List Entry) (key bytes : List ℕ)
+      (r other : NotAdmitted)
+      → IsNotAdmitted limit layout key bytes r → IsNotAdmitted limit layout key bytes other
       → RefuseAlike r other
 
 pub record StartingLaws : Type 0 where
@@ -103,8 +105,8 @@ pub record StartingLaws : Type 0 where
       → SpellManifest bytes said manifest → SpellManifest bytes other next
       → (said ≡ other) × (manifest ≡ next)
   -- what is admitted may be started
-  pub admitted : (layout : List Entry) (key bytes : List ℕ) (a : Admission)
-      → IsAdmitted layout key bytes a
+  pub admitted : (limit : ℕ) (layout : List Entry) (key bytes : List ℕ) (a : Admission)
+      → IsAdmitted limit layout key bytes a
       → IsStartable layout key bytes a.said a.manifest a.places
 
 pub record AdmissionLaws : Type 0 where

@@ -10,9 +10,10 @@ ghost use Rattle.admission.specs.AdmissionLaws.{RefuseAlike};
 ghost use Rattle.admission.specs.declared.refusal.NotAdmitted.{NotAdmitted};
 ghost use Rattle.admission.specs.declared.refusal.NotAdmitted.TheVariants.{NoMemory};
 
+use crate::judging::judge_both;
 use crate::opening::{envelope_within, manifest_in};
-use crate::{LONGEST_TRIMMED, NotAdmitted, admission_laws, judge};
-use flash_layout::{Layout, Places, places};
+use crate::{NotAdmitted, admission_laws};
+use flash_layout::{Layout, MOST_ENTRIES, Places, places};
 use std::alloc::Global;
 use suit_envelope::{Authenticity, Envelope, authentic};
 use suit_manifest::{Manifest, Members, members_of, procedure_laws};
@@ -46,24 +47,25 @@ fn admit_bytes<'a>(
     layout: &Layout,
     key: &[u8],
     bytes: &'a [u8],
+    limit: u32,
 ) -> Result<Admitted<'a>, NotAdmitted<'a>>
-    requires { length layout.now ≤ 8 }
+    requires { length layout.now ≤ MOST_ENTRIES }
     ensures admitted { IfOk result
-        (λ a. IsAdmitted layout.now key.now bytes.now (admission_of a)) }
+        (λ a. IsAdmitted limit layout.now key.now bytes.now (admission_of a)) }
     ensures whole { IfOk result (λ a. a.envelope.whole.now ≡ bytes.now) }
     ensures wrapper { IfOk result (λ a. HasWrapper a.envelope.wrapper.now) }
     ensures other { IfOk result (λ a. HaveOtherPlaces a.manifest.components a.places) }
     ensures few { IfOk result (λ a. length a.manifest.components ≤ 8) }
     ensures refused { IfErr result
-        (λ e. e ≢ NoMemory → IsNotAdmitted layout.now key.now bytes.now e) }
+        (λ e. e ≢ NoMemory → IsNotAdmitted limit layout.now key.now bytes.now e) }
 {
     procedure_laws();
-    let envelope = envelope_within(bytes, LONGEST_TRIMMED)?;
+    let envelope = envelope_within(bytes, limit)?;
     authenticated(&envelope, key)?;
     let manifest = manifest_in(alloc, &envelope)?;
     let places = places(layout, &manifest.components)?;
     let members = members_of(alloc, &envelope, &manifest)?;
-    judge(alloc, &manifest, &members)?;
+    judge_both(alloc, &manifest, &members)?;
     Ok(Admitted {
         envelope,
         manifest,
@@ -73,28 +75,29 @@ fn admit_bytes<'a>(
 }
 
 /// Judges whether the envelope of these bytes may be installed on a flash with this layout and key: its grammar, the
-/// length of the trimmed envelope, its authenticity, its manifest, the places of the components, the members that stand
-/// apart, and both procedures, in this order.
+/// length of the trimmed envelope, which is at most `limit`, its authenticity, its manifest, the places of the components,
+/// the members that stand apart, and both procedures, in this order.
 pub fn admit<'a>(
     alloc: Global,
     layout: &Layout,
     key: &[u8],
     bytes: &'a [u8],
+    limit: u32,
 ) -> Result<Admitted<'a>, NotAdmitted<'a>>
-    requires { length layout.now ≤ 8 }
+    requires { length layout.now ≤ MOST_ENTRIES }
     ensures admitted { IfOk result
-        (λ a. IsAdmitted layout.now key.now bytes.now (admission_of a)) }
+        (λ a. IsAdmitted limit layout.now key.now bytes.now (admission_of a)) }
     ensures whole { IfOk result (λ a. a.envelope.whole.now ≡ bytes.now) }
     ensures wrapper { IfOk result (λ a. HasWrapper a.envelope.wrapper.now) }
     ensures other { IfOk result (λ a. HaveOtherPlaces a.manifest.components a.places) }
     ensures few { IfOk result (λ a. length a.manifest.components ≤ 8) }
     ensures refused { IfErr result
-        (λ e. e ≢ NoMemory → IsNotAdmitted layout.now key.now bytes.now e) }
-    ensures every_admission { (a : Admission) → IsAdmitted layout.now key.now bytes.now a
+        (λ e. e ≢ NoMemory → IsNotAdmitted limit layout.now key.now bytes.now e) }
+    ensures every_admission { (a : Admission) → IsAdmitted limit layout.now key.now bytes.now a
         → IfErr result (λ e. e ≡ NoMemory) }
-    ensures every_refusal { (r : NotAdmitted) → IsNotAdmitted layout.now key.now bytes.now r
+    ensures every_refusal { (r : NotAdmitted) → IsNotAdmitted limit layout.now key.now bytes.now r
         → IsErrAnd result (λ e. RefuseAlike e r ⊎ (e ≡ NoMemory)) }
 {
     admission_laws();
-    admit_bytes(alloc, layout, key, bytes)
+    admit_bytes(alloc, layout, key, bytes, limit)
 }

@@ -60,19 +60,19 @@ fn refuse_update(invocation: &Plan<'_>, path: BadPath) -> NotSafe
     }
 }
 
-// See `judge`.
-fn judge_both(alloc: Global, manifest: &Manifest, members: &Members) -> Result<(), NotSafe>
+// Judges the update. Where a path of it is not covered, the invocation's width comes first.
+fn judge_update(alloc: Global, manifest: &Manifest, members: &Members) -> Result<(), NotSafe>
     requires components { length manifest.now.components < 2 ^ 32 }
-    requires update { IsPlan (update_tree manifest.now members.now) }
-    requires invocation { IsPlan (invocation_tree manifest.now) }
-    ensures safe { IsOk result → MayRun manifest.now members.now }
+    requires plan { IsPlan (update_tree manifest.now members.now) }
+    ensures narrow { IsOk result → IsNarrow (update_tree manifest.now members.now) }
+    ensures safe { IsOk result → Safe (update_tree manifest.now members.now) }
     ensures refused { IfErr result
         (λ e. e ≢ NoMemory → MayNotRun manifest.now members.now e) }
 {
     let update = update_plan(manifest, members);
     let invocation = invocation_plan(manifest);
     match check(alloc, &update) {
-        CheckVerdict::Safe => judge_invocation(alloc, &invocation),
+        CheckVerdict::Safe => Ok(()),
         CheckVerdict::TooWide(width) => Err(NotSafe::TooWide {
             procedure: Procedure::Update,
             width,
@@ -82,20 +82,50 @@ fn judge_both(alloc: Global, manifest: &Manifest, members: &Members) -> Result<(
     }
 }
 
-/// Judges both procedures of a manifest: their widths, the update's first, and then their paths, the update's first.
-///
-/// Each width is counted once. Where memory runs out, the update is not too wide.
-pub fn judge(alloc: Global, manifest: &Manifest, members: &Members) -> Result<(), NotSafe>
+/// Judges both procedures of a manifest whose members are kept. See `judge`.
+pub(crate) fn judge_both(
+    alloc: Global,
+    manifest: &Manifest,
+    members: &Members,
+) -> Result<(), NotSafe>
     requires components { length manifest.now.components < 2 ^ 32 }
     requires update { IsPlan (update_tree manifest.now members.now) }
     requires invocation { IsPlan (invocation_tree manifest.now) }
     ensures safe { IsOk result → MayRun manifest.now members.now }
     ensures refused { IfErr result
         (λ e. e ≢ NoMemory → MayNotRun manifest.now members.now e) }
-    ensures every_safe { MayRun manifest.now members.now → IfErr result (λ e. e ≡ NoMemory) }
-    ensures every_refusal { (r : NotSafe) → MayNotRun manifest.now members.now r
+{
+    judge_update(alloc, manifest, members)?;
+    judge_invocation(alloc, &invocation_plan(manifest))
+}
+
+// See `judge`.
+fn judge_in_turn(alloc: Global, manifest: &Manifest, members: Members) -> Result<(), NotSafe>
+    requires components { length manifest.now.components < 2 ^ 32 }
+    requires update { IsPlan (update_tree manifest.now members) }
+    requires invocation { IsPlan (invocation_tree manifest.now) }
+    ensures safe { IsOk result → MayRun manifest.now members }
+    ensures refused { IfErr result (λ e. e ≢ NoMemory → MayNotRun manifest.now members e) }
+{
+    judge_update(alloc, manifest, &members)?;
+    drop(members);
+    judge_invocation(alloc, &invocation_plan(manifest))
+}
+
+/// Judges both procedures of a manifest: their widths, the update's first, and then their paths, the update's first.
+///
+/// Each width is counted once. Where memory runs out, the update is not too wide. The members are freed before the
+/// invocation is judged.
+pub fn judge(alloc: Global, manifest: &Manifest, members: Members) -> Result<(), NotSafe>
+    requires components { length manifest.now.components < 2 ^ 32 }
+    requires update { IsPlan (update_tree manifest.now members) }
+    requires invocation { IsPlan (invocation_tree manifest.now) }
+    ensures safe { IsOk result → MayRun manifest.now members }
+    ensures refused { IfErr result (λ e. e ≢ NoMemory → MayNotRun manifest.now members e) }
+    ensures every_safe { MayRun manifest.now members → IfErr result (λ e. e ≡ NoMemory) }
+    ensures every_refusal { (r : NotSafe) → MayNotRun manifest.now members r
         → IsErrAnd result (λ e. JudgeAlike e r ⊎ (e ≡ NoMemory)) }
 {
     admission_laws();
-    judge_both(alloc, manifest, members)
+    judge_in_turn(alloc, manifest, members)
 }

@@ -3,7 +3,7 @@
 ghost use Rattle.std.specs.Prelude.{◌≡◌, ◌↔◌, ◌≤◌, ◌<◌, [], get_or, length, IfErr, IfOk, IsTrue, MatchOption};
 ghost use Rattle.flash_layout.specs.Placement.{ArePlaces, HasPlace, HaveOtherPlaces, IsFirstUnknown, IsUnknown};
 
-use flash_layout::{Entry, Layout, MAX_COMPONENTS, Places, Unknown};
+use flash_layout::{Entry, Layout, MAX_COMPONENTS, MOST_ENTRIES, Places, Unknown};
 use manifest_view::{LentIdentifier, LentIdentifiers};
 use suit_params::Identifier;
 
@@ -43,7 +43,7 @@ fn find_next(entries: &[Entry], ids: &mut LentIdentifiers<'_>) -> Option<usize>
 
 /// The places of a manifest's components in a layout, or the first component that the layout lacks. Takes no memory.
 pub(crate) fn places_lent(layout: &Layout, mut ids: LentIdentifiers<'_>) -> Result<Places, Unknown>
-    requires entries { length layout.now ≤ 8 }
+    requires entries { length layout.now ≤ MOST_ENTRIES }
     requires components { length ids ≤ MAX_COMPONENTS }
     ensures ok { IfOk result (ArePlaces layout.now ids.entry) }
     ensures other { IfOk result (HaveOtherPlaces ids.entry) }

@@ -16,7 +16,7 @@ use suit_envelope::{Envelope, decode_envelope, trimmed_length};
 use suit_manifest::{Manifest, decode_manifest};
 use suit_params::Fault;
 
-/// The longest trimmed envelope that is installed, in bytes: a bank of the flash holds it.
+/// The longest trimmed envelope that a flash of layout version 1 takes, in bytes: its banks hold it.
 pub const LONGEST_TRIMMED: u32 = 16_384;
 
 /// The envelope that the bytes spell, if it is within the limit when it is trimmed.

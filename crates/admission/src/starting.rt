@@ -16,7 +16,7 @@ ghost use Rattle.admission.specs.declared.refusal.NotStartable.{NotStartable};
 use crate::admitting::authenticated;
 use crate::lent_places::places_lent;
 use crate::{NotStartable, admission_laws};
-use flash_layout::{Layout, Places};
+use flash_layout::{Layout, MOST_ENTRIES, Places};
 use manifest_view::ManifestView;
 use suit_envelope::{Envelope, decode_envelope};
 
@@ -35,7 +35,7 @@ fn start_bytes<'a>(
     key: &[u8],
     bytes: &'a [u8],
 ) -> Result<Start<'a>, NotStartable<'a>>
-    requires { length layout.now ≤ 8 }
+    requires { length layout.now ≤ MOST_ENTRIES }
     ensures startable { IfOk result
         (λ s. IsStartable layout.now key.now bytes.now (said_by s.envelope)
         (manifest_of s.manifest) s.places) }
@@ -70,7 +70,7 @@ pub fn startable<'a>(
     key: &[u8],
     bytes: &'a [u8],
 ) -> Result<Start<'a>, NotStartable<'a>>
-    requires { length layout.now ≤ 8 }
+    requires { length layout.now ≤ MOST_ENTRIES }
     ensures startable { IfOk result
         (λ s. IsStartable layout.now key.now bytes.now (said_by s.envelope)
         (manifest_of s.manifest) s.places) }

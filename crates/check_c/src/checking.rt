@@ -116,7 +116,7 @@ fn judge_opened(alloc: Global, file: &Opened<'_>, place: &mut u64) -> Answer
         Ok(members) => members,
         Err(fault) => return not_taken(fault, place),
     };
-    match judge(alloc, &file.manifest, &members) {
+    match judge(alloc, &file.manifest, members) {
         Ok(()) => Answer::Done,
         Err(refusal) => not_safe(&refusal),
     }

@@ -4,8 +4,8 @@ use Rattle.admission.proofs.judging.judge.Goals as goal
 
 pub returns-clause-every_safe : goal.returns-clause-every_safe
 returns-clause-every_safe c =
-    safe_exactly c.admission_laws.ensures.judging (update_tree c.args.manifest.now c.args.members.now) (invocation_tree c.args.manifest.now) c.judge_both.result c.judge_both.ensures.refused
+    safe_exactly c.admission_laws.ensures.judging (update_tree c.args.manifest.now c.args.members) (invocation_tree c.args.manifest.now) c.judge_in_turn.result c.judge_in_turn.ensures.refused
 
 pub returns-clause-every_refusal : goal.returns-clause-every_refusal
 returns-clause-every_refusal c =
-    not_safe_exactly c.admission_laws.ensures.judging (update_tree c.args.manifest.now c.args.members.now) (invocation_tree c.args.manifest.now) c.judge_both.result c.judge_both.ensures.safe c.judge_both.ensures.refused
+    not_safe_exactly c.admission_laws.ensures.judging (update_tree c.args.manifest.now c.args.members) (invocation_tree c.args.manifest.now) c.judge_in_turn.result c.judge_in_turn.ensures.safe c.judge_in_turn.ensures.refused

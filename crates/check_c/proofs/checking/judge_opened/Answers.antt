@@ -25,8 +25,8 @@ returns-in-Err-clause-every_fault c fault lacks = not_taken_once c.in-Err.fault 
 pub returns-in-Ok-judge-clause-every_fault : goal.returns-in-Ok-judge-clause-every_fault
 returns-in-Ok-judge-clause-every_fault c fault lacks = absurd (c.in-Ok.ensures.every_fault fault lacks)
 
-pub returns-clause-answers : goal.returns-clause-answers
-returns-clause-answers c = not_run_answered (said_by c.args.file.now.envelope) c.args.file.now.manifest c.in-Ok.members c.in-Err-judge.refusal _ c.in-Ok.ensures.ok c.not_safe.ensures c.in-Err-judge.ensures.refused
+pub returns-in-Err-judge-clause-answers : goal.returns-in-Err-judge-clause-answers
+returns-in-Err-judge-clause-answers c = not_run_answered (said_by c.args.file.now.envelope) c.args.file.now.manifest c.in-Ok.members c.in-Err-judge.refusal _ c.in-Ok.ensures.ok c.not_safe.ensures c.in-Err-judge.ensures.refused
 
-pub returns-clause-every_fault : goal.returns-clause-every_fault
-returns-clause-every_fault c fault lacks = absurd (c.in-Ok.ensures.every_fault fault lacks)
+pub returns-in-Err-judge-clause-every_fault : goal.returns-in-Err-judge-clause-every_fault
+returns-in-Err-judge-clause-every_fault c fault lacks = absurd (c.in-Ok.ensures.every_fault fault lacks)
