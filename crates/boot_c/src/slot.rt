@@ -4,6 +4,7 @@ ghost use Rattle.boot_c.specs.SlotAnswers.{IsFaultAnswer, IsHeldAnswer, IsSlotAn
 ghost use Rattle.boot_c.specs.SlotsInUse.{IsInUse, IsSlotOf, SlotLiesIn};
 ghost use Rattle.flash_layout.specs.Configs.{ConfigOf, Configured, IsAllowed};
 ghost use Rattle.flash_layout.specs.Layouts.{IsEntry};
+ghost use Rattle.flash_layout.specs.declared.frame.Frame.{Frame};
 ghost use Rattle.flash_layout.specs.declared.layout.Memory.TheVariants as memory;
 ghost use Rattle.std.specs.Prelude.{◌≡◌, ◌≢◌, ◌⊎◌, ◌<◌, IfErr, IfOk, length};
 ghost use Rattle.step_machine.specs.InUse.{slot_in_use};
@@ -57,7 +58,7 @@ fn room(starts: &[u64; 2])
 
 // A component's slot of this number.
 fn slot_in(entry: &Entry, number: u32, flash: &[u8]) -> Result<SuitSlot, FlashFault>
-    requires entry { IsEntry (length flash.now) entry.now }
+    requires entry { (frame : Frame) × IsEntry frame (length flash.now) entry.now }
     requires stands { entry.now.memory ≡ memory.Flash }
     requires few { number < 2 }
     requires has { number ≡ 1 → entry.now.slots ≡ 2 }

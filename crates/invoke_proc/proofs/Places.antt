@@ -1,5 +1,5 @@
 -- Places, slots and spots of the components of a manifest.
-use Rattle.std.proofs.Common.{◌≡◌, ◌≢◌, ◌<◌, ◌≤◌, ℕ, suc, List, [], ◌∷◌, length, map, get_or, take, Some, None, refl, sym, ◌∙◌, ap, subst, arith, get_or-take}
+use Rattle.std.proofs.Common.{◌≡◌, ◌≢◌, inl, ⊎_elim, ◌<◌, ◌≤◌, ℕ, suc, List, [], ◌∷◌, length, map, get_or, take, Some, None, refl, sym, ◌∙◌, ap, subst, arith, get_or-take}
 use Rattle.std.specs.Prelude.{◌==◌, ◌&&◌, if◌then◌else◌}
 use Rattle.std.specs.List.{All, AllByRecursion}
 use Rattle.std.proofs.lemmas.Option.{slice_get-get_or}
@@ -58,9 +58,9 @@ are_distinct layout ids places few apart are other = record {
 -- ---- slots
 
 -- a component has one or two slots
-slots_few : (size : ℕ) (e : Entry) (m : Memory) → IsOfMemory size e m → (1 ≤ e.slots) × (e.slots ≤ 2)
-slots_few size e memory.Flash held = (held.0, held.1)
-slots_few size e memory.Ram held = (omega (arith, held.0), omega (arith, held.0))
+slots_few : (frame : Frame) (size : ℕ) (e : Entry) (m : Memory) → IsOfMemory frame size e m → (1 ≤ e.slots) × (e.slots ≤ 2)
+slots_few frame size e memory.Flash held = (held.0, held.1)
+slots_few frame size e memory.Ram held = (omega (arith, held.0), omega (arith, held.0))
 
 some_slot : (slots number : ℕ) → 1 ≤ slots → (if (number == 1) && (slots == 2) then 1 else 0) < slots
 some_slot slots number some = grind (arith, some)
@@ -72,7 +72,7 @@ all_identities (s ∷ standings) all = (all 0 s (omega arith), all_identities st
 
 module _ (frame : Frame) (size : ℕ) (layout : List Entry) (is : IsLayout frame size layout) where
   few_at : (i : ℕ) (e : Entry) → i < length layout → (1 ≤ (get_or layout i e).slots) × ((get_or layout i e).slots ≤ 2)
-  few_at i e inside = let at = get_or layout i e in slots_few size at at.memory (is.each i e inside).held
+  few_at i e inside = let at = get_or layout i e in slots_few frame size at at.memory (is.each i e inside).held
 
   in_use : (active : List ℕ) (slots : SlotChoice) → AreInUse layout active slots.number → (i : ℕ) (e : Entry) → i < length layout
       → get_or slots.number i 0 < (get_or layout i e).slots
@@ -89,19 +89,20 @@ module _ (frame : Frame) (size : ℕ) (layout : List Entry) (is : IsLayout frame
 
   -- ---- spots
 
-  starts_behind : (e : Entry) (n : ℕ) → IsInFlash size e → e.memory ≡ memory.Flash → length e.starts ≡ 2 → n < e.slots → IsBehindHead size (get_or e.starts n 0) (slot_size e)
+  starts_behind : (e : Entry) (n : ℕ) → IsInFlash frame size e → e.memory ≡ memory.Flash → length e.starts ≡ 2 → n < e.slots → IsBehindHead frame size (get_or e.starts n 0) (slot_size e)
   starts_behind e n held flash long below =
       let fits : e.slots ≤ length e.starts = omega (arith, long, held.1) in
-      let starts : All (λ p. IsBehindHead size p (slot_size e)) (take e.slots e.starts) =
-      subst (λ (m : Memory). All (λ p. IsBehindHead size p (slot_size e)) (starts_in m (take e.slots e.starts))) flash held.4 in
-      subst (λ (p : ℕ). IsBehindHead size p (slot_size e)) (get_or-take e.slots e.starts n 0 below) (starts n 0 (omega (arith, below, length-take-le e.slots e.starts fits)))
+      let starts : All (λ p. IsBehindHead frame size p (slot_size e)) (take e.slots e.starts) =
+      subst (λ (m : Memory). All (λ p. IsBehindHead frame size p (slot_size e)) (starts_in m (take e.slots e.starts))) flash held.4 in
+      subst (λ (p : ℕ). IsBehindHead frame size p (slot_size e)) (get_or-take e.slots e.starts n 0 below) (starts n 0 (omega (arith, below, length-take-le e.slots e.starts fits)))
 
   -- the head lies outside the slots
-  outside_of : FrameFacts size frame → (e : Entry) (m : Memory) (index n i : ℕ) → e.memory ≡ m → IsOfMemory size e m → length e.starts ≡ 2 → n < e.slots → InHead frame i
+  outside_of : FrameFacts size frame → (e : Entry) (m : Memory) (index n i : ℕ) → e.memory ≡ m → IsOfMemory frame size e m → length e.starts ≡ 2 → n < e.slots → InHead frame i
       → OutsideSpot (spot_of m e index n) i
   outside_of here e memory.Flash index n i same held long below inside =
-      let clear = here.clear (get_or e.starts n 0) (slot_size e) (starts_behind e n held same long below) in
-      clear_outside (get_or e.starts n 0) (slot_size e) frame.base (head_size frame) (clear.1, clear.0) i inside.0 inside.1
+      let behind = starts_behind e n held same long below in
+      let clear = here.clear (get_or e.starts n 0) (slot_size e) behind in
+      ⊎_elim (λ front. inl (omega (arith, front.1, behind.0))) (λ head. clear_outside (get_or e.starts n 0) (slot_size e) frame.base (head_size frame) (clear.1, clear.0) i head.0 head.1) inside
   outside_of here e memory.Ram index n i same held long below inside = tt
 
   pub head_outside : FrameFacts size frame → (plan : PlanTree) (places : Places) (slots : SlotChoice) (standings : List Standing) → All IsTypedEntry layout → AreDistinct layout places

@@ -17,13 +17,11 @@ use Rattle.path_model.specs.PlayLaws.{FaultedSafeLaunches, HasItsDigest, SafeLau
 use Rattle.path_model.specs.Safe.{Safe}
 use Rattle.path_model.specs.Settings.{Setting}
 use Rattle.flash_layout.specs.declared.frame.Frame.{Frame}
-use Rattle.flash_layout.specs.declared.frame.TheConstants.{VERSION_1}
 use Rattle.flash_layout.specs.declared.key.Key.{Key}
 use Rattle.flash_layout.specs.declared.layout.Entry.{Entry}
 use Rattle.flash_layout.specs.declared.slot.Record.{Record}
 use Rattle.flash_layout.specs.ConfigLaws.{OneAnswer as OneConfigAnswer}
 use Rattle.flash_layout.specs.Configs.{Blank, ConfigOf, Configured}
-use Rattle.flash_layout.specs.FirstFrame.{to_first}
 use Rattle.flash_layout.specs.FrameFacts.{facts}
 use Rattle.flash_layout.specs.Frames.{IsFrame, head_of}
 use Rattle.flash_layout.specs.Layouts.{IsLayout, IsTypedEntry}
@@ -164,7 +162,7 @@ module _ (manifests : ManifestLaws) (frame : Frame) (size : ℕ) (is_frame : IsF
       (head_stays frame size layout is kept.manifest.components kept.installed.active kept.others.standings grammar.few grammar.apart kept.others.stand (facts size frame is_frame) plan typed)
       a b kept.others.keeps
 
-  head_kept : (answer : BootEnd) → KeptSo (KeepsBoot frame layout key a b) (IsSame a b) answer → Keeps (InHead frame) a b
+  pub head_kept : (answer : BootEnd) → KeptSo (KeepsBoot frame layout key a b) (IsSame a b) answer → Keeps (InHead frame) a b
   head_kept ends.Ended k = boot_kept k
   head_kept (ends.Condition place) k = boot_kept k
   head_kept (ends.Stopped place cause) k = boot_kept k
@@ -173,10 +171,6 @@ module _ (manifests : ManifestLaws) (frame : Frame) (size : ℕ) (is_frame : IsF
   head_kept (ends.BadBank r) k = keeps_same (InHead frame) a b k
   head_kept (ends.NotAuthentic l) k = keeps_same (InHead frame) a b k
   head_kept (ends.UnknownComponent i) k = keeps_same (InHead frame) a b k
-
-  -- what a configuration is read of stands in the head of version 1
-  pub front_kept : (answer : BootEnd) → KeptSo (KeepsBoot frame layout key a b) (IsSame a b) answer → Keeps (InHead VERSION_1) a b
-  front_kept answer kept = to_first size frame is_frame (λ (f : Frame). Keeps (InHead f) a b) (head_kept answer kept)
 
 -- at the end, where nothing is pending, or nothing was started
 pub settled_end : (a b : Flash) (size : ℕ) → IsFlash b size → Settled a → Passes a b Sound → IsSame a b ⊎ IsSettled b → Settled b

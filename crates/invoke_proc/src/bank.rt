@@ -9,7 +9,6 @@ ghost use Rattle.suit_edge.specs.Edge.{IfDone};
 ghost use Rattle.suit_edge.specs.Faults.{EdgeCounts};
 ghost use Rattle.suit_edge.specs.Flash.{Grows, IsSame};
 
-use crate::buffer::BANK_ROOM;
 use flash_layout::{FlashFault, Frame, Layout, Record, bank};
 use rollback_record::load_record_by;
 use suit_edge::{Disk, Edge};
@@ -42,8 +41,7 @@ fn read_bank<D: Disk>(disk: &mut D, frame: Frame, installed: &Record, room: &mut
     requires frame { IsFrame (D.extent disk.old) frame }
     requires bank { installed.now.bank < 2 }
     requires length { installed.now.length ≤ bank_size frame }
-    requires fits { bank_size frame ≤ BANK_ROOM }
-    requires room { length room.old ≡ BANK_ROOM }
+    requires room { length room.old ≡ bank_size frame }
     ensures size { D.extent disk.new ≡ D.extent disk.old }
     ensures counts { EdgeCounts result (D.faults disk.old) (D.faults disk.new) }
     ensures room { length room.new ≡ length room.old }
@@ -73,8 +71,7 @@ pub(crate) fn find_bank<D: Disk>(
     requires config { IsTrue D.told
         → (key : Key) × ConfigOf (D.extent disk.old) (D.flash disk.old).reads
         (Configured layout.now key frame) }
-    requires fits { bank_size frame ≤ BANK_ROOM }
-    requires room { length room.old ≡ BANK_ROOM }
+    requires room { length room.old ≡ bank_size frame }
     ensures size { D.extent disk.new ≡ D.extent disk.old }
     ensures counts { BankCounts result (D.faults disk.old) (D.faults disk.new) }
     ensures recorded { IsTrue D.told

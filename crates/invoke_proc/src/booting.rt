@@ -1,8 +1,8 @@
 //! Booting.
 
 ghost use Rattle.flash_layout.specs.Configs.{ConfigOf, Configured, IsAllowed};
-ghost use Rattle.flash_slots.specs.RamContents.{empty_ram};
 ghost use Rattle.invoke_proc.specs.Banks.{without_bank};
+ghost use Rattle.invoke_proc.specs.Buffers.{boot_room};
 ghost use Rattle.invoke_proc.specs.Booting.{Answers, GainsSafe, IfUnfaulted, KeepsBoot, KeptSo, NeverHost, PlayedSo, PlaysBoot};
 ghost use Rattle.invoke_proc.specs.Counting.{BootCounts};
 ghost use Rattle.invoke_proc.specs.Sound.{IsUnrefused};
@@ -43,7 +43,7 @@ fn start_installed<H: Host, D: Disk, L: Launcher>(
     frame: Frame,
     key: &Key,
 ) -> BootEnd
-    requires room { buffer ≡ empty_ram layout.now }
+    requires room { buffer ≡ boot_room frame layout.now }
     requires allowed { IsAllowed frame (D.extent disk.old) layout.now key.now }
     requires held { IsTrue D.told
         → ConfigOf (D.extent disk.old) (D.flash disk.old).reads
@@ -72,11 +72,12 @@ fn start_installed<H: Host, D: Disk, L: Launcher>(
     manifest_laws();
     procedure_laws();
     let BootBuffer { mut bank, working } = buffer;
-    let installed = match find_bank(disk, frame, layout, &mut bank) {
+    let room = bank.as_mut_slice();
+    let installed = match find_bank(disk, frame, layout, room) {
         Ok(installed) => installed,
         Err(fault) => return without_bank(fault),
     };
-    let bytes = &bank[..installed.length as usize];
+    let bytes = &room[..installed.length as usize];
     let startable = match startable(layout, key_bytes(key), bytes) {
         Ok(startable) => startable,
         Err(refusal) => return BootEnd::from(refusal),
@@ -88,8 +89,8 @@ fn start_installed<H: Host, D: Disk, L: Launcher>(
 /// bank of the flash's record, on the active slots, with working memory empty.
 ///
 /// The bank is judged first: the envelope and its manifest, whether the envelope is authentic under the key, and whether
-/// the layout has the manifest's components. The buffer is one that was made for the layout; no other memory is taken, so
-/// that it cannot run out. The layout, the frame and the key are those of the flash. Names of files are answered by none,
+/// the layout has the manifest's components. The buffer is one that was made for the layout and the frame; no other memory is
+/// taken, so that it cannot run out. The layout, the frame and the key are those of the flash. Names of files are answered by none,
 /// so the host is not called.
 pub fn boot<H: Host, D: Disk, L: Launcher>(
     buffer: BootBuffer,
@@ -100,7 +101,7 @@ pub fn boot<H: Host, D: Disk, L: Launcher>(
     frame: Frame,
     key: &Key,
 ) -> BootEnd
-    requires room { buffer ≡ empty_ram layout.now }
+    requires room { buffer ≡ boot_room frame layout.now }
     requires allowed { IsAllowed frame (D.extent disk.old) layout.now key.now }
     requires held { IsTrue D.told
         → ConfigOf (D.extent disk.old) (D.flash disk.old).reads

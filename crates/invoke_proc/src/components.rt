@@ -1,6 +1,5 @@
 //! The components of a manifest, each in the slot that is active.
 
-ghost use Rattle.flash_layout.specs.declared.frame.Frame.{Frame};
 ghost use Rattle.flash_layout.specs.Layouts.{IsLayout};
 ghost use Rattle.flash_layout.specs.Placement.{ArePlaces};
 ghost use Rattle.flash_slots.specs.RamContents.{empty_ram};
@@ -22,7 +21,7 @@ pub(crate) fn world_in<'a>(
     uris: &'a Uris,
     startable: &Start<'_>,
 ) -> World<'a>
-    requires layout { (other : Frame) × (size : ℕ) × IsLayout other size layout.now }
+    requires layout { (size : ℕ) × IsLayout frame size layout.now }
     requires placed { ArePlaces layout.now startable.now.manifest.components startable.now.places }
     requires distinct { AreDistinct layout.now startable.now.places }
     requires ram { ram ≡ empty_ram layout.now }
@@ -32,7 +31,7 @@ pub(crate) fn world_in<'a>(
     ensures ram { result.ram ≡ empty_ram layout.now }
     ensures uris { result.uris.now ≡ uris.now }
     ensures envelope { result.envelope ≡ None }
-    ensures fit { (other : Frame) (size : ℕ) → IsLayout other size layout.now
+    ensures fit { (size : ℕ) → IsLayout frame size layout.now
         → AreStandings size result.ram result.standings.items }
 {
     let slots = SlotChoice {

@@ -1,6 +1,5 @@
 //! Running the invocation procedure.
 
-ghost use Rattle.flash_layout.specs.declared.frame.Frame.{Frame};
 ghost use Rattle.flash_layout.specs.Layouts.{IsLayout};
 ghost use Rattle.flash_layout.specs.Placement.{ArePlaces};
 ghost use Rattle.flash_slots.specs.RamContents.{empty_ram};
@@ -69,7 +68,7 @@ pub(crate) fn start<H: Host, D: Disk, L: Launcher>(
     startable: Start<'_>,
     working: Working,
 ) -> BootEnd
-    requires layout { (frame : Frame) × IsLayout frame (D.extent disk.old) layout.now }
+    requires layout { IsLayout working.frame (D.extent disk.old) layout.now }
     requires placed { ArePlaces layout.now startable.manifest.components startable.places }
     requires distinct { AreDistinct layout.now startable.places }
     requires few { length startable.manifest.components ≤ 8 }

@@ -1,7 +1,7 @@
 -- The components of a world fit the device that its layout describes.
 use Rattle.std.proofs.Common.{◌≡◌, ◌≢◌, ◌≤◌, ◌<◌, ◌+◌, ℕ, zero, suc, List, [], ◌∷◌, None, get_or, length, replicate, take, refl, sym, ap, subst, ◌∙◌, arith, ⊎_elim, length-take-le}
 use Rattle.std.proofs.lemmas.Bool.{cases_lt}
-use Rattle.std.proofs.lemmas.List.{get_or-map, length-map}
+use Rattle.std.proofs.lemmas.List.{get_or-map, length-map, places}
 use Rattle.std.specs.Prelude.{slice_index}
 use Rattle.flash_layout.specs.declared.frame.Frame.{Frame}
 use Rattle.flash_layout.specs.declared.layout.Entry.{Entry}
@@ -26,11 +26,17 @@ most_few frame = grind arith
 pub few_entries : (frame : Frame) (size : ℕ) (layout : List Entry) → IsLayout frame size layout → length layout ≤ 32
 few_entries frame size layout is = omega (arith, is.few, most_few frame)
 
+-- a component has one or two slots
+slots_few : (frame : Frame) (size : ℕ) (e : Entry) (kind : Memory) → IsOfMemory frame size e kind → (1 ≤ e.slots) × (e.slots ≤ 2)
+slots_few frame size e memory.Flash held = (held.0, held.1)
+slots_few frame size e memory.Ram held = (omega (arith, held.0), omega (arith, held.0))
+
+pub few_slots : (frame : Frame) (size : ℕ) (layout : List Entry) → IsLayout frame size layout → (i : ℕ) (e : Entry) → i < length layout → (1 ≤ (get_or layout i e).slots) × ((get_or layout i e).slots ≤ 2)
+few_slots frame size layout is i e inside = let at = get_or layout i e in slots_few frame size at at.memory (is.each i e inside).held
+
 -- no place of zeros is set
 pub zero_at : (n i : ℕ) → get_or (replicate {A = ℕ} n 0) i 0 ≡ 0
-zero_at zero i = refl
-zero_at (suc n) zero = refl
-zero_at (suc n) (suc i) = zero_at n i
+zero_at n i = grind (arith, places)
 
 -- memory is made for its layout
 pub made_empty : (layout : List Entry) → IsRamOf layout (empty_ram layout)
@@ -78,7 +84,7 @@ module _ (frame : Frame) (size : ℕ) (layout : List Entry) (is : IsLayout frame
       let here : index < length ram = omega (arith, inside, made_long ram made) in
       sym (get_or-map (λ (h : Held). h.capacity) ram index (empty 0) 0 here) ∙ ap (λ (l : List ℕ). get_or l index 0) made ∙ get_or-map ram_capacity layout index no_entry 0 inside
 
-  spot_fits : (ram : List Held) → IsRamOf layout ram → (e : Entry) (index number : ℕ) (kind : Memory) → e.memory ≡ kind → get_or layout index no_entry ≡ e → index < length layout → IsOfMemory size e kind → length e.starts ≡ 2 → number < e.slots → e.slots ≤ 2
+  spot_fits : (ram : List Held) → IsRamOf layout ram → (e : Entry) (index number : ℕ) (kind : Memory) → e.memory ≡ kind → get_or layout index no_entry ≡ e → index < length layout → IsOfMemory frame size e kind → length e.starts ≡ 2 → number < e.slots → e.slots ≤ 2
       → IsSpot size ram (spot_of kind e index number) × (room_at (spot_of kind e index number) ram ≡ e.capacity)
   spot_fits ram made e index number memory.Flash kind at inside held two lt few =
       let there = held.4 number 0 (start_is e number kind two lt few) in

@@ -7,16 +7,15 @@ use Rattle.suit_commands.specs.Tree.{PlanTree}
 use Rattle.flash_layout.specs.declared.frame.Frame.{Frame}
 use Rattle.flash_layout.specs.declared.key.Key.{Key}
 use Rattle.flash_layout.specs.declared.layout.Entry.{Entry}
-use Rattle.flash_layout.specs.declared.layout.Memory.{Memory}
 use Rattle.flash_layout.specs.declared.layout.Memory.TheVariants as memory
 use Rattle.flash_layout.specs.declared.place.Places.{Places}
 use Rattle.flash_layout.specs.declared.slot.Record.{Record}
 use Rattle.flash_layout.specs.Configs.{ConfigOf, Configured}
 use Rattle.flash_layout.specs.Frames.{config_page_of, head_of}
-use Rattle.flash_layout.specs.Layouts.{IsLayout, IsOfMemory}
+use Rattle.flash_layout.specs.Layouts.{IsLayout}
 use Rattle.rollback_record.specs.HeadRecord.{IsLoadable, RecordOf}
 use Rattle.rollback_record.specs.RecordPage.{HasSecondSlot}
-use Rattle.step_machine.proofs.Fitting.{few_entries}
+use Rattle.step_machine.proofs.Fitting.{few_entries, few_slots}
 use Rattle.step_machine.specs.Worlds.{IsChoice}
 use Rattle.update_proc.specs.Choices.{AreChosen, active_slots}
 use Rattle.step_machine.specs.InUse.{AreInUse}
@@ -26,11 +25,7 @@ use Rattle.rollback_record.proofs.ConfigSlots.{has_two}
 some_entry : Entry
 some_entry = record { identifier = []; memory = memory.Ram; slots = 0; starts = []; capacity = 0; vendor = None; class = None; device = None }
 
--- ---- a component has one or two slots
-
-slots_few : (size : ℕ) (e : Entry) (m : Memory) → IsOfMemory size e m → (1 ≤ e.slots) × (e.slots ≤ 2)
-slots_few size e memory.Flash held = (held.0, held.1)
-slots_few size e memory.Ram held = (omega (arith, held.0), omega (arith, held.0))
+-- ---- the number of a slot that is in use
 
 some_slot : (slots number : ℕ) → 1 ≤ slots → (if (number == 1) && (slots == 2) then 1 else 0) < slots
 some_slot slots number some = grind (arith, some)
@@ -52,17 +47,14 @@ module _ (layout : List Entry) (active numbers : List ℕ) (is : AreInUse layout
       (cases_lt i (length layout))
 
 module _ (frame : Frame) (size : ℕ) (layout : List Entry) (is : IsLayout frame size layout) where
-  few_at : (i : ℕ) (e : Entry) → i < length layout → (1 ≤ (get_or layout i e).slots) × ((get_or layout i e).slots ≤ 2)
-  few_at i e inside = let at = get_or layout i e in slots_few size at at.memory (is.each i e inside).held
-
   pub is_choice : (active within : List ℕ) (places : Places) (tree : PlanTree) (numbers : List ℕ) → AreInUse layout active within → AreChosen layout places tree within numbers → IsChoice layout (record { number = numbers })
   is_choice active within places tree numbers in_use chosen = record {
     few = few_entries frame size layout is;
     one = λ i e inside. ⊎_elim
-        (λ same. subst (λ (n : ℕ). n < (get_or layout i e).slots) (sym (same ∙ in_use.each i e inside)) (some_slot (get_or layout i e).slots (get_or active i 0) (few_at i e inside).0))
+        (λ same. subst (λ (n : ℕ). n < (get_or layout i e).slots) (sym (same ∙ in_use.each i e inside)) (some_slot (get_or layout i e).slots (get_or active i 0) (few_slots frame size layout is i e inside).0))
         (λ other. omega (arith, other.1, other.0.1 e, at_most_one layout active within in_use i))
         (chosen.either i);
-    two = λ i e inside. (few_at i e inside).1;
+    two = λ i e inside. (few_slots frame size layout is i e inside).1;
     rest = λ i past. chosen.same i (λ has. omega (arith, past, has.1.0)) ∙ in_use.rest i past;
   }
 

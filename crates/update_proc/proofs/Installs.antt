@@ -1,5 +1,5 @@
 -- The flash while an envelope is written to a bank and recorded: it is sound, and goes on from what stood before.
-use Rattle.std.proofs.Common.{◌≡◌, inl, inr, ⊎_elim, ◌<◌, ◌≤◌, ℕ, zero, suc, ◌+◌, ◌-◌, Bool, true, false, if◌then◌else◌, List, length, get_or, Option, Some, None, IfSome, sym, ◌∙◌, subst, arith}
+use Rattle.std.proofs.Common.{◌≡◌, inl, inr, ◌<◌, ◌≤◌, ℕ, zero, suc, ◌+◌, ◌-◌, Bool, true, false, if◌then◌else◌, List, length, get_or, Option, Some, None, IfSome, sym, ◌∙◌, ap, subst, arith}
 use Rattle.suit_edge.specs.Flash.{Flash, ImageOn, IsFirmOn, IsFlash, IsSettled, Keeps, Passes}
 use Rattle.suit_edge.specs.FlashLaws.{joined, settled_firm, weakens}
 use Rattle.suit_params.specs.declared.digest.Digest.{Digest}
@@ -11,8 +11,10 @@ use Rattle.flash_layout.specs.declared.layout.Entry.{Entry}
 use Rattle.flash_layout.specs.declared.slot.Record.{Record}
 use Rattle.flash_layout.specs.ConfigPage.{IsConfigPage}
 use Rattle.flash_layout.specs.Configs.{ConfigOf, Configured}
-use Rattle.flash_layout.specs.FrameFacts.{FrameFacts, bank_high, facts, page_there}
-use Rattle.flash_layout.specs.Frames.{IsFrame, bank_from, bank_place, bank_size, config_page_of, head_of, head_size, page_bytes, record_place}
+use Rattle.flash_layout.specs.FirstFrame.{has_room}
+use Rattle.flash_layout.specs.FrameFacts.{FrameFacts, bank_high, behind_pages, facts, page_there}
+use Rattle.flash_layout.specs.Frames.{IsFrame, bank_from, bank_place, bank_size, config_page_of, head_of, head_size, page_bytes, record_from, record_place}
+use Rattle.flash_layout.specs.Roots.{frame_by, frame_told}
 use Rattle.flash_layout.specs.ToldFrames.{by_told, told_by}
 use Rattle.rollback_record.specs.declared.spare.Spare.{Spare}
 use Rattle.rollback_record.specs.Committing.{HasHeldOrNew, HasSpare, InHead, IsNext, IsSpare, KeepsBesideSpare}
@@ -20,7 +22,8 @@ use Rattle.rollback_record.specs.HeadRecord.{IsLoadable, RecordOf}
 use Rattle.rollback_record.specs.RecordPage.{IsActiveSlot, IsInRange, record_length}
 use Rattle.rollback_record.specs.SettledLaws.{both}
 use Rattle.rollback_record.specs.SoundFlash.{Follows, IsInstalled, IsNoEarlier, Sound, recorded_bank}
-use Rattle.rollback_record.specs.SoundLaws.{HasFrame, IsCommitted, IsStillSound, SaysRecorded, SoundLaws}
+use Rattle.rollback_record.specs.SoundLaws.{HasFrame, IsCommitted, IsStillSound, SaysRecorded, SoundLaws, TellsFrame}
+use Rattle.rollback_record.proofs.HeadPlaces.{tells_head, tells_outside}
 use Rattle.rollback_record.proofs.StillSound as recorded
 use Rattle.rollback_record.proofs.Widths.{most_few}
 use Rattle.update_proc.specs.Banks.{BesideBank, bank_for, is_kept, other_bank}
@@ -41,25 +44,41 @@ module _ (size : ℕ) (frame : Frame) (is : FrameFacts size frame) where
   banks_apart (suc zero) n m i two few fits there = inr (omega (arith, is.first_bank, is.second_bank, fits, there.0))
   banks_apart (suc (suc b)) n m i two few fits there = absurd (omega (arith, two))
 
-  -- the bytes that say what is recorded lie beside the other bank
-  says_beside : (held : Option Record) (bytes : List ℕ) → length bytes ≤ bank_size frame → IfSome held (IsLoadable frame) → (i : ℕ) → SaysRecorded frame held i → BesideBank frame held bytes i
-  says_beside None bytes fits few i says = inl (omega (arith, says.1))
-  says_beside (Some r) bytes fits few i says = ⊎_elim
-      (λ front. let two : 1 - r.bank < 2 = omega arith in inl (omega (arith, front.1, first_lowest (1 - r.bank) two)))
-      (λ bank. banks_apart r.bank r.length (length bytes) i few.bank few.size fits bank)
-      says
-
-  -- they lie in the head
-  says_head : (held : Option Record) → IfSome held (IsLoadable frame) → (i : ℕ) → SaysRecorded frame held i → InHead frame i
-  says_head None few i says = let two : 0 < 2 = omega arith in (says.0, omega (arith, says.1, bank_high size frame is 0 two))
-  says_head (Some r) few i says = ⊎_elim
-      (λ front. let two : 0 < 2 = omega arith in (front.0, omega (arith, front.1, bank_high size frame is 0 two)))
-      (λ bank. (omega (arith, bank.0), omega (arith, bank.1, few.size, bank_high size frame is r.bank few.bank)))
-      says
-
   other_two : (held : Option Record) → other_bank held < 2
   other_two None = omega arith
   other_two (Some r) = omega arith
+
+  -- a bank ends with the second one at the latest
+  bank_low : (b : ℕ) → b < 2 → bank_from frame b + bank_size frame ≤ record_from frame 0 + behind_pages frame
+  bank_low zero two = omega (arith, is.first_bank)
+  bank_low (suc zero) two = omega (arith, is.second_bank)
+  bank_low (suc (suc b)) two = absurd (omega (arith, two))
+
+  -- the bytes that tell the frame lie beside the banks
+  tells_beside : (held : Option Record) (bytes : List ℕ) → length bytes ≤ bank_size frame → (i : ℕ) → TellsFrame i → BesideBank frame held bytes i
+  tells_beside held bytes fits i tells =
+      let b = other_bank held in
+      let two = other_two held in
+      tells_outside size frame is (bank_place frame b) (length bytes) (omega (arith, first_lowest b two)) (omega (arith, fits, bank_low b two)) i tells
+
+  -- the bytes that say what is recorded lie beside the other bank
+  says_beside : (held : Option Record) (bytes : List ℕ) → length bytes ≤ bank_size frame → IfSome held (IsLoadable frame) → (i : ℕ) → SaysRecorded frame held i → BesideBank frame held bytes i
+  says_beside None bytes fits few i (inl tells) = tells_beside None bytes fits i tells
+  says_beside None bytes fits few i (inr pages) = inl (omega (arith, pages.1))
+  says_beside (Some r) bytes fits few i (inl tells) = tells_beside (Some r) bytes fits i tells
+  says_beside (Some r) bytes fits few i (inr (inl pages)) = let two : 1 - r.bank < 2 = omega arith in inl (omega (arith, pages.1, first_lowest (1 - r.bank) two))
+  says_beside (Some r) bytes fits few i (inr (inr bank)) = banks_apart r.bank r.length (length bytes) i few.bank few.size fits bank
+
+  -- they lie in the head
+  pages_head : (i : ℕ) → Within frame.base (bank_from frame 0) i → Within frame.base (head_size frame) i
+  pages_head i pages = let two : 0 < 2 = omega arith in (pages.0, omega (arith, pages.1, bank_high size frame is 0 two))
+
+  says_head : (held : Option Record) → IfSome held (IsLoadable frame) → (i : ℕ) → SaysRecorded frame held i → InHead frame i
+  says_head None few i (inl tells) = tells_head size frame is i tells
+  says_head None few i (inr pages) = inr (pages_head i pages)
+  says_head (Some r) few i (inl tells) = tells_head size frame is i tells
+  says_head (Some r) few i (inr (inl pages)) = inr (pages_head i pages)
+  says_head (Some r) few i (inr (inr bank)) = inr (omega (arith, bank.0), omega (arith, bank.1, few.size, bank_high size frame is r.bank few.bank))
 
   -- places beside the head are beside the banks
   pub beside_banks : (held : Option Record) (bytes : List ℕ) → length bytes ≤ bank_size frame → (i : ℕ) → BesideHead frame i → BesideBank frame held bytes i
@@ -77,8 +96,8 @@ module _ (size : ℕ) (frame : Frame) (is : FrameFacts size frame) where
 
 -- ---- lists that agree beside the bank
 
-has_frame : (frame : Frame) (image : List ℕ) → IsFrame (length image) frame → HasFrame frame image
-has_frame frame image is = record { is = is; told = told_by (length image) frame is (length image) image }
+has_frame : (frame : Frame) (image : List ℕ) → IsFrame (length image) frame → frame_told image ≡ Some frame → HasFrame frame image
+has_frame frame image is told = record { is = is; told = told_by (length image) image frame told }
 
 frame_since : (frame : Frame) (a c : List ℕ) → length c ≡ length a → IsFrame (length a) frame → IsFrame (length c) frame
 frame_since frame a c same is = subst (λ (n : ℕ). IsFrame n frame) (sym same) is
@@ -87,22 +106,30 @@ frame_since frame a c same is = subst (λ (n : ℕ). IsFrame n frame) (sym same)
 pub frame_read : (size : ℕ) (frame : Frame) (f : Flash) → IsFlash f size → IsFrame size frame → IsFrame (length f.reads) frame
 frame_read size frame f law is = subst (λ (n : ℕ). IsFrame n frame) (sym law.fits) is
 
-module _ (frame : Frame) (held : Option Record) (bytes a c : List ℕ) (is : IsFrame (length a) frame) (few : IfSome held (IsLoadable frame)) (fits : length bytes ≤ bank_size frame)
-    (same : SameOn (BesideBank frame held bytes) a c) where
+module _ (frame : Frame) (held : Option Record) (bytes a c : List ℕ) (is : IsFrame (length a) frame) (told : frame_told a ≡ Some frame) (few : IfSome held (IsLoadable frame))
+    (fits : length bytes ≤ bank_size frame) (same : SameOn (BesideBank frame held bytes) a c) where
+  -- the frame is told still
+  pub told_same : frame_told c ≡ Some frame
+  told_same =
+      ap frame_by
+      (same_range c a 45056 45066 same.size (omega (arith, same.size, has_room (length a) frame is))
+      (λ i low high. same.same i (tells_beside (length a) frame (facts (length a) frame is) held bytes fits i (inr (low, omega (arith, high))))))
+      ∙ told
+
   says_same : SameOn (SaysRecorded frame held) a c
   says_same = record { size = same.size; same = λ i says. same.same i (says_beside (length a) frame (facts (length a) frame is) held bytes fits few i says) }
 
   module _ (was : RecordOf frame (head_of frame a) held) where
     still : SoundLaws → Sound a → IsStillSound frame held a c
-    still laws sound = laws.kept frame held a c (has_frame frame a is) was says_same sound
+    still laws sound = laws.kept frame held a c (has_frame frame a is told) was says_same sound
 
     -- the record that was held stands still
     pub still_held : RecordOf frame (head_of frame c) held
-    still_held = recorded.still_held frame held a c (has_frame frame a is) was says_same
+    still_held = recorded.still_held frame held a c (has_frame frame a is told) was says_same
 
     -- and the page beside it is free still
     pub still_spare : (spare : Spare) → spare.which < 2 → HasSpare frame (head_of frame a) held spare → HasSpare frame (head_of frame c) held spare
-    still_spare spare two has = recorded.still_spare frame held a c (has_frame frame a is) was says_same spare two has
+    still_spare spare two has = recorded.still_spare frame held a c (has_frame frame a is told) was says_same spare two has
 
 module _ (frame : Frame) (held : Option Record) (bytes a c : List ℕ) (is : IsFrame (length a) frame) (same : SameOn (BesideBank frame held bytes) a c) where
   here : FrameFacts (length a) frame
@@ -123,9 +150,10 @@ module _ (frame : Frame) (held : Option Record) (bytes a c : List ℕ) (is : IsF
   }
 
   -- the configuration was the same
-  config_back : (layout : List Entry) (key : Key) → ConfigOf (length c) c (Configured layout key frame) → ConfigOf (length a) a (Configured layout key frame)
-  config_back layout key config = record {
-    version = config.version;
+  config_back : (layout : List Entry) (key : Key) → frame_told a ≡ Some frame → ConfigOf (length c) c (Configured layout key frame) → ConfigOf (length a) a (Configured layout key frame)
+  config_back layout key told config = record {
+    placed = is;
+    told = told;
     whole = here.inside;
     typed = config.typed;
     page = subst (λ (n : ℕ). IsConfigPage frame n (config_page_of frame (head_of frame a)) layout key) same.size (subst (λ (l : List ℕ). IsConfigPage frame (length c) l layout key) config_same config.page);
@@ -133,13 +161,13 @@ module _ (frame : Frame) (held : Option Record) (bytes a c : List ℕ) (is : IsF
 
 -- ---- the new record
 
-module _ (laws : SoundLaws) (frame : Frame) (held : Option Record) (new : Record) (bytes a made : List ℕ) (is : IsFrame (length a) frame) (few : IfSome held (IsLoadable frame)) (fits : length bytes ≤ bank_size frame)
+module _ (laws : SoundLaws) (frame : Frame) (held : Option Record) (new : Record) (bytes a made : List ℕ) (is : IsFrame (length a) frame) (told : frame_told a ≡ Some frame) (few : IfSome held (IsLoadable frame)) (fits : length bytes ≤ bank_size frame)
     (was : RecordOf frame (head_of frame a) held) (sound : Sound a) (filled : IsFilled frame held new bytes a made) where
   made_still : IsStillSound frame held a made
-  made_still = still frame held bytes a made is few fits filled.beside was laws sound
+  made_still = still frame held bytes a made is told few fits filled.beside was laws sound
 
   made_frame : HasFrame frame made
-  made_frame = has_frame frame made (frame_since frame a made filled.beside.size is)
+  made_frame = has_frame frame made (frame_since frame a made filled.beside.size is) (told_same frame held bytes a made is told few fits filled.beside)
 
   committing : (image : List ℕ) → IsRecording frame held new made image → IsCommitted frame held new made image
   committing image now = record {
@@ -156,7 +184,7 @@ module _ (laws : SoundLaws) (frame : Frame) (held : Option Record) (new : Record
       laws.committed frame held new made image (committing image now) (in_range frame held bytes a made is filled.beside new bank size active)
       (λ layout key other config. subst (λ (f : Frame). IsInstalled layout key (recorded_bank f (head_of f made) new) new) (sym (made_frame.told layout key other config))
       (subst (λ (l : List ℕ). IsInstalled layout key l new) (sym filled.holds)
-      (may layout key (config_back frame held bytes a made is filled.beside layout key (by_told (length made) made frame made_frame.told layout key other config)))))
+      (may layout key (config_back frame held bytes a made is filled.beside layout key told (by_told (length made) made frame made_frame.told layout key other config)))))
       made_still.sound
 
   recording_follows : IfSome held (λ r. IsNoEarlier r new) → (image : List ℕ) → IsRecording frame held new made image → Follows a image
@@ -164,14 +192,14 @@ module _ (laws : SoundLaws) (frame : Frame) (held : Option Record) (new : Record
 
 -- ---- each image
 
-module _ (laws : SoundLaws) (frame : Frame) (held : Option Record) (new : Record) (bytes : List ℕ) (a : Flash) (is : IsFrame (length a.reads) frame) (few : IfSome held (IsLoadable frame)) (fits : length bytes ≤ bank_size frame)
+module _ (laws : SoundLaws) (frame : Frame) (held : Option Record) (new : Record) (bytes : List ℕ) (a : Flash) (is : IsFrame (length a.reads) frame) (told : frame_told a.reads ≡ Some frame) (few : IfSome held (IsLoadable frame)) (fits : length bytes ≤ bank_size frame)
     (was : RecordOf frame (head_of frame a.reads) held) (sound : Sound a.reads) (firm : IsFirmOn (InHead frame) a) where
   -- while the bank is written
   pub filling_still : (image : List ℕ) → ImageOn (BesideBank frame held bytes) a image → IsStillSound frame held a.reads image
   filling_still image on =
       let sure = firm on.from on.was in
       let here = facts (length a.reads) frame is in
-      laws.kept frame held a.reads image (has_frame frame a.reads is) was
+      laws.kept frame held a.reads image (has_frame frame a.reads is told) was
       (record {
         size = on.same.size ∙ sure.size;
         same = λ i says. on.same.same i (says_beside (length a.reads) frame here held bytes fits few i says) ∙ sure.same i (says_head (length a.reads) frame here held few i says);
@@ -180,11 +208,11 @@ module _ (laws : SoundLaws) (frame : Frame) (held : Option Record) (new : Record
 
   installing_sound : new.bank < 2 → new.length ≤ bank_size frame → HasActiveSlots frame a.reads new.active → MayBeInstalled frame a.reads bytes new → (image : List ℕ) → IsInstalling frame held new bytes a image → Sound image
   installing_sound bank size active may image (Filling on) = (filling_still image on).sound
-  installing_sound bank size active may image (Recording made filled now) = recording_sound laws frame held new bytes a.reads made is few fits was sound filled bank size active may image now
+  installing_sound bank size active may image (Recording made filled now) = recording_sound laws frame held new bytes a.reads made is told few fits was sound filled bank size active may image now
 
   installing_follows : IfSome held (λ r. IsNoEarlier r new) → (image : List ℕ) → IsInstalling frame held new bytes a image → Follows a.reads image
   installing_follows sure image (Filling on) = (filling_still image on).follows
-  installing_follows sure image (Recording made filled now) = recording_follows laws frame held new bytes a.reads made is few fits was sound filled sure image now
+  installing_follows sure image (Recording made filled now) = recording_follows laws frame held new bytes a.reads made is told few fits was sound filled sure image now
 
 -- ---- from one call to the next
 
@@ -229,17 +257,17 @@ bank_small frame (Some r) image bytes few = either_small (is_kept frame (Some r)
 
 -- ---- all of it
 
-module _ (laws : SoundLaws) (frame : Frame) (held : Option Record) (bytes : List ℕ) (sequence : ℕ) (digest : Digest) (active : List ℕ) (a : Flash) (is : IsFrame (length a.reads) frame) (few : IfSome held (IsLoadable frame))
+module _ (laws : SoundLaws) (frame : Frame) (held : Option Record) (bytes : List ℕ) (sequence : ℕ) (digest : Digest) (active : List ℕ) (a : Flash) (is : IsFrame (length a.reads) frame) (told : frame_told a.reads ≡ Some frame) (few : IfSome held (IsLoadable frame))
     (fits : length bytes ≤ bank_size frame) (was : RecordOf frame (head_of frame a.reads) held) (sound : Sound a.reads) (firm : IsFirmOn (InHead frame) a) where
   abbrev new : Record
   new = new_record frame held a.reads bytes sequence digest active
 
   pub each_sound : (d : Flash) → HasActiveSlots frame a.reads active → Passes a d (IsInstalling frame held new bytes a) → MayBeInstalled frame a.reads bytes new → Passes a d Sound
   each_sound d slots run may =
-      weakens a d (IsInstalling frame held new bytes a) Sound (installing_sound laws frame held new bytes a is few fits was sound firm (bank_small frame held a.reads bytes few) fits slots may) run
+      weakens a d (IsInstalling frame held new bytes a) Sound (installing_sound laws frame held new bytes a is told few fits was sound firm (bank_small frame held a.reads bytes few) fits slots may) run
 
   pub each_follows : (d : Flash) → Passes a d (IsInstalling frame held new bytes a) → IfSome held (λ r. IsNoEarlier r new) → Passes a d (Follows a.reads)
-  each_follows d run sure = weakens a d (IsInstalling frame held new bytes a) (Follows a.reads) (installing_follows laws frame held new bytes a is few fits was sound firm sure) run
+  each_follows d run sure = weakens a d (IsInstalling frame held new bytes a) (Follows a.reads) (installing_follows laws frame held new bytes a is told few fits was sound firm sure) run
 
 -- the bank and the commit
 module _ (frame : Frame) (held : Option Record) (new code : Record) (bytes : List ℕ) (a c d : Flash) (same : code ≡ new) (kept : Keeps (BesideBank frame held bytes) a c) where

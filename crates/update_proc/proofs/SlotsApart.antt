@@ -1,5 +1,5 @@
 -- The slots of a layout share no byte.
-use Rattle.std.proofs.Common.{◌≡◌, ◌⊎◌, inl, inr, ⊎_elim, ◌<◌, ◌≤◌, ℕ, ◌+◌, List, length, get_or, take, sym, ◌∙◌, ap, subst, arith, get_or-take}
+use Rattle.std.proofs.Common.{◌≡◌, ◌⊎◌, inl, inr, ⊎_elim, ◌<◌, ◌≤◌, ℕ, ◌+◌, List, length, get_or, take, refl, sym, ◌∙◌, ap, subst, arith, get_or-take}
 use Rattle.std.specs.List.{All}
 use Rattle.std.proofs.lemmas.Bool.{cases_eq, cases_lt}
 use Rattle.std.proofs.lemmas.List.{length-take-le}
@@ -13,6 +13,7 @@ use Rattle.flash_layout.specs.declared.layout.Memory.{Memory}
 use Rattle.flash_layout.specs.declared.layout.Memory.TheVariants as memory
 use Rattle.flash_layout.specs.declared.place.Places.{Places}
 use Rattle.flash_layout.specs.declared.slot.Slot.{Slot}
+use Rattle.flash_layout.specs.Frames.{frame_size}
 use Rattle.flash_layout.specs.Layouts.{AreClear, IsBehindHead, IsClearOf, IsEntry, IsInFlash, IsLayout, IsOfMemory, IsTypedEntry, slot_size, slot_starts, starts_in}
 use Rattle.flash_layout.specs.Slots.{content_of, extent_of, slot_content}
 use Rattle.update_proc.specs.Choices.{IsSlotOf, IsTouched}
@@ -35,8 +36,8 @@ module _ (frame : Frame) (size : ℕ) (layout : List Entry) (allowed : IsLayout 
   abbrev entry : ℕ → Entry
   entry i = get_or layout i d
 
-  in_flash : (i : ℕ) → i < length layout → (entry i).memory ≡ memory.Flash → IsInFlash size (entry i)
-  in_flash i inside flash = subst (λ (m : Memory). IsOfMemory size (entry i) m) flash (All-get_or (IsEntry size) layout i d inside allowed.each).held
+  in_flash : (i : ℕ) → i < length layout → (entry i).memory ≡ memory.Flash → IsInFlash frame size (entry i)
+  in_flash i inside flash = subst (λ (m : Memory). IsOfMemory frame size (entry i) m) flash (All-get_or (IsEntry frame size) layout i d inside allowed.each).held
 
   module _ (i n : ℕ) (s : Slot) (is : IsSlotOf layout i n s) where
     pub start_at : get_or (slot_starts (entry i)) n 0 ≡ s.start
@@ -57,10 +58,13 @@ module _ (frame : Frame) (size : ℕ) (layout : List Entry) (allowed : IsLayout 
     extent_is = sym (ap (λ (x : Slot). extent_of x) (is.is d))
 
     -- it lies behind the head
-    pub lies : IsBehindHead size s.start (extent_of s)
+    pub lies : IsBehindHead frame size s.start (extent_of s)
     lies =
-        let there = All-get_or (λ p. IsBehindHead size p (slot_size (entry i))) (slot_starts (entry i)) n 0 start_in (in_flash i is.inside (is.flash d)).4 in
-        (omega (arith, there.0, start_at), omega (arith, there.1, start_at, extent_is))
+        let there = All-get_or (λ p. IsBehindHead frame size p (slot_size (entry i))) (slot_starts (entry i)) n 0 start_in (in_flash i is.inside (is.flash d)).4 in (
+          omega (arith, there.0, start_at),
+          omega (arith, there.1, start_at, extent_is),
+          clear_as frame.base frame.base (frame_size frame) (frame_size frame) (get_or (slot_starts (entry i)) n 0) s.start (slot_size (entry i)) (extent_of s) refl refl start_at extent_is there.2,
+        )
 
     -- where it is left alone, so is its content
     pub content_kept : (a c : List ℕ) → length a ≡ size → length c ≡ length a → ((k : ℕ) → Within s.start (extent_of s) k → get_or c k 0 ≡ get_or a k 0) → slot_content s c ≡ slot_content s a

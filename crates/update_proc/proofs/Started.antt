@@ -8,10 +8,8 @@ use Rattle.suit_commands.specs.Targets.{IsTarget}
 use Rattle.suit_edge.specs.Flash.{Flash, IsFirmOn, IsFlash, Keeps, Now, Passes}
 use Rattle.suit_edge.specs.FlashLaws.{each_now, each_read, firm_then, joined, keeps_fewer, weakens}
 use Rattle.suit_edge.specs.Ranges.{Outside, SameOn}
-use Rattle.suit_edge.specs.RangeLaws.{same_range}
 use Rattle.suit_params.specs.declared.digest.Digest.{Digest}
 use Rattle.flash_layout.specs.declared.frame.Frame.{Frame}
-use Rattle.flash_layout.specs.declared.frame.TheConstants.{VERSION_1}
 use Rattle.flash_layout.specs.declared.key.Key.{Key}
 use Rattle.flash_layout.specs.declared.layout.Entry.{Entry}
 use Rattle.flash_layout.specs.declared.layout.Memory.{Memory}
@@ -19,10 +17,10 @@ use Rattle.flash_layout.specs.declared.layout.Memory.TheVariants as memory
 use Rattle.flash_layout.specs.declared.place.Places.{Places}
 use Rattle.flash_layout.specs.declared.slot.Record.{Record}
 use Rattle.flash_layout.specs.Configs.{ConfigOf, Configured}
-use Rattle.flash_layout.specs.FirstFrame.{has_room, of_first, to_first}
 use Rattle.flash_layout.specs.FrameFacts.{FrameFacts, facts}
-use Rattle.flash_layout.specs.Frames.{IsFrame, bank_size, head_of, head_size}
-use Rattle.flash_layout.specs.ToldFrames.{same_config}
+use Rattle.flash_layout.specs.Frames.{IsFrame, bank_size, head_of}
+use Rattle.flash_layout.specs.Roots.{frame_told}
+use Rattle.flash_layout.specs.ToldFrames.{HasSameHead, back, same_config, told_there}
 use Rattle.flash_layout.specs.Layouts.{IsLayout, IsTypedEntry}
 use Rattle.flash_layout.specs.Slots.{extent_of, slot_at}
 use Rattle.rollback_record.specs.Committing.{InHead}
@@ -45,7 +43,7 @@ use Rattle.update_proc.specs.Records.{new_record}
 use Rattle.update_proc.proofs.Finished.{not_held}
 use Rattle.update_proc.proofs.MomentProofs.{beside}
 use Rattle.update_proc.proofs.Numbering.{other_default}
-use Rattle.rollback_record.proofs.HeadSince.{follows_since, sound_since}
+use Rattle.rollback_record.proofs.HeadSince.{follows_since, same_head, sound_since}
 use Rattle.update_proc.proofs.WholeUpdate.{finished, head_out, kept_old, listed, reads_old, settled_head, settled_slots}
 
 none : Entry
@@ -126,23 +124,21 @@ module _ (laws : SoundLaws) (moments : EachMoment) (choosing : ChoiceLaw) (frame
   kept_head : Keeps (InHead frame) a b
   kept_head = keeps_fewer (InHead frame) (OutsideTouched layout places tree numbers) (head_out frame size layout allowed typed none here places tree numbers) a b kept_touched
 
+  same_b : HasSameHead a.reads b.reads
+  same_b = same_head size frame is a.reads b.reads law.fits config.told kept_head.reads
+
   pub head_b : head_of frame b.reads ≡ head_of frame a.reads
-  head_b =
-      same_range b.reads a.reads frame.base (frame.base + head_size frame) kept_head.reads.size (omega (arith, law_b.fits, here.inside))
-      (λ i low high. kept_head.reads.same i (low, high))
+  head_b = same_b.head frame config.told
+
+  -- it tells the same frame
+  pub told_b : frame_told b.reads ≡ Some frame
+  told_b = told_there a.reads b.reads same_b ∙ config.told
 
   pub was_b : RecordOf frame (head_of frame b.reads) held
   was_b = subst (λ (h : List ℕ). RecordOf frame h held) (sym head_b) was
 
-  -- what a configuration is read of stands in the head of version 1
-  front_kept : Keeps (InHead VERSION_1) a b
-  front_kept = to_first size frame is (λ (f : Frame). Keeps (InHead f) a b) kept_head
-
-  front_b : head_of VERSION_1 b.reads ≡ head_of VERSION_1 a.reads
-  front_b = to_first size frame is (λ (f : Frame). head_of f b.reads ≡ head_of f a.reads) head_b
-
   pub active_b : HasActiveSlots frame b.reads numbers
-  active_b = choosing frame b.reads layout key held places tree numbers (same_config a.reads b.reads kept_head.reads.size front_b (Configured layout key frame) config_a) was_b chosen
+  active_b = choosing frame b.reads layout key held places tree numbers (same_config a.reads b.reads same_b (Configured layout key frame) config_a) was_b chosen
 
   -- the procedure changed no content but those of slots that may be written
   pub contents_made : KeepsContents layout places tree numbers a.reads b.reads
@@ -158,13 +154,13 @@ module _ (laws : SoundLaws) (moments : EachMoment) (choosing : ChoiceLaw) (frame
 
   module _ (settled : Settled a) where
     pub firm_b : IsFirmOn (InHead frame) b
-    firm_b = firm_then (InHead frame) a b size law_b (of_first size frame is (λ (f : Frame). IsFirmOn (InHead f) a) (head_is_firm a settled)) kept_head
+    firm_b = firm_then (InHead frame) a b size law_b (head_is_firm a frame config.told settled) kept_head
 
     sound_run : Passes a b Sound
-    sound_run = sound_since laws a b size law (has_room size frame is) settled front_kept
+    sound_run = sound_since laws a b size law frame is config.told settled kept_head
 
     follows_run : Passes a b (Follows a.reads)
-    follows_run = follows_since laws a b size law (has_room size frame is) settled front_kept
+    follows_run = follows_since laws a b size law frame is config.told settled kept_head
 
     pub sound_b : Sound b.reads
     sound_b = each_read a b size Sound law_b sound_run
@@ -186,7 +182,7 @@ module _ (laws : SoundLaws) (moments : EachMoment) (choosing : ChoiceLaw) (frame
         moments_of =
             finished frame size is layout laws_here places tree numbers held a law was (head_out frame size layout allowed typed none here places tree numbers)
             (settled_head frame layout key a settled config_a) (settled_slots frame layout key a settled config_a (listed frame size layout allowed typed none))
-            b law_b kept_touched.images laws new bytes few fits sound_b firm_b d
+            b law_b kept_touched.images laws new bytes few fits told_b sound_b firm_b d
             (subst (λ (r : Record). Passes b d (NowOr (IsInstalling frame held r bytes b) b)) new_is since)
 
         pub moment_at_end : Moment d.reads
@@ -203,7 +199,7 @@ module _ (laws : SoundLaws) (moments : EachMoment) (choosing : ChoiceLaw) (frame
       old_b =
           reads_old frame size is layout laws_here places tree numbers held a law was (head_out frame size layout allowed typed none here places tree numbers)
           (settled_head frame layout key a settled config_a) (settled_slots frame layout key a settled config_a (listed frame size layout allowed typed none))
-          b law_b kept_touched.images laws new bytes few fits sound_b firm_b
+          b law_b kept_touched.images laws new bytes few fits told_b sound_b firm_b
 
       pub old_at_end : d.reads ≡ b.reads → IsOld frame layout places tree numbers held a.reads d.reads
       old_at_end same = subst (λ (l : List ℕ). IsOld frame layout places tree numbers held a.reads l) (sym same) old_b
@@ -213,14 +209,14 @@ module _ (laws : SoundLaws) (moments : EachMoment) (choosing : ChoiceLaw) (frame
       old_all still =
           kept_old frame size is layout laws_here places tree numbers held a law was (head_out frame size layout allowed typed none here places tree numbers)
           (settled_head frame layout key a settled config_a) (settled_slots frame layout key a settled config_a (listed frame size layout allowed typed none))
-          b law_b kept_touched.images laws new bytes few fits sound_b firm_b d still
+          b law_b kept_touched.images laws new bytes few fits told_b sound_b firm_b d still
 
       pub sound_all : (IsFirmOn (InHead frame) b → Sound b.reads → MayBeInstalled frame b.reads bytes (new_record frame held b.reads bytes sequence digest numbers) → Passes b d (NowOr Sound b)) → MayBeInstalled frame a.reads bytes new → Passes a d Sound
       sound_all to may =
           joined a b d Sound sound_run
           (weakens b d (NowOr Sound b) Sound (λ image is. ⊎_elim (λ now. each_now a b size Sound law_b sound_run image now) (λ s. s) is)
           (to firm_b sound_b (λ l k there. subst (λ (r : Record). IsInstalled l k bytes r) (sym new_is)
-          (may l k (same_config b.reads a.reads (sym kept_head.reads.size) (sym front_b) (Configured l k frame) there)))))
+          (may l k (same_config b.reads a.reads (back a.reads b.reads same_b) (Configured l k frame) there)))))
 
       pub follows_all : (IsFirmOn (InHead frame) b → Sound b.reads → IfSome held (λ r. IsNoEarlier r (new_record frame held b.reads bytes sequence digest numbers)) → Passes b d (NowOr (Follows b.reads) b))
           → IfSome held (λ r. IsNoEarlier r (new_record frame held b.reads bytes sequence digest numbers)) → Passes a d (Follows a.reads)

@@ -1,6 +1,6 @@
 -- Each image since an update began has the old record and the old contents of slots that are not written, or the new record
 -- and the contents that the procedure made.
-use Rattle.std.proofs.Common.{◌≡◌, ◌⊎◌, inl, inr, ⊎_elim, ◌<◌, ◌≤◌, ℕ, zero, suc, ◌+◌, List, [], ◌∷◌, length, get_or, Option, IfSome, sym, ◌∙◌, ap, subst, arith}
+use Rattle.std.proofs.Common.{◌≡◌, ◌⊎◌, inl, inr, ⊎_elim, ◌<◌, ◌≤◌, ℕ, zero, suc, ◌+◌, List, [], ◌∷◌, length, get_or, Option, Some, IfSome, sym, ◌∙◌, ap, subst, arith}
 use Rattle.std.specs.List.{All, Contains}
 use Rattle.std.proofs.lemmas.List.{get_or-map, length-map}
 use Rattle.std.proofs.lemmas.List.Elements.{All-contains, Contains-append_left, Contains-append_right}
@@ -18,19 +18,20 @@ use Rattle.flash_layout.specs.Configs.{ConfigOf, Configured}
 use Rattle.flash_layout.specs.FrameFacts.{FrameFacts, facts}
 use Rattle.flash_layout.specs.Frames.{IsFrame, bank_size, head_of, head_size}
 use Rattle.flash_layout.specs.Layouts.{IsLayout, IsTypedEntry, slot_starts}
+use Rattle.flash_layout.specs.Roots.{frame_told}
 use Rattle.flash_layout.specs.Slots.{extent_of, layout_slots, slot_at, slot_content, slots_of}
-use Rattle.flash_layout.specs.ToldFrames.{head_there}
 use Rattle.rollback_record.specs.Committing.{InHead}
 use Rattle.rollback_record.specs.HeadRecord.{IsLoadable, RecordOf}
 use Rattle.rollback_record.specs.SoundFlash.{Settled, Sound}
 use Rattle.rollback_record.specs.SoundLaws.{SoundLaws}
+use Rattle.rollback_record.proofs.HeadPlaces.{slot_outside}
 use Rattle.update_proc.specs.Choices.{IsSlotOf}
 use Rattle.update_proc.specs.Ends.{NowOr}
 use Rattle.update_proc.specs.Installing.{Filling, IsInstalling, Recording}
 use Rattle.update_proc.specs.MomentLaws.{MomentLaws}
 use Rattle.update_proc.specs.Moments.{HasContentsOf, IsNew, IsOld, OutsideTouched}
 use Rattle.update_proc.proofs.Installs.{filling_still}
-use Rattle.update_proc.proofs.SlotsApart.{lies, outside_clear, start_at, start_in}
+use Rattle.update_proc.proofs.SlotsApart.{lies, start_at, start_in}
 
 -- ---- the slots of a layout
 
@@ -52,8 +53,7 @@ module _ (frame : Frame) (size : ℕ) (layout : List Entry) (allowed : IsLayout 
   -- and none that is written stands in the head
   pub head_out : FrameFacts size frame → (places : Places) (tree : PlanTree) (numbers : List ℕ) (i : ℕ) → InHead frame i → OutsideTouched layout places tree numbers i
   head_out is places tree numbers i inside slot touched =
-      outside_clear frame.base (head_size frame) slot.start (extent_of slot) i
-      (is.clear slot.start (extent_of slot) (lies frame size layout allowed typed d touched.index (get_or numbers touched.index 0) slot touched.stands)) inside
+      slot_outside size frame is slot.start (extent_of slot) (lies frame size layout allowed typed d touched.index (get_or numbers touched.index 0) slot touched.stands) i inside
 
 -- ---- while the procedure runs
 
@@ -67,7 +67,7 @@ module _ (frame : Frame) (size : ℕ) (is : IsFrame size frame) (layout : List E
       let long : length on.from ≡ size = law.sized a.clock on.from (omega arith) on.was in
       let here : FrameFacts size frame = facts size frame is in
       let head : head_of frame image ≡ head_of frame on.from =
-      same_range image on.from frame.base (frame.base + head_size frame) on.same.size (omega (arith, on.same.size, long, here.inside)) (λ i low high. on.same.same i (out_of_head i (low, high))) in
+      same_range image on.from frame.base (frame.base + head_size frame) on.same.size (omega (arith, on.same.size, long, here.inside)) (λ i low high. on.same.same i (out_of_head i (inr (low, high)))) in
       record {
         record_is = subst (λ (h : List ℕ). RecordOf frame h held) (sym (head ∙ firm_head on.from on.was)) was;
         contents = λ i n slot is not. laws.procedure places tree numbers on.from image long on.same i n slot is not ∙ firm_slots on.from on.was i n slot is;
@@ -76,7 +76,7 @@ module _ (frame : Frame) (size : ℕ) (is : IsFrame size frame) (layout : List E
   -- ---- and while its envelope is written and recorded
 
   module _ (b : Flash) (law_b : IsFlash b size) (run : Passes a b (ImageOn (OutsideTouched layout places tree numbers) a)) (sound_laws : SoundLaws) (new : Record) (bytes : List ℕ) (few : IfSome held (IsLoadable frame)) (fits : length bytes ≤ bank_size frame)
-      (sound : Sound b.reads) (firm : IsFirmOn (InHead frame) b) where
+      (told : frame_told b.reads ≡ Some frame) (sound : Sound b.reads) (firm : IsFirmOn (InHead frame) b) where
     old_run : Passes a b (IsOld frame layout places tree numbers held a.reads)
     old_run = weakens a b (ImageOn (OutsideTouched layout places tree numbers) a) (IsOld frame layout places tree numbers held a.reads) still_old run
 
@@ -95,7 +95,7 @@ module _ (frame : Frame) (size : ℕ) (is : IsFrame size frame) (layout : List E
         let long : length on.from ≡ size = law_b.sized b.clock on.from (omega arith) on.was in
         let is_b : IsFrame (length b.reads) frame = subst (λ (n : ℕ). IsFrame n frame) (sym law_b.fits) is in
         inl (record {
-          record_is = (filling_still sound_laws frame held new bytes b is_b few fits reads_old.record_is sound firm image on).held_is;
+          record_is = (filling_still sound_laws frame held new bytes b is_b told few fits reads_old.record_is sound firm image on).held_is;
           contents = λ i n slot is not. laws.filling held bytes on.from image long fits on.same i n slot is ∙ before.contents i n slot is not;
         })
     installing image (Recording made filled is) =
@@ -120,9 +120,7 @@ module _ (frame : Frame) (size : ℕ) (is : IsFrame size frame) (layout : List E
 
 module _ (frame : Frame) (layout : List Entry) (key : Key) (a : Flash) (settled : Settled a) (config : ConfigOf (length a.reads) a.reads (Configured layout key frame)) where
   pub settled_head : (image : List ℕ) → Now a image → head_of frame image ≡ head_of frame a.reads
-  settled_head image now =
-      let sure = settled.sure image now in
-      head_there (length a.reads) a.reads image sure.size sure.head layout key frame config
+  settled_head image now = (settled.sure image now).head.head frame config.told
 
   pub settled_slots : ((i n : ℕ) (s : Slot) → IsSlotOf layout i n s → Contains (layout_slots layout) s) → (image : List ℕ) → Now a image → HasContentsOf layout a.reads image
   settled_slots listed image now i n slot is =

@@ -1,6 +1,7 @@
 //! The end of a procedure: the envelope is installed where it is done, and otherwise all pending writes are synced.
 
 ghost use Rattle.flash_layout.specs.Frames.{IsFrame, head_of};
+ghost use Rattle.flash_layout.specs.Roots.{frame_told};
 ghost use Rattle.rollback_record.specs.Committing.{HasHeldOrNew, HasSpare, InHead};
 ghost use Rattle.rollback_record.specs.HeadRecord.{RecordOf};
 ghost use Rattle.rollback_record.specs.SoundFlash.{Follows, IsNoEarlier, Sound};
@@ -52,6 +53,7 @@ pub(crate) fn finish<D: Disk>(
     bytes: &[u8],
 ) -> UpdateEnd
     requires frame { IsFrame (D.extent disk.old) frame }
+    requires told { IsTrue D.told → frame_told (D.flash disk.old).reads ≡ Some frame }
     requires ready { MayInstall frame (D.extent disk.old) (option_map (λ r. r.now) held)
         bytes.now }
     requires held { IsTrue D.told

@@ -2,6 +2,7 @@
 
 ghost use Rattle.flash_layout.specs.FaultCounts.{ResultCounts};
 ghost use Rattle.flash_layout.specs.Frames.{IsFrame, bank_size, head_of};
+ghost use Rattle.flash_layout.specs.Roots.{frame_told};
 ghost use Rattle.rollback_record.specs.Committing.{HasHeldOrNew, HasSpare, InHead};
 ghost use Rattle.rollback_record.specs.HeadRecord.{IsLoadable, RecordOf};
 ghost use Rattle.rollback_record.specs.SoundFlash.{Follows, IsNoEarlier, Sound};
@@ -41,6 +42,7 @@ pub fn install<D: Disk>(
     room: &mut [u8],
 ) -> Result<Record, FlashFault>
     requires frame { IsFrame (D.extent disk.old) frame }
+    requires told { IsTrue D.told → frame_told (D.flash disk.old).reads ≡ Some frame }
     requires loadable { IfSome (option_map (λ r. r.now) held) (IsLoadable frame) }
     requires worn { IfSome (option_map (λ r. r.now) held) IsNotWorn }
     requires fits { length bytes.now ≤ bank_size frame }

@@ -116,7 +116,7 @@ impl Device {
         if self.layout.len() != 3 {
             return Err(AllocError);
         }
-        if !is_layout(self.disk.size(), &self.layout) {
+        if !is_layout(VERSION_1, self.disk.size(), &self.layout) {
             return Err(AllocError);
         }
         let layout = &self.layout;

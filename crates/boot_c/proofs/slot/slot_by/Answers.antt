@@ -1,9 +1,10 @@
-use Rattle.std.proofs.Common.{◌≡◌, ◌<◌, ◌≤◌, ℕ, List, None, Some, inl, inr, length, refl, slice_index_or, subst}
+use Rattle.std.proofs.Common.{◌≡◌, ◌<◌, ◌≤◌, ℕ, List, None, Some, inl, inr, length, refl, slice_index_or, subst, sym}
 use Rattle.boot_c.proofs.SlotAnswers.{stands_in}
 use Rattle.boot_c.specs.SlotAnswers.{NoComponent, NoRecord}
 use Rattle.boot_c.specs.SlotsInUse.{IsSlotOf}
 use Rattle.flash_layout.specs.declared.layout.Memory.TheVariants as memory
 use Rattle.flash_layout.specs.Frames.{head_of}
+use Rattle.flash_layout.specs.Layouts.{IsEntry}
 use Rattle.flash_layout.specs.declared.layout.Entry.{Entry}
 use Rattle.flash_view.specs.ViewDisk.{ViewState}
 use Rattle.rollback_record.specs.HeadRecord.{RecordOf}
@@ -57,3 +58,10 @@ returns-in-Ok-None-clause-answers c =
       stands = stands_in c.args.layout.now c.as_slice-entries.result.now c.args.component memory.Flash c.in-Some.entry.now c.as_slice-entries.ensures c.in-Some.ensures.lookup.3.0 c.in-Some.ensures.lookup.3.1 c.in-Flash.is;
       none = subst (λ (d : ViewState). RecordOf c.args.frame (head_of c.args.frame d.bytes) None) c.new-disk.ensures here;
     }) refl)
+
+pub slot_in-requires-clause-entry : goal.slot_in-requires-clause-entry
+slot_in-requires-clause-entry c =
+    let entry = c.in-Some.entry.now in
+    let inside = subst (λ (l : List Entry). c.args.component < length l) c.as_slice-entries.ensures c.in-Some.ensures.lookup.3.0 in
+    let is = subst (λ (l : List Entry). (d : Entry) → entry ≡ slice_index_or l c.args.component d) c.as_slice-entries.ensures c.in-Some.ensures.lookup.3.1 in
+    (c.args.frame, subst (IsEntry c.args.frame (length c.args.flash.now)) (sym (is entry)) (c.requires.allowed.layout_is.each c.args.component entry inside))

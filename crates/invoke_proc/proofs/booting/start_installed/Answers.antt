@@ -1,10 +1,12 @@
-use Rattle.std.proofs.Common.{◌≡◌, ◌∙◌, ℕ, sym, subst}
+use Rattle.std.proofs.Common.{◌≡◌, ◌∙◌, ℕ, length, ap, sym, subst}
 use Rattle.manifest_view.specs.Views.{manifest_of}
 use Rattle.suit_edge.specs.Flash.{IsSame}
 use Rattle.suit_edge.specs.FlashLaws.{same_flash_then}
+use Rattle.flash_layout.specs.declared.frame.Frame.{Frame}
+use Rattle.flash_layout.specs.Frames.{bank_size}
 use Rattle.flash_layout.specs.Layouts.{IsLayout}
-use Rattle.flash_layout.specs.FirstFrame.{bank_fits}
 use Rattle.invoke_proc.specs.declared.boot_end.BootEnd.{BootEnd}
+use Rattle.invoke_proc.specs.Buffers.{BootRoom}
 use Rattle.invoke_proc.specs.Booting.{Answers, KeepsBoot, KeepsOthers, PlayedSo, PlaysBoot, PlaysOn}
 use Rattle.invoke_proc.proofs.Booted as booted
 use Rattle.invoke_proc.proofs.Places.{are_distinct}
@@ -93,12 +95,20 @@ returns-clause-settled g c t =
     (booted.settled_from (g.D.Disk.flash c.args.disk.now) (g.D.Disk.flash c.find_bank.new.disk) (g.D.Disk.flash c.start.new.disk) _ (g.met.D.Disk.obeys c.find_bank.new.disk t) (c.in-Ok.ensures.same t))
     (c.start.ensures.settled t)
 
-pub find_bank-requires-clause-fits : goal.find_bank-requires-clause-fits
-find_bank-requires-clause-fits g c = bank_fits (g.D.Disk.extent c.args.disk.now) c.args.frame c.requires.allowed.frame_is
-
 pub find_bank-requires-clause-config : goal.find_bank-requires-clause-config
 find_bank-requires-clause-config g c t = (c.args.key.now, c.requires.held t)
 
+pub find_bank-requires-clause-room : goal.find_bank-requires-clause-room
+find_bank-requires-clause-room g c =
+    ap length c.as_mut_slice-room.ensures.value ∙ c.buffer.invariant.1 ∙ ap (λ (b : BootRoom). bank_size b.frame) (c.buffer.view_is ∙ c.requires.room)
+
 pub start-requires-clause-layout : goal.start-requires-clause-layout
 start-requires-clause-layout g c =
-    (c.args.frame, subst (λ (n : ℕ). IsLayout c.args.frame n c.args.layout.now) (sym c.find_bank.ensures.size) c.requires.allowed.layout_is)
+    subst (λ (f : Frame). IsLayout f (g.D.Disk.extent c.find_bank.new.disk) c.args.layout.now) (sym (ap (λ (b : BootRoom). b.frame) (c.buffer.view_is ∙ c.requires.room)))
+    (subst (λ (n : ℕ). IsLayout c.args.frame n c.args.layout.now) (sym c.find_bank.ensures.size) c.requires.allowed.layout_is)
+
+pub start-requires-clause-ram : goal.start-requires-clause-ram
+start-requires-clause-ram g c = ap (λ (b : BootRoom). b.ram) (c.buffer.view_is ∙ c.requires.room)
+
+pub start-requires-clause-uris : goal.start-requires-clause-uris
+start-requires-clause-uris g c = c.buffer.invariant.0

@@ -21,10 +21,10 @@ not_both : (b : Bool) → b ≡ false → b ≡ true → ⊥
 not_both b low high = let never : false ≡ true = sym low ∙ high in absurd cc
 
 pub run_plan-end-requires-clause-standings : goal.run_plan-end-requires-clause-standings
-run_plan-end-requires-clause-standings g c = c.world_in-world.ensures.fit c.requires.layout.0 (g.D.Disk.extent c.args.disk.now) c.requires.layout.1
+run_plan-end-requires-clause-standings g c = c.world_in-world.ensures.fit (g.D.Disk.extent c.args.disk.now) c.requires.layout
 
 pub world_in-world-requires-clause-layout : goal.world_in-world-requires-clause-layout
-world_in-world-requires-clause-layout g c = (c.requires.layout.0, g.D.Disk.extent c.args.disk.now, c.requires.layout.1)
+world_in-world-requires-clause-layout g c = (g.D.Disk.extent c.args.disk.now, c.requires.layout)
 
 pub run_plan-end-requires-clause-plan : goal.run_plan-end-requires-clause-plan
 run_plan-end-requires-clause-plan g c = subst IsPlan (sym (same_tree c.invocation_program-program.result c.copy.new.self _ c.copy.ensures.same c.invocation_program-program.ensures)) c.requires.plan

@@ -29,7 +29,7 @@ use Rattle.update_proc.proofs.InUseSlots.{chosen_as, in_use_as_held}
 use Rattle.update_proc.proofs.Installs.{held_or_same}
 use Rattle.update_proc.proofs.MomentProofs.{beside}
 use Rattle.rollback_record.proofs.HeadSince.{follows_now}
-use Rattle.update_proc.proofs.Started.{active_b, contents_made, contents_since, follows_all, head_b, moment_at_end, moments_of, new_as, new_at_end, new_is, old_all, old_at_end, sound_all, was_b}
+use Rattle.update_proc.proofs.Started.{active_b, contents_made, contents_since, follows_all, head_b, moment_at_end, moments_of, new_as, new_at_end, new_is, old_all, old_at_end, sound_all, told_b, was_b}
 use Rattle.update_proc.proofs.starting.start.Goals as goal
 
 abbrev held_of : Option (Bor Record) → Option Record
@@ -131,6 +131,12 @@ finish-requires-clause-held g c t =
     let chosen = (chosen_as c.args.layout.now c.args.places.now (plan_tree c.args.accepted.now.plan.now) c.choose_slots-slots.ensures.chosen.0 (active_slots (held_of c.args.accepted.now.held)) c.choose_slots-slots.result.number (in_use_as_held c.args.accepted.now.frame (g.D.Disk.extent c.args.disk.now) (g.D.Disk.flash c.args.disk.now).reads c.args.layout.now (c.requires.config t).0 (held_of c.args.accepted.now.held) (c.requires.config t).1 (c.requires.held t) c.requires.loadable c.choose_slots-slots.ensures.chosen.0 c.choose_slots-slots.ensures.chosen.1) c.choose_slots-slots.ensures.chosen.2) in
     let law_b = (subst (λ (n : ℕ). IsFlash (g.D.Disk.flash c.run_plan-end.new.disk) n) c.run_plan-end.ensures.size (g.met.D.Disk.obeys c.run_plan-end.new.disk t)) in
     was_b c.sound_laws.ensures c.moment_laws.ensures c.choice_laws.ensures c.args.accepted.now.frame (g.D.Disk.extent c.args.disk.now) c.requires.frame c.args.layout.now c.requires.layout c.args.places.now (plan_tree c.args.accepted.now.plan.now) (held_of c.args.accepted.now.held) c.requires.loadable c.choose_slots-slots.result.number c.in-Ok.world.standings.items c.requires.distinct c.choose_slots-slots.ensures.choice c.in-Ok.ensures.stand chosen (g.D.Disk.flash c.args.disk.now) (g.D.Disk.flash c.run_plan-end.new.disk) (g.met.D.Disk.obeys c.args.disk.now t) law_b (c.requires.config t).0 (c.requires.config t).1 (c.requires.held t) (subst (λ (x : PlanTree). Keeps (OutsideTargets x c.in-Ok.world.standings.items) (g.D.Disk.flash c.args.disk.now) (g.D.Disk.flash c.run_plan-end.new.disk)) (c.program_of-program.ensures c.requires.said.0 c.requires.said.1 c.requires.said.2 c.requires.said.3 ∙ sym c.requires.said.4) (c.run_plan-end.ensures.keeps t))
+
+pub finish-requires-clause-told : goal.finish-requires-clause-told
+finish-requires-clause-told g c t =
+    let chosen = (chosen_as c.args.layout.now c.args.places.now (plan_tree c.args.accepted.now.plan.now) c.choose_slots-slots.ensures.chosen.0 (active_slots (held_of c.args.accepted.now.held)) c.choose_slots-slots.result.number (in_use_as_held c.args.accepted.now.frame (g.D.Disk.extent c.args.disk.now) (g.D.Disk.flash c.args.disk.now).reads c.args.layout.now (c.requires.config t).0 (held_of c.args.accepted.now.held) (c.requires.config t).1 (c.requires.held t) c.requires.loadable c.choose_slots-slots.ensures.chosen.0 c.choose_slots-slots.ensures.chosen.1) c.choose_slots-slots.ensures.chosen.2) in
+    let law_b = (subst (λ (n : ℕ). IsFlash (g.D.Disk.flash c.run_plan-end.new.disk) n) c.run_plan-end.ensures.size (g.met.D.Disk.obeys c.run_plan-end.new.disk t)) in
+    told_b c.sound_laws.ensures c.moment_laws.ensures c.choice_laws.ensures c.args.accepted.now.frame (g.D.Disk.extent c.args.disk.now) c.requires.frame c.args.layout.now c.requires.layout c.args.places.now (plan_tree c.args.accepted.now.plan.now) (held_of c.args.accepted.now.held) c.requires.loadable c.choose_slots-slots.result.number c.in-Ok.world.standings.items c.requires.distinct c.choose_slots-slots.ensures.choice c.in-Ok.ensures.stand chosen (g.D.Disk.flash c.args.disk.now) (g.D.Disk.flash c.run_plan-end.new.disk) (g.met.D.Disk.obeys c.args.disk.now t) law_b (c.requires.config t).0 (c.requires.config t).1 (c.requires.held t) (subst (λ (x : PlanTree). Keeps (OutsideTargets x c.in-Ok.world.standings.items) (g.D.Disk.flash c.args.disk.now) (g.D.Disk.flash c.run_plan-end.new.disk)) (c.program_of-program.ensures c.requires.said.0 c.requires.said.1 c.requires.said.2 c.requires.said.3 ∙ sym c.requires.said.4) (c.run_plan-end.ensures.keeps t))
 
 pub finish-requires-clause-spare : goal.finish-requires-clause-spare
 finish-requires-clause-spare g c t =
