@@ -2,7 +2,7 @@
  *
  *     boot FLASH [IMAGE]
  *
- * The image is written to the second file. Memory is taken of 64 kB alone.
+ * The image is written to the second file. Memory is taken of 128 kB alone.
  */
 #include "arena.h"
 #include "suit.h"
@@ -11,7 +11,7 @@
 #include <stdio.h>
 
 static uint8_t flash[4194304];
-static _Alignas(16) uint8_t room[65536];
+static _Alignas(16) uint8_t room[131072];
 
 int main(int argc, char **argv) {
   if (argc != 2 && argc != 3)

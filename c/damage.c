@@ -12,7 +12,7 @@
 #include <string.h>
 
 static uint8_t flash[4194304];
-static _Alignas(16) uint8_t room[65536];
+static _Alignas(16) uint8_t room[131072];
 
 static struct suit_image booted(void) {
   struct suit_image image;

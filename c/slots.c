@@ -20,7 +20,7 @@ int main(int argc, char **argv) {
     return 70;
   }
   fclose(file);
-  for (uint32_t component = 0; component < 8; component++) {
+  for (uint32_t component = 0; component < 32; component++) {
     struct suit_slot slot;
     suit_arena(room, sizeof room);
     int32_t answer = suit_slot(flash, sizeof flash, component, &slot);

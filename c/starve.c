@@ -12,7 +12,7 @@
 #include <string.h>
 
 static uint8_t flash[4194304];
-static _Alignas(16) uint8_t room[65536];
+static _Alignas(16) uint8_t room[131072];
 
 /* What a call answered, and whether it told something. */
 struct told {
@@ -55,7 +55,7 @@ int main(int argc, char **argv) {
     return 70;
   }
   fclose(file);
-  for (int asked = -1; asked < 8; asked++) {
+  for (int asked = -1; asked < 32; asked++) {
     struct told whole = called(asked, 0);
     size_t count = suit_arena_asked();
     for (size_t number = 1; number <= count; number++) {

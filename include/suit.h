@@ -82,8 +82,9 @@ int32_t suit_read(const uint8_t *file, size_t length, struct suit_envelope *out,
  * key; SUIT_REFUSED where the bytes spell no envelope, and SUIT_NOT_AUTHENTIC otherwise. */
 int32_t suit_authentic(const uint8_t *file, size_t length, const uint8_t *key, size_t key_length);
 
-/* SUIT_DONE; or SUIT_NOTHING_INSTALLED where the flash has no record, as one of fewer than 49,152 bytes, and then *out stays as it was.
- * SUIT_FLASH_FAULT too would leave it so; that it does not come is tested and not proved. */
+/* SUIT_DONE, of a flash of either layout version; or SUIT_NOTHING_INSTALLED where it has no record, as one of fewer than 49,152 bytes or
+ * with an open root that tells no frame, and then *out stays as it was. SUIT_FLASH_FAULT too would leave it so; that it does not come is
+ * tested and not proved. */
 int32_t suit_status(const uint8_t *flash, size_t length, struct suit_record *out);
 
 /* SUIT_DONE exactly where on each path of both procedures of the manifest each invoke is covered, unless memory runs out, which
@@ -114,7 +115,8 @@ struct suit_image {
  * the answer: SUIT_UNCONFIGURED, SUIT_NOTHING_INSTALLED, SUIT_REFUSED and SUIT_NOT_AUTHENTIC of the installed envelope,
  * SUIT_UNKNOWN_COMPONENT, SUIT_STOPPED where a condition failed or a directive cannot be done, SUIT_NO_MEMORY before the procedure.
  * Nothing of the flash is written: a procedure that writes it is stopped by SUIT_FLASH_FAULT. A second image, one in working memory, and
- * one for which the manifest has no digest in force are SUIT_LAUNCH_FAULT. */
+ * one for which the manifest has no digest in force are SUIT_LAUNCH_FAULT. Most of the memory that it takes is room for a bank: 16,384
+ * bytes, or 65,536 by layout version 2. */
 int32_t suit_boot(const uint8_t *flash, size_t length, struct suit_image *out);
 
 /* The content of a component of the flash's layout. As many bytes as it may have, from its place on, lie within the flash. */

@@ -1,11 +1,13 @@
 -- The record of a flash, as it is told in C.
-use Rattle.std.specs.Prelude.{◌≡◌, ℕ, List}
+use Rattle.std.specs.Prelude.{◌≡◌, ℕ, List, Option, Some, None, length}
 use Rattle.flash_layout.specs.ConfigPage.{padded}
+use Rattle.flash_layout.specs.Configs.{FrameOf}
+use Rattle.flash_layout.specs.Frames.{head_of}
 use Rattle.flash_layout.specs.declared.frame.Frame.{Frame}
 use Rattle.flash_layout.specs.declared.slot.Record.{Record}
 use Rattle.suit_params.specs.DigestBytes.{digest_bytes, digest_kind}
 use Rattle.suit_params.specs.DigestKinds.{size_of}
-use Rattle.rollback_record.specs.HeadRecord.{HoldsRecord}
+use Rattle.rollback_record.specs.HeadRecord.{HoldsNone, HoldsRecord}
 use Rattle.suit_c.specs.declared.status.SuitRecord.{SuitRecord}
 
 -- a record is told so
@@ -18,6 +20,24 @@ pub record IsRecordAs (r : Record) (out : SuitRecord) : Type 0 where
   pub digest_length : out.digest_length ≡ size_of (digest_kind r.digest)
   pub active : out.active ≡ r.active
 
--- the head of a flash holds a record, which is told so
-abbrev pub IsRecordedAs : Frame → List ℕ → SuitRecord → Type 0
-IsRecordedAs frame head out = (r : Record) × HoldsRecord frame head r × IsRecordAs r out
+-- a flash has the frame
+abbrev pub HasFrame : List ℕ → Frame → Type 0
+HasFrame flash frame = FrameOf (length flash) flash (Some frame)
+
+-- its head holds the record
+pub record HasRecord (flash : List ℕ) (r : Record) : Type 0 where
+  pub frame : Frame
+  pub has : HasFrame flash frame
+  pub holds : HoldsRecord frame (head_of frame flash) r
+
+-- it has no frame, or its head holds no record
+abbrev pub HasNoRecord : List ℕ → Type 0
+HasNoRecord flash = (frame : Frame) → HasFrame flash frame → HoldsNone frame (head_of frame flash)
+
+abbrev pub HasRecorded : List ℕ → Option Record → Type 0
+HasRecorded flash None = HasNoRecord flash
+HasRecorded flash (Some r) = HasRecord flash r
+
+-- the record of a flash is told so
+abbrev pub IsRecordedAs : List ℕ → SuitRecord → Type 0
+IsRecordedAs flash out = (r : Record) × HasRecord flash r × IsRecordAs r out

@@ -1,13 +1,11 @@
 //! The record of a flash.
 
-ghost use Rattle.flash_layout.specs.Frames.{head_of};
-ghost use Rattle.rollback_record.specs.HeadRecord.{HoldsNone};
-ghost use Rattle.std.specs.Prelude.{◌≡◌, ◌≢◌, ◌⊎◌};
+ghost use Rattle.std.specs.Prelude.{◌≡◌, ◌≢◌, ◌⊎◌, IfOk};
 ghost use Rattle.suit_answers.specs.Answers.{code_of};
-ghost use Rattle.suit_c.specs.Recorded.{IsRecordAs, IsRecordedAs};
+ghost use Rattle.suit_c.specs.Recorded.{HasNoRecord, HasRecorded, IsRecordAs, IsRecordedAs};
 ghost use Rattle.suit_answers.specs.declared.answer.Answer.TheVariants as answers;
 
-use flash_layout::{FlashFault, MOST_ENTRIES, Record, VERSION_1};
+use flash_layout::{FlashFault, MOST_ENTRIES, Record, load_frame};
 use flash_view::ViewDisk;
 use rollback_record::load_record;
 use suit_answers::Answer;
@@ -48,20 +46,28 @@ fn record_of(held: Record) -> SuitRecord
     }
 }
 
-/// Reads the record of a flash: 0, 15 where it has none, and 8 where the flash failed. Unless it answers 0, `out` stays as it
-/// was.
+// The record of a flash, by the frame that its root tells.
+fn recorded(flash: &[u8]) -> Result<Option<Record>, FlashFault>
+    ensures { IfOk result (HasRecorded flash.now) }
+{
+    let mut disk = ViewDisk::new(flash);
+    match load_frame(&mut disk)? {
+        Some(frame) => load_record(&mut disk, frame),
+        None => Ok(None),
+    }
+}
+
+/// Reads the record of a flash of either layout version: 0, 15 where it has none, and 8 where the flash failed. Unless it
+/// answers 0, `out` stays as it was.
 #[unsafe(no_mangle)]
 pub extern "C" fn suit_status(flash: &[u8], out: &mut SuitRecord) -> i32
     ensures answers { (result ≡ code_of answers.Done) ⊎ (result ≡ code_of answers.FlashFault)
         ⊎ (result ≡ code_of answers.NothingInstalled) }
-    ensures recorded { result ≡ code_of answers.Done
-        → IsRecordedAs VERSION_1 (head_of VERSION_1 flash.now) out.new }
-    ensures none { result ≡ code_of answers.NothingInstalled
-        → HoldsNone VERSION_1 (head_of VERSION_1 flash.now) }
+    ensures recorded { result ≡ code_of answers.Done → IsRecordedAs flash.now out.new }
+    ensures none { result ≡ code_of answers.NothingInstalled → HasNoRecord flash.now }
     ensures stays { result ≢ code_of answers.Done → out.new ≡ out.old }
 {
-    let mut disk = ViewDisk::new(flash);
-    match load_record(&mut disk, VERSION_1) {
+    match recorded(flash) {
         Ok(Some(record)) => {
             *out = record_of(record);
             Answer::Done.code()
