@@ -1,11 +1,11 @@
--- A word that names no command.
-use Rattle.std.proofs.Common.{◌≡◌, ◌∙◌, ◌≤◌, ◌-◌, suc, ℕ, List, [], ◌∷◌, length, take, drop, slice_index_or, Bool, true, false, None, codes, refl, sym, ap, subst, Bor, arith, if◌then◌else◌}
+-- A word that names no command, or the last one behind `run`.
+use Rattle.std.proofs.Common.{◌≡◌, ◌∙◌, ◌≤◌, ◌-◌, suc, ℕ, List, [], ◌∷◌, length, take, take_all, drop, slice_index_or, Bool, true, false, None, codes, refl, sym, ap, subst, Bor, arith, if◌then◌else◌}
 use Rattle.std.specs.List.{list_all}
 use Rattle.std.specs.Str.{bytes_eq}
 use lib.Pointwise.{bytes_decides}
 use Rattle.command_words.specs.Tasks.{Word, Words, texts}
 use Rattle.command_words.specs.Words.{is_plain}
-use Rattle.command_words.specs.Table.{run_of, task_in, task_of}
+use Rattle.command_words.specs.Table.{migrate_of, run_of, task_in, task_of}
 
 no_name : (name command : Word) → (name ≡ command → ⊥) → bytes_eq name command ≡ false
 no_name name command never = of (bytes_eq name command) refl where
@@ -20,10 +20,12 @@ pub record IsNoRun (name : Word) : Type 0 where
   pub update : name ≡ codes "update" → ⊥
   pub boot : name ≡ codes "boot" → ⊥
   pub status : name ≡ codes "status" → ⊥
+  pub migrate : name ≡ codes "migrate" → ⊥
 
 no_run : (run name : Word) (words : Words) → IsNoRun name → run_of (run ∷ name ∷ words) ≡ None
 no_run run name words other =
-    rw (no_name name (codes "init") other.init) (rw (no_name name (codes "update") other.update) (rw (no_name name (codes "boot") other.boot) (rw (no_name name (codes "status") other.status) refl)))
+    rw (no_name name (codes "init") other.init) (rw (no_name name (codes "update") other.update) (rw (no_name name (codes "boot") other.boot) (rw (no_name name (codes "status") other.status)
+    (rw (no_name name (codes "migrate") other.migrate) refl))))
 
 pub run_default : (words : List (Bor Word)) (none : Bor Word) → 2 ≤ length words → IsNoRun (slice_index_or (take (length words - 1) (drop 1 words)) 0 none).now → None ≡ run_of (texts words)
 run_default [] none some other = absurd (omega arith)
@@ -31,6 +33,19 @@ run_default (run ∷ []) none some other = absurd (omega arith)
 run_default (run ∷ name ∷ words) none some other =
     let one : length (run ∷ name ∷ words) - 1 ≡ suc (length words) = omega arith in
     sym (no_run run.now name.now (texts words) (subst (λ (n : ℕ). IsNoRun (slice_index_or (take n (name ∷ words)) 0 none).now) one other))
+
+run_of_migrate : (run name : Word) (words : Words) → name ≡ codes "migrate" → run_of (run ∷ name ∷ words) ≡ migrate_of (name ∷ words)
+run_of_migrate run name words is = subst (λ (n : Word). run_of (run ∷ n ∷ words) ≡ migrate_of (n ∷ words)) (sym is) refl
+
+pub run_migrate : (words : List (Bor Word)) (none : Bor Word) → 2 ≤ length words → (slice_index_or (take (length words - 1) (drop 1 words)) 0 none).now ≡ codes "migrate"
+    → run_of (texts words) ≡ migrate_of (texts (take (length words - 1) (drop 1 words)))
+run_migrate [] none some is = absurd (omega arith)
+run_migrate (run ∷ []) none some is = absurd (omega arith)
+run_migrate (run ∷ name ∷ words) none some is =
+    let behind = length (run ∷ name ∷ words) - 1 in
+    let all : take behind (name ∷ words) ≡ name ∷ words = take_all behind (name ∷ words) (omega arith) in
+    run_of_migrate run.now name.now (texts words) (subst (λ (l : List (Bor Word)). (slice_index_or l 0 none).now ≡ codes "migrate") all is)
+    ∙ ap (λ (l : List (Bor Word)). migrate_of (texts l)) (sym all)
 
 -- ---- in front
 

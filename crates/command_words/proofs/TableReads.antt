@@ -6,11 +6,11 @@ use Rattle.std.proofs.lemmas.List.{length-map}
 use Rattle.std.specs.Str.{bytes_eq}
 use Rattle.std.specs.Str.Parse.{digits_value}
 use lib.Pointwise.{bytes_decides}
-use Rattle.command_words.specs.Tasks.{Word, Words, Answer, Task, Make, Describe, Show, Check, Init, Update, Boot, Status, Drill}
+use Rattle.command_words.specs.Tasks.{Word, Words, Answer, Task, Make, Describe, Show, Check, Init, Update, Boot, Status, Migrate, Drill}
 use Rattle.command_words.specs.Words.{begins_with_dash, is_plain}
 use Rattle.command_words.specs.Numbers.{is_number}
 use Rattle.command_words.specs.UriWords.{most_uris, are_answers, uris_of, cut}
-use Rattle.command_words.specs.Table.{make_of, show_of, check_of, init_of, update_of, alone_of, drill_of, run_named, run_of, named, task_in, task_of}
+use Rattle.command_words.specs.Table.{make_of, show_of, check_of, init_of, update_of, alone_of, migrate_of, drill_of, run_named, run_of, named, task_in, task_of}
 use Rattle.command_words.specs.Spelled.{spelled_answer, spelled, IsPlain, IsAfterLast, AreDistinct, IsWithin, Asks, AskFor, WordLaws}
 use Rattle.command_words.proofs.Handed.{both}
 use Rattle.command_words.proofs.Cuts.{denied, answers_read, answers_spelled}
@@ -89,6 +89,15 @@ module _ (run name : Word) (task : Task) (is_run : run ≡ codes "run") where
         so_few : (n m : ℕ) → n ≡ m → nat_le n most_uris ≡ true → m ≤ most_uris
         so_few n m same le = grind arith
 
+  migrate_reads : name ≡ codes "migrate" → (words : Words) → migrate_of (name ∷ words) ≡ Some task → Spells (run ∷ name ∷ words) task
+  migrate_reads is [] h = nothing _ task h
+  migrate_reads is (n ∷ []) h = of (is_number n) refl h where
+    of : (b : Bool) → is_number n ≡ b → option_map Migrate (if b then Some (digits_value 10 n) else None) ≡ Some task → Spells (run ∷ name ∷ n ∷ []) task
+    of true e g = spells (run ∷ name ∷ n ∷ []) (Migrate (digits_value 10 n)) task g
+        (ap₂ (λ (r m : Word). r ∷ m ∷ n ∷ []) is_run is ∙ ap (λ (w : Word). codes "run" ∷ codes "migrate" ∷ w ∷ []) (number_spelled n e)) (is_that_number n e).small
+    of false e g = nothing _ task g
+  migrate_reads is (n ∷ x ∷ more) h = nothing _ task h
+
   alone_reads : (one : Task) → IsWithin one → spelled one ≡ codes "run" ∷ name ∷ [] → (words : Words) → alone_of one (name ∷ words) ≡ Some task → Spells (run ∷ name ∷ words) task
   alone_reads one within is [] h = spells (run ∷ name ∷ []) one task h (ap (λ (r : Word). r ∷ name ∷ []) is_run ∙ sym is) within
   alone_reads one within is (x ∷ more) h = nothing _ task h
@@ -105,8 +114,10 @@ run_named_reads run name words task is_run h =
     (λ h1. by_choice (bytes_eq name (codes "update")) (update_of (name ∷ words)) _ task h1 (λ e g. update_reads run name task is_run (is_name name (codes "update") e) words g)
     (λ h2. by_choice (bytes_eq name (codes "boot")) (alone_of Boot (name ∷ words)) _ task h2
     (λ e g. alone_reads run name task is_run Boot tt (ap (λ (n : Word). codes "run" ∷ n ∷ []) (sym (is_name name (codes "boot") e))) words g)
-    (λ h3. by_choice (bytes_eq name (codes "status")) (alone_of Status (name ∷ words)) None task h3
-    (λ e g. alone_reads run name task is_run Status tt (ap (λ (n : Word). codes "run" ∷ n ∷ []) (sym (is_name name (codes "status") e))) words g) (λ h4. nothing _ task h4))))
+    (λ h3. by_choice (bytes_eq name (codes "status")) (alone_of Status (name ∷ words)) _ task h3
+    (λ e g. alone_reads run name task is_run Status tt (ap (λ (n : Word). codes "run" ∷ n ∷ []) (sym (is_name name (codes "status") e))) words g)
+    (λ h4. by_choice (bytes_eq name (codes "migrate")) (migrate_of (name ∷ words)) None task h4 (λ e g. migrate_reads run name task is_run (is_name name (codes "migrate") e) words g)
+    (λ h5. nothing _ task h5)))))
 
 run_reads : (run : Word) (words : Words) (task : Task) → run ≡ codes "run" → run_of (run ∷ words) ≡ Some task → Spells (run ∷ words) task
 run_reads run [] task is_run h = nothing _ task h
@@ -161,6 +172,7 @@ in_spelled (Init d k) within = refl
 in_spelled (Update f answers) within = ap (option_map (Update f)) (uris_of_spelled answers within.0 within.1 within.2)
 in_spelled Boot within = refl
 in_spelled Status within = refl
+in_spelled (Migrate n) within = ap (option_map Migrate) (number_of_decimal n within)
 in_spelled (Drill n) within = ap (option_map Drill) (number_of_decimal n within)
 
 table_of_spelled : (words : Words) (task : Task) → Asks words task → task_of words ≡ Some task

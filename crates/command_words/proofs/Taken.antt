@@ -27,7 +27,7 @@ first_plain word more plain = (both (is_plain word) (list_all is_plain more) pla
 pub rest_plain : (word : Word) (more : Words) → list_all is_plain (word ∷ more) ≡ true → list_all is_plain more ≡ true
 rest_plain word more plain = (both (is_plain word) (list_all is_plain more) plain).1
 
--- ---- `check` and `drill`
+-- ---- `check`, `drill` and `run migrate`
 
 -- a row takes each plain word behind its name as this argument
 abbrev TakesOne : Row → Word → Type 0
@@ -42,6 +42,11 @@ takes_drill : TakesOne row.Drill (codes "NUMBER")
 unfolding clap_on_literals
 takes_drill n [] hw = (refl, refl)
 takes_drill n (w ∷ ws) hw = let ew = no_minus w ws hw in rw (ew, no_short w ws ew) (refl, refl)
+
+takes_migrate : TakesOne row.Migrate (codes "BASE")
+unfolding clap_on_literals
+takes_migrate n [] hw = (refl, refl)
+takes_migrate n (w ∷ ws) hw = let ew = no_minus w ws hw in rw (ew, no_short w ws ew) (refl, refl)
 
 -- two words, of which a row takes the second as this argument
 pub record Ones (r : Row) (id : Word) (words : Words) : Type 0 where
@@ -64,6 +69,9 @@ checks_texts words many plain = ones row.Check (codes "FILE") takes_check (texts
 
 pub drills_texts : (words : List (Bor Word)) → length words ≡ 2 → list_all is_plain (texts words) ≡ true → Ones row.Drill (codes "NUMBER") (texts words)
 drills_texts words many plain = ones row.Drill (codes "NUMBER") takes_drill (texts words) (as_many words ∙ many) plain
+
+pub migrates_texts : (words : List (Bor Word)) → length words ≡ 2 → list_all is_plain (texts words) ≡ true → Ones row.Migrate (codes "BASE") (texts words)
+migrates_texts words many plain = ones row.Migrate (codes "BASE") takes_migrate (texts words) (as_many words ∙ many) plain
 
 -- ---- `run init`
 

@@ -33,6 +33,7 @@ app_for row.Make =
     (with_rule (with_rule (bare_app (codes "make")) (rule_for has.One (codes "DESCRIPTION")))
     (rule_for has.One (codes "KEY")))
     (rule_for has.One (codes "OUT"))
+app_for row.Migrate = with_rule (bare_app (codes "migrate")) (rule_for has.One (codes "BASE"))
 app_for row.Show =
     with_rule (with_rule (bare_app (codes "show")) (rule_for has.One (codes "FILE")))
     (rule_for has.One (codes "KEY"))

@@ -1,5 +1,5 @@
 -- A command, as what it asks for.
-use Rattle.command_words.specs.Tasks.{Task, Make, Describe, Show, Check, Init, Update, Boot, Status, Drill}
+use Rattle.command_words.specs.Tasks.{Task, Make, Describe, Show, Check, Init, Update, Boot, Status, Migrate, Drill}
 use Rattle.command_words.specs.declared.command.Command.{Command}
 use Rattle.command_words.specs.declared.command.Command.TheVariants as commands
 
@@ -12,4 +12,5 @@ said (commands.Init device key) = Init device.now key.now
 said (commands.Update file uris) = Update file.now uris
 said commands.Boot = Boot
 said commands.Status = Status
+said (commands.Migrate base) = Migrate base
 said (commands.Drill number) = Drill number

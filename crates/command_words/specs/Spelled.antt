@@ -1,7 +1,7 @@
 -- How each command is spelled, and which commands there are: what the table of commands reads.
 use Rattle.std.specs.Prelude.{◌≡◌, ◌≢◌, ◌↔◌, ◌<◌, ◌≤◌, ◌^◌, ℕ, false, List, [], ◌∷◌, ◌++◌, map, length, Option, Some, None, codes, decimal}
 use Rattle.std.specs.List.{AllByRecursion}
-use Rattle.command_words.specs.Tasks.{Word, Words, Answer, Task, Make, Describe, Show, Check, Init, Update, Boot, Status, Drill}
+use Rattle.command_words.specs.Tasks.{Word, Words, Answer, Task, Make, Describe, Show, Check, Init, Update, Boot, Status, Migrate, Drill}
 use Rattle.command_words.specs.Words.{begins_with_dash}
 use Rattle.command_words.specs.UriWords.{most_uris}
 use Rattle.command_words.specs.Table.{task_of}
@@ -21,6 +21,7 @@ spelled (Init device key) = codes "run" ∷ codes "init" ∷ device ∷ key ∷ 
 spelled (Update file answers) = codes "run" ∷ codes "update" ∷ file ∷ map spelled_answer answers
 spelled Boot = codes "run" ∷ codes "boot" ∷ []
 spelled Status = codes "run" ∷ codes "status" ∷ []
+spelled (Migrate base) = codes "run" ∷ codes "migrate" ∷ decimal base ∷ []
 spelled (Drill number) = codes "drill" ∷ decimal number ∷ []
 
 abbrev pub IsPlain : Word → Type 0
@@ -40,6 +41,7 @@ AreDistinct (answer ∷ later) =
 abbrev pub IsWithin : Task → Type 0
 IsWithin (Update file answers) =
     (length answers ≤ most_uris) × AllByRecursion IsAfterLast answers × AreDistinct answers
+IsWithin (Migrate base) = base < 2 ^ 64
 IsWithin (Drill number) = number < 2 ^ 64
 IsWithin _ = Unit {0}
 

@@ -2,7 +2,7 @@
 use Rattle.std.specs.Prelude.{[], ◌∷◌, Option, Some, None, option_map, codes, if◌then◌else◌}
 use Rattle.std.specs.List.{list_all}
 use Rattle.std.specs.Str.{bytes_eq}
-use Rattle.command_words.specs.Tasks.{Word, Words, Task, Make, Describe, Show, Check, Init, Update, Boot, Status, Drill}
+use Rattle.command_words.specs.Tasks.{Word, Words, Task, Make, Describe, Show, Check, Init, Update, Boot, Status, Migrate, Drill}
 use Rattle.command_words.specs.Words.{is_plain}
 use Rattle.command_words.specs.Numbers.{number_of}
 use Rattle.command_words.specs.UriWords.{uris_of}
@@ -35,6 +35,10 @@ abbrev pub alone_of : Task → Words → Option Task
 alone_of task (name ∷ []) = Some task
 alone_of task _ = None
 
+abbrev pub migrate_of : Words → Option Task
+migrate_of (name ∷ base ∷ []) = option_map Migrate (number_of base)
+migrate_of _ = None
+
 abbrev pub drill_of : Words → Option Task
 drill_of (name ∷ number ∷ []) = option_map Drill (number_of number)
 drill_of _ = None
@@ -47,6 +51,7 @@ run_named name words =
     else if bytes_eq name (codes "update") then update_of words
     else if bytes_eq name (codes "boot") then alone_of Boot words
     else if bytes_eq name (codes "status") then alone_of Status words
+    else if bytes_eq name (codes "migrate") then migrate_of words
     else None
 
 abbrev pub run_of : Words → Option Task

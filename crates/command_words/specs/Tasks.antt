@@ -22,6 +22,7 @@ pub data Task : Type 0 where
   Update : (file : Word) (uris : List Answer) → Task
   Boot : Task
   Status : Task
+  Migrate : ℕ → Task
   Drill : ℕ → Task
 
 -- the words of a list of texts that are lent

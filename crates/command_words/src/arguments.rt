@@ -26,6 +26,7 @@ pub(crate) enum Row {
     Drill,
     Init,
     Make,
+    Migrate,
     Show,
     Update,
 }
@@ -72,6 +73,7 @@ fn command_for<'a>(alloc: Global, row: Row) -> Result<Command<'a>, AllocError>
             let command = with(alloc, command, Values::One, "KEY")?;
             with(alloc, command, Values::One, "OUT")
         }
+        Row::Migrate => with(alloc, bare(alloc, "migrate"), Values::One, "BASE"),
         Row::Show => {
             let command = with(alloc, bare(alloc, "show"), Values::One, "FILE")?;
             with(alloc, command, Values::One, "KEY")

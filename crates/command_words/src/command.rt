@@ -49,6 +49,11 @@ pub enum Command<'a> {
     Boot,
     /// To print the record and the lengths of the contents.
     Status,
+    /// To move what is installed into the layout of version 2.
+    Migrate {
+        /// Where the head of the new layout stands.
+        base: u64,
+    },
     /// To make and run rounds on a flash in memory.
     Drill {
         /// Where the draws of the rounds start.

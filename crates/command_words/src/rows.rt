@@ -4,7 +4,7 @@ ghost use Rattle.std.specs.Prelude.{◌≡◌, true, IfOk, option_map};
 ghost use Rattle.std.specs.List.{list_all};
 ghost use Rattle.command_words.specs.Tasks.{texts};
 ghost use Rattle.command_words.specs.Words.{is_plain};
-ghost use Rattle.command_words.specs.Table.{alone_of, check_of, drill_of, init_of, make_of, run_of, show_of, update_of};
+ghost use Rattle.command_words.specs.Table.{alone_of, check_of, drill_of, init_of, make_of, migrate_of, run_of, show_of, update_of};
 ghost use Rattle.command_words.specs.Said.{said};
 
 use crate::arguments::{Row, found, option_of, value_of, values_of};
@@ -131,6 +131,21 @@ fn update<'a>(alloc: Global, words: &'a [&'a str]) -> Result<Option<Command<'a>>
     }
 }
 
+// `run migrate BASE`
+fn migrate<'a>(alloc: Global, words: &'a [&'a str]) -> Result<Option<Command<'a>>, AllocError>
+    requires { list_all is_plain (texts words.now) ≡ true }
+    ensures { IfOk result (λ c. option_map said c ≡ migrate_of (texts words.entry.now)) }
+{
+    if words.len() != 2 || number_of(words[1]).is_none() {
+        return Ok(None);
+    }
+    let matches = found(alloc, Row::Migrate, words)?;
+    match number_of(value_of(&matches, "BASE")) {
+        Some(base) => Ok(Some(Command::Migrate { base })),
+        None => Ok(None),
+    }
+}
+
 // A command of no arguments.
 fn alone<'a>(command: Command<'a>, words: &[&str]) -> Option<Command<'a>>
     ensures { option_map said result ≡ alone_of (said command.entry) (texts words.now) }
@@ -142,7 +157,7 @@ fn alone<'a>(command: Command<'a>, words: &[&str]) -> Option<Command<'a>>
     }
 }
 
-/// `run init`, `run update`, `run boot` and `run status`
+/// `run init`, `run update`, `run boot`, `run status` and `run migrate`
 pub(crate) fn run<'a>(
     alloc: Global,
     words: &'a [&'a str],
@@ -159,6 +174,7 @@ pub(crate) fn run<'a>(
         "update" => update(alloc, words),
         "boot" => Ok(alone(Command::Boot, words)),
         "status" => Ok(alone(Command::Status, words)),
+        "migrate" => migrate(alloc, words),
         _ => Ok(None),
     }
 }

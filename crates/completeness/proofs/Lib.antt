@@ -7,5 +7,6 @@ pub mod UpdatePlayed
 pub mod Begun
 pub mod UpdateProofs
 pub mod BootProofs
+pub mod MigrateProofs
 pub mod Runs
 pub mod Laws

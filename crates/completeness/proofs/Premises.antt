@@ -178,7 +178,7 @@ held_long frame image (Some r) recorded = recorded.counts.page.typed.active
 pub can_set : (name : List ℕ) (before : Outside) → IsTrue before.flash.told → (o : Offers name before) → Sets o.layout o.bytes o.accepted o.held
 can_set name before told o =
     let few = few_entries o.frame before.flash.size o.layout (o.configured told).page.allowed in
-    let m = facts o.layout o.key o.bytes o.accepted o.is_accepted in
+    let m = facts o.frame o.layout o.key o.bytes o.accepted o.is_accepted in
     let c = chosen o.layout o.accepted.places (procedure_of o.accepted) (active_slots o.held) few (held_long o.frame before.flash.reads o.held o.recorded) in
     let s = standings o.layout o.accepted.manifest.components o.accepted.places m.placed (record { number = c.0 }) in
     record { numbers = c.0; chosen = c.1; standings = s.0; stand = s.1; payloads = _; has = payloads o.bytes o.accepted.said m.envelope }

@@ -88,8 +88,8 @@ module _ (name : List ℕ) (uris : List (List ℕ × List ℕ)) (l n : Launching
 
 -- ---- one thing is accepted
 
-module _ (envelopes : EnvelopeLaws) (manifests : ManifestLaws) (members : MembersLaws) (layout : List Entry) (key : Key) (bytes : List ℕ) (b : Outside) (told : IsTrue b.told)
-    (x y : Accepted) (f : Meets layout key bytes x) (g : Meets layout key bytes y) where
+module _ (envelopes : EnvelopeLaws) (manifests : ManifestLaws) (members : MembersLaws) (frame : Frame) (layout : List Entry) (key : Key) (bytes : List ℕ) (b : Outside) (told : IsTrue b.told)
+    (x y : Accepted) (f : Meets frame layout key bytes x) (g : Meets frame layout key bytes y) where
   pub same_said : y.said ≡ x.said
   same_said = (one_envelope envelopes bytes).value x.said y.said (f.are_bytes, f.envelope) (g.are_bytes, g.envelope)
 
@@ -116,19 +116,20 @@ module _ (configs : OneAnswer) (envelopes : EnvelopeLaws) (manifests : ManifestL
       same_bytes : u.bytes ≡ O.bytes
       same_bytes = one_read longest_file ready.name b ready.told.host O.bytes u.bytes O.read (read_there ready.name ready.uris l n b a end lines u ready.told)
 
-      accepted_there : IsAccepted O.layout O.key O.bytes u.accepted
+      accepted_there : IsAccepted O.frame O.layout O.key O.bytes u.accepted
       accepted_there =
-          subst (λ (z : List ℕ). IsAccepted O.layout O.key z u.accepted) same_bytes
-          (subst (λ (z : Key). IsAccepted O.layout z u.bytes u.accepted) config.1 (subst (λ (z : List Entry). IsAccepted z u.key u.bytes u.accepted) config.0 u.is_accepted))
+          subst (λ (z : List ℕ). IsAccepted O.frame O.layout O.key z u.accepted) same_bytes
+          (subst (λ (z : Key). IsAccepted O.frame O.layout z u.bytes u.accepted) config.1
+          (subst (λ (z : List Entry). IsAccepted O.frame z u.key u.bytes u.accepted) config.0 (subst (λ (z : Frame). IsAccepted z u.layout u.key u.bytes u.accepted) config.2 u.is_accepted)))
 
-      f : Meets O.layout O.key O.bytes O.accepted
-      f = facts O.layout O.key O.bytes O.accepted O.is_accepted
+      f : Meets O.frame O.layout O.key O.bytes O.accepted
+      f = facts O.frame O.layout O.key O.bytes O.accepted O.is_accepted
 
-      g : Meets O.layout O.key O.bytes u.accepted
-      g = facts O.layout O.key O.bytes u.accepted accepted_there
+      g : Meets O.frame O.layout O.key O.bytes u.accepted
+      g = facts O.frame O.layout O.key O.bytes u.accepted accepted_there
 
       manifest_is : u.accepted.manifest ≡ O.accepted.manifest
-      manifest_is = same_manifest envelopes manifests members O.layout O.key O.bytes b ready.told.host O.accepted u.accepted f g
+      manifest_is = same_manifest envelopes manifests members O.frame O.layout O.key O.bytes b ready.told.host O.accepted u.accepted f g
 
       abbrev Update : Accepted → Type 0
       Update z = IsUpdate (offer O.frame O.layout O.bytes z ready.uris) l n u.middle a end
@@ -138,10 +139,10 @@ module _ (configs : OneAnswer) (envelopes : EnvelopeLaws) (manifests : ManifestL
           let v = u.accepted in
           let o = O.accepted in
           subst (λ (z : Members). Update (record { said = o.said; manifest = o.manifest; places = v.places; members = z }))
-          (same_members envelopes manifests members O.layout O.key O.bytes b ready.told.host o v f g)
+          (same_members envelopes manifests members O.frame O.layout O.key O.bytes b ready.told.host o v f g)
           (subst (λ (z : Manifest). Update (record { said = o.said; manifest = z; places = v.places; members = v.members })) manifest_is
           (subst (λ (z : EnvelopeSays). Update (record { said = z; manifest = v.manifest; places = v.places; members = v.members }))
-          (same_said envelopes manifests members O.layout O.key O.bytes b ready.told.host o v f g)
+          (same_said envelopes manifests members O.frame O.layout O.key O.bytes b ready.told.host o v f g)
           (subst (λ (z : List ℕ). IsUpdate (offer O.frame O.layout z v ready.uris) l n u.middle a end) same_bytes
           (subst (λ (z : List Entry). IsUpdate (offer O.frame z u.bytes v ready.uris) l n u.middle a end) config.0
           (subst (λ (z : Frame). IsUpdate (offer z u.layout u.bytes v ready.uris) l n u.middle a end) config.2 u.update)))))
@@ -213,8 +214,8 @@ module _ (configs : OneAnswer) (envelopes : EnvelopeLaws) (manifests : ManifestL
       recorded : RecordOf u.frame (head_of u.frame b.flash.reads) held
       recorded = (records u.frame (head_of u.frame b.flash.reads)).1
 
-      h : Meets u.layout u.key u.bytes V
-      h = facts u.layout u.key u.bytes V u.is_accepted
+      h : Meets u.frame u.layout u.key u.bytes V
+      h = facts u.frame u.layout u.key u.bytes V u.is_accepted
 
       itself : AreSame V.places V.places
       itself = record { count = refl; each = λ k lt. refl }

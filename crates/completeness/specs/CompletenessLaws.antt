@@ -1,5 +1,6 @@
 -- Given what it needs, a command is done; and it is done only then.
 use Rattle.std.specs.Prelude.{◌≡◌, ◌⊎◌, ◌↔◌, ℕ, IsTrue, List, length, Some}
+use Rattle.flash_layout.specs.declared.frame.Frame.{Frame}
 use Rattle.flash_layout.specs.declared.key.Key.{Key}
 use Rattle.flash_layout.specs.declared.layout.Entry.{Entry}
 use Rattle.rollback_record.specs.SoundFlash.{Sound}
@@ -8,9 +9,10 @@ use Rattle.suit_cli.specs.Coming.{Ended, ended_status}
 use Rattle.suit_cli.specs.Launching.{Launching}
 use Rattle.suit_cli.specs.Outside.{Outside, Sunk}
 use Rattle.suit_cli.specs.Program.{ComesTo, Performs}
-use Rattle.suit_cli.specs.Words.{RunBoot, RunUpdate, task_of}
+use Rattle.suit_cli.specs.Words.{RunBoot, RunMigrate, RunUpdate, task_of}
 use Rattle.completeness.specs.Outcomes.{AreTold, EndsWell, IsFaultless, LeavesFlash, PutsDone}
 use Rattle.completeness.specs.Updates.{Installs, Meets, Offers, ReadyToUpdate, Sets}
+use Rattle.completeness.specs.Migrations.{MigratesWhole, ReadyToMigrate}
 use Rattle.completeness.specs.Boots.{Activates, BootsWhole, ReadyToBoot, Records}
 
 -- ---- what is there
@@ -62,7 +64,7 @@ EndsWhole Ready IsDone =
 
 -- the bytes of a file are accepted exactly where they meet what is asked of them
 abbrev pub AcceptsWhatMeets : Type 0
-AcceptsWhatMeets = (layout : List Entry) (key : Key) (bytes : List ℕ) (a : Accepted) → IsAccepted layout key bytes a ↔ Meets layout key bytes a
+AcceptsWhatMeets = (frame : Frame) (layout : List Entry) (key : Key) (bytes : List ℕ) (a : Accepted) → IsAccepted frame layout key bytes a ↔ Meets frame layout key bytes a
 
 abbrev pub AsksUpdate : List (List ℕ) → Type 0
 AsksUpdate words = (name : List ℕ) × (uris : List (List ℕ × List ℕ)) × (task_of words ≡ Some (RunUpdate name uris))
@@ -96,6 +98,21 @@ BootSaysSo =
     → before.flash.size ≡ length before.flash.reads → Sound before.flash.reads → Performs words launched now before after sunk_before sunk_after 0
     → (ready : ReadyToBoot words launched before) × PutsDone (BootsWhole words launched before ready now after) sunk_before sunk_after
 
+-- ---- `run migrate`
+
+-- it is done only where it was ready
+abbrev pub OnlyReadyMigrations : Type 0
+OnlyReadyMigrations =
+    (words : List (List ℕ)) (launched now : Launching) (before after : Outside) (ended : Ended) (base : ℕ) → task_of words ≡ Some (RunMigrate base) → AreTold launched before
+    → ComesTo words launched now before after ended → ended_status ended ≡ 0
+    → (ready : ReadyToMigrate words launched before) × MigratesWhole words launched before ready now after ended
+
+abbrev pub MigrateSaysSo : Type 0
+MigrateSaysSo =
+    (words : List (List ℕ)) (launched now : Launching) (before after : Outside) (sunk_before sunk_after : Sunk) (base : ℕ) → task_of words ≡ Some (RunMigrate base) → AreTold launched before
+    → Performs words launched now before after sunk_before sunk_after 0
+    → (ready : ReadyToMigrate words launched before) × PutsDone (MigratesWhole words launched before ready now after) sunk_before sunk_after
+
 pub record CompletenessLaws : Type 0 where
   pub accepts : AcceptsWhatMeets
   pub can_set : CanSet
@@ -108,3 +125,7 @@ pub record CompletenessLaws : Type 0 where
   pub boot_ends : EndsWhole ReadyToBoot BootsWhole
   pub only_boot : OnlyReadyBoots
   pub boot_says : BootSaysSo
+  pub migrate : Completes ReadyToMigrate MigratesWhole
+  pub migrate_ends : EndsWhole ReadyToMigrate MigratesWhole
+  pub only_migrate : OnlyReadyMigrations
+  pub migrate_says : MigrateSaysSo

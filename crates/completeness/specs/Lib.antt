@@ -2,4 +2,5 @@ pub mod Plays
 pub mod Outcomes
 pub mod Updates
 pub mod Boots
+pub mod Migrations
 pub mod CompletenessLaws

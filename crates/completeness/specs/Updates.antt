@@ -55,7 +55,7 @@ pub record Offers (name : List ℕ) (before : Outside) : Type 0 where
   pub bytes : List ℕ
   pub read : IsRead longest_file name before bytes
   pub accepted : Accepted
-  pub is_accepted : IsAccepted layout key bytes accepted
+  pub is_accepted : IsAccepted frame layout key bytes accepted
   pub digest : Digest
   pub stated : States accepted digest
   pub held : Option Record

@@ -1,4 +1,4 @@
-//! Given what it needs, a command is done: laws of `run update` and `run boot`.
+//! Given what it needs, a command is done: laws of `run update`, `run boot` and `run migrate`.
 #![tactic(auto)]
 
 mod law;

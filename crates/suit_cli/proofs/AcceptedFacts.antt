@@ -1,9 +1,11 @@
 -- Facts about an envelope that was accepted, and where one is not.
-use Rattle.std.proofs.Common.{◌≡◌, ◌⊎◌, inl, inr, ℕ, List, refl, subst, arith}
+use Rattle.std.proofs.Common.{◌≡◌, ◌⊎◌, ◌≤◌, inl, inr, ℕ, List, refl, subst, arith}
 use Rattle.suit_commands.specs.Tree.{PlanTree}
 use Rattle.suit_manifest.specs.Procedures.{update_tree, invocation_tree}
+use Rattle.flash_layout.specs.declared.frame.Frame.{Frame}
 use Rattle.flash_layout.specs.declared.key.Key.{Key}
 use Rattle.flash_layout.specs.declared.layout.Entry.{Entry}
+use Rattle.flash_layout.specs.Frames.{bank_size}
 use Rattle.rollback_record.specs.SoundFlash.{key_bytes}
 use Rattle.admission.specs.declared.refusal.NotAdmitted.{NotAdmitted}
 use Rattle.admission.specs.declared.refusal.NotAdmitted.TheVariants as refusals
@@ -24,8 +26,12 @@ use Rattle.suit_cli.proofs.Running.{Declining, declining, holds_none_declines, u
 
 -- ---- accepted
 
-pub facts : (layout : List Entry) (key : Key) (bytes : List ℕ) (a : Accepted) → IsAccepted layout key bytes a → Meets layout key bytes a
-facts layout key bytes a is =
+-- what a bank holds may be shown
+bank_shown : (frame : Frame) → bank_size frame ≤ 65536
+bank_shown frame = grind arith
+
+pub facts : (frame : Frame) (layout : List Entry) (key : Key) (bytes : List ℕ) (a : Accepted) → IsAccepted frame layout key bytes a → Meets frame layout key bytes a
+facts frame layout key bytes a is =
     let offered = is.complete.offered in
     let within = offered.are_authentic.within in
     record {
@@ -67,8 +73,8 @@ module _ (name : List ℕ) (b m : Outside) (r : Reply) (same : m ≡ with_flash 
     again (IsAbsent none says) = IsAbsent none says
     again (IsTooLong long says) = IsTooLong long says
 
-  module _ (layout : List Entry) (key : Key) (bytes : List ℕ) (read : IsRead longest_file name m bytes) where
-    unsafe_file : (x : Admission) → IsComplete layout (key_bytes key) bytes x → AreNarrow (update_tree x.manifest x.members) (invocation_tree x.manifest)
+  module _ (frame : Frame) (layout : List Entry) (key : Key) (bytes : List ℕ) (read : IsRead longest_file name m bytes) where
+    unsafe_file : (x : Admission) → IsComplete (bank_size frame) layout (key_bytes key) bytes x → AreNarrow (update_tree x.manifest x.members) (invocation_tree x.manifest)
         → AreUnsafe (update_tree x.manifest x.members) (invocation_tree x.manifest) r → IsUnsafeFile name b r
     unsafe_file x is narrow unsafe =
         let within = is.offered.are_authentic.within in
@@ -81,7 +87,7 @@ module _ (name : List ℕ) (b m : Outside) (r : Reply) (same : m ≡ with_flash 
             members = x.members;
             has_manifest = record {
               in_envelope = record { bytes = bytes; read = read_before bytes read; are_bytes = within.spell.are_bytes; envelope = within.spell.envelope };
-              is_short = omega (arith, within.short);
+              is_short = omega (arith, within.short, bank_shown frame);
               says = is.offered.says;
             };
             has_members = is.members;
@@ -93,7 +99,7 @@ module _ (name : List ℕ) (b m : Outside) (r : Reply) (same : m ≡ with_flash 
           unsafe = unsafe;
         }
 
-    of_refusal : (refusal : NotAdmitted) → IsNotAdmitted layout (key_bytes key) bytes refusal → TellsRefusal r refusal → Declining r.outcome ⊎ IsUnsafeFile name b r
+    of_refusal : (refusal : NotAdmitted) → IsNotAdmitted (bank_size frame) layout (key_bytes key) bytes refusal → TellsRefusal r refusal → Declining r.outcome ⊎ IsUnsafeFile name b r
     of_refusal (refusals.NoEnvelope x) is says = inl (declining r _ _ says tt)
     of_refusal (refusals.TooLong size) is says = inl (declining r _ _ says tt)
     of_refusal (refusals.NotAuthentic answer) is says = inl (declining r _ _ says tt)
@@ -113,5 +119,5 @@ pub began : (name : List ℕ) (b a : Outside) (r : Reply) → begins_update name
 began name b a r (Declines _ d) = inl (holds_none_declines _ r d.1)
 began name b a r (Goes config m0 _ held (Declines _ d)) = inl (unread_declines _ _ _ r d.1)
 began name b a r (Goes config m0 _ held (Goes bytes m1 _ read (Declines _ d))) =
-    of_refusal name b m0 r held.0.beside config.0 config.1 bytes read.1 d.1.refusal d.1.refused d.1.says
+    of_refusal name b m0 r held.0.beside config.2 config.0 config.1 bytes read.1 d.1.refusal d.1.refused d.1.says
 began name b a r (Goes config m0 _ held (Goes bytes m1 _ read (Goes accepted m2 _ given (Ends _ same says)))) = absurd says

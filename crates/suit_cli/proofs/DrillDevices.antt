@@ -14,7 +14,7 @@ use Rattle.flash_layout.specs.declared.frame.TheConstants.{VERSION_1}
 use Rattle.flash_layout.specs.declared.key.Key.{Key}
 use Rattle.flash_layout.specs.declared.layout.Entry.{Entry}
 use Rattle.flash_layout.specs.Formats.{IsFormatted}
-use Rattle.flash_layout.specs.Layouts.{AreApart, IsEntry, IsLayout}
+use Rattle.flash_layout.specs.Layouts.{AreApart, IsBehindHead, IsEntry, IsLayout}
 use Rattle.rollback_record.specs.SettledLaws.{settles}
 use Rattle.rollback_record.specs.SoundLaws.{SoundLaws}
 use Rattle.suit_cli.specs.DrillDevice.{IsFirst, device_key, device_layout, flash_entry, flash_size, ram_entry}
@@ -22,23 +22,23 @@ use Rattle.suit_cli.specs.DrillRounds.{IsReady}
 
 -- ---- the layout
 
-flash_is : IsEntry flash_size flash_entry
+flash_is : IsEntry VERSION_1 flash_size flash_entry
 unfolding spelled_id head_bytes
 flash_is = record {
   short = omega arith;
   some = omega arith;
   held = (omega arith, omega arith, λ one. absurd (omega (arith, one)), λ two. (λ below. omega arith, λ above. absurd (omega (arith, above))), behind);
 } where
-  behind : All (λ p. (49152 ≤ p) × (p + 65544 ≤ flash_size)) (49152 ∷ 114696 ∷ [])
-  behind zero d within = (omega arith, omega arith)
-  behind (suc zero) d within = (omega arith, omega arith)
+  behind : All (λ p. IsBehindHead VERSION_1 flash_size p 65544) (49152 ∷ 114696 ∷ [])
+  behind zero d within = (omega arith, omega arith, (λ before. omega arith, λ below. absurd (omega (arith, below))))
+  behind (suc zero) d within = (omega arith, omega arith, (λ before. omega arith, λ below. absurd (omega (arith, below))))
   behind (suc (suc k)) d within = absurd (omega (arith, within))
 
-ram_is : IsEntry flash_size ram_entry
+ram_is : IsEntry VERSION_1 flash_size ram_entry
 unfolding spelled_id head_bytes
 ram_is = record { short = omega arith; some = omega arith; held = (omega arith, omega arith, omega arith, omega arith) }
 
-each : All (IsEntry flash_size) device_layout
+each : All (IsEntry VERSION_1 flash_size) device_layout
 each zero d within = flash_is
 each (suc zero) d within = ram_is
 each (suc (suc k)) d within = absurd (omega (arith, within))

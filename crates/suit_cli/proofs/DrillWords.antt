@@ -10,7 +10,7 @@ use Rattle.conformance.specs.Shapes.{words_of}
 use Rattle.suit_cli.specs.DrillRounds.{AreWords, envelope_name, uris_asked}
 use Rattle.suit_cli.specs.declared.words.Command.{Command}
 use Rattle.suit_cli.specs.declared.words.Command.TheVariants as commands
-use Rattle.suit_cli.specs.Words.{Task, Make, Describe, Show, Check, RunInit, RunUpdate, RunBoot, RunStatus, Drill, task_of, task_said}
+use Rattle.suit_cli.specs.Words.{Task, Make, Describe, Show, Check, RunInit, RunUpdate, RunBoot, RunStatus, RunMigrate, Drill, task_of, task_said}
 
 uris_for : Shape → List (List ℕ × List ℕ)
 uris_for Integrated = []
@@ -44,6 +44,7 @@ update_asked words are told is command says = of_command command (says ∙ ap ta
   of_command (Some (commands.RunInit device key)) e = let never : Some (RunInit device.now key.now) ≡ Some (RunUpdate envelope_name (asks_update words are).0) = e in absurd cc
   of_command (Some commands.RunBoot) e = let never : Some RunBoot ≡ Some (RunUpdate envelope_name (asks_update words are).0) = e in absurd cc
   of_command (Some commands.RunStatus) e = let never : Some RunStatus ≡ Some (RunUpdate envelope_name (asks_update words are).0) = e in absurd cc
+  of_command (Some (commands.RunMigrate base)) e = let never : Some (RunMigrate base) ≡ Some (RunUpdate envelope_name (asks_update words are).0) = e in absurd cc
   of_command (Some (commands.Drill number)) e = let never : Some (Drill number) ≡ Some (RunUpdate envelope_name (asks_update words are).0) = e in absurd cc
 
 -- and so has URIs, those of its task

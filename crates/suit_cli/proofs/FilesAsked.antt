@@ -30,8 +30,8 @@ use Rattle.suit_cli.specs.Program.{AsksForUpdate, AsksNothing, AsksFile, IsNamed
 
 -- ---- rooms
 
-module _ (size : ℕ) (e : Entry) (typed : IsTypedEntry e) where
-  of_memory : (kind : Memory) → e.memory ≡ kind → IsOfMemory size e kind → e.capacity ≤ max size 1048576
+module _ (frame : Frame) (size : ℕ) (e : Entry) (typed : IsTypedEntry e) where
+  of_memory : (kind : Memory) → e.memory ≡ kind → IsOfMemory frame size e kind → e.capacity ≤ max size 1048576
   of_memory memory.Flash flash held =
       let all : slot_starts e ≡ take e.slots e.starts = ap (λ (k : Memory). starts_in k (take e.slots e.starts)) flash in
       let long : length (take e.slots e.starts) ≡ e.slots = length-take-le e.slots e.starts (omega (arith, typed.starts, held.1)) in
@@ -42,7 +42,7 @@ module _ (size : ℕ) (e : Entry) (typed : IsTypedEntry e) where
 
 pub rooms_fit : (frame : Frame) (size : ℕ) (layout : List Entry) (key : Key) → IsAllowed frame size layout key → HaveAtMost layout (most_room size)
 rooms_fit frame size layout key allowed i e lt =
-    of_memory size (get_or layout i e) (allowed.typed.entries i e lt) (get_or layout i e).memory refl (allowed.layout_is.each i e lt).held
+    of_memory frame size (get_or layout i e) (allowed.typed.entries i e lt) (get_or layout i e).memory refl (allowed.layout_is.each i e lt).held
 
 -- ---- stages that ask for nothing
 
@@ -87,8 +87,8 @@ module _ {A : Type 0} (good : Flashed → A → Type 0) (bad : Flashed → Reply
     lacks = λ b a l. unasked_beside b a l.beside;
   }
 
-accepts_none : (layout : List Entry) (key : Key) (bytes : List ℕ) → AsksNone (accepts layout key bytes)
-accepts_none layout key bytes = judging_none _ _
+accepts_none : (frame : Frame) (layout : List Entry) (key : Key) (bytes : List ℕ) → AsksNone (accepts frame layout key bytes)
+accepts_none frame layout key bytes = judging_none _ _
 
 -- ---- an update that was not begun
 
@@ -115,26 +115,26 @@ module _ (name : List ℕ) (uris : List (List ℕ × List ℕ)) (b : Outside) wh
     reads_itself : (a : Outside) → Reads 1048577 name c a → AsksForUpdate name uris b a
     reads_itself a read = file_read a a read (unasked_same a a refl)
 
-    of_accepts : (layout : List Entry) (key : Key) (bytes : List ℕ) (d a : Outside) (e : Ending) → Reads 1048577 name c d → Then (accepts layout key bytes) (λ accepted. Last (λ reply. ⊥)) d a e → AsksForUpdate name uris b a
-    of_accepts layout key bytes d a _ read (Goes accepted f _ g (EndsWithout same)) =
-        file_read d a read (unasked_then d f a ((accepts_none layout key bytes).gives d f accepted g) (unasked_same f a same))
-    of_accepts layout key bytes d a _ read (Goes accepted f _ g (Ends r same says)) = absurd says
-    of_accepts layout key bytes d a _ read (Declines r declines) = file_read d a read ((accepts_none layout key bytes).declines d a r declines)
-    of_accepts layout key bytes d a _ read (Faults object f) = file_read d a read ((accepts_none layout key bytes).faults object d a f)
-    of_accepts layout key bytes d a _ read (Lacks l) = file_read d a read ((accepts_none layout key bytes).lacks d a l)
+    of_accepts : (frame : Frame) (layout : List Entry) (key : Key) (bytes : List ℕ) (d a : Outside) (e : Ending) → Reads 1048577 name c d → Then (accepts frame layout key bytes) (λ accepted. Last (λ reply. ⊥)) d a e → AsksForUpdate name uris b a
+    of_accepts frame layout key bytes d a _ read (Goes accepted f _ g (EndsWithout same)) =
+        file_read d a read (unasked_then d f a ((accepts_none frame layout key bytes).gives d f accepted g) (unasked_same f a same))
+    of_accepts frame layout key bytes d a _ read (Goes accepted f _ g (Ends r same says)) = absurd says
+    of_accepts frame layout key bytes d a _ read (Declines r declines) = file_read d a read ((accepts_none frame layout key bytes).declines d a r declines)
+    of_accepts frame layout key bytes d a _ read (Faults object f) = file_read d a read ((accepts_none frame layout key bytes).faults object d a f)
+    of_accepts frame layout key bytes d a _ read (Lacks l) = file_read d a read ((accepts_none frame layout key bytes).lacks d a l)
 
-    of_file : (layout : List Entry) (key : Key) (a : Outside) (e : Ending)
-        → Then (file longest_file name) (λ bytes. Then (accepts layout key bytes) (λ accepted. Last (λ reply. ⊥))) c a e → AsksForUpdate name uris b a
-    of_file layout key a e (Goes bytes d _ read rest) = of_accepts layout key bytes d a e read.0 rest
-    of_file layout key a _ (Declines r declines) = reads_itself a declines.0
-    of_file layout key a _ (Faults objects.Host f) = file_failed a f
-    of_file layout key a _ (Faults objects.Flash f) = absurd f
-    of_file layout key a _ (Lacks l) = reads_itself a l
+    of_file : (frame : Frame) (layout : List Entry) (key : Key) (a : Outside) (e : Ending)
+        → Then (file longest_file name) (λ bytes. Then (accepts frame layout key bytes) (λ accepted. Last (λ reply. ⊥))) c a e → AsksForUpdate name uris b a
+    of_file frame layout key a e (Goes bytes d _ read rest) = of_accepts frame layout key bytes d a e read.0 rest
+    of_file frame layout key a _ (Declines r declines) = reads_itself a declines.0
+    of_file frame layout key a _ (Faults objects.Host f) = file_failed a f
+    of_file frame layout key a _ (Faults objects.Flash f) = absurd f
+    of_file frame layout key a _ (Lacks l) = reads_itself a l
 
   begun_asks : (a : Outside) (e : Ending) → begins_update name b a e → IsTrue b.told → AsksForUpdate name uris b a
   begun_asks a e (Goes config c _ held rest) told =
       let u = unasked_beside b c held.0.beside in
-      of_file c u (subst IsTrue (sym u.told) told) config.0 config.1 a e rest
+      of_file c u (subst IsTrue (sym u.told) told) config.2 config.0 config.1 a e rest
   begun_asks a _ (Declines r d) told = nothing_asked a (unasked_beside b a d.0.beside)
   begun_asks a _ (Faults objects.Host f) told = absurd f
   begun_asks a _ (Faults objects.Flash f) told = nothing_asked a (unasked_beside b a f.beside)

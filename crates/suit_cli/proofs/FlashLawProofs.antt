@@ -1,13 +1,11 @@
 -- Where `run init` and `run status` stop.
 use Rattle.std.proofs.Common.{◌≡◌, ◌⊎◌, inl, inr, ℕ, List, refl, sym, ap, subst, ◌∙◌, Option, Some, None}
 use Rattle.std.specs.Prelude.{IsTrue}
-use Rattle.suit_edge.specs.Gate.{IsOpen}
 use Rattle.flash_layout.specs.declared.frame.Frame.{Frame}
-use Rattle.flash_layout.specs.declared.frame.TheConstants.{CONFIG_GATE}
 use Rattle.flash_layout.specs.declared.layout.Entry.{Entry}
 use Rattle.flash_layout.specs.declared.slot.Record.{Record}
 use Rattle.flash_layout.specs.Configs.{Config, ConfigOf}
-use Rattle.flash_layout.specs.Formats.{IsFormatted}
+use Rattle.flash_layout.specs.Formats.{HasOpenGate, IsFormatted}
 use Rattle.flash_layout.specs.Frames.{head_of}
 use Rattle.rollback_record.specs.HeadRecord.{RecordOf}
 use Rattle.suit_cli.specs.declared.reply.Reply.{Reply}
@@ -64,7 +62,7 @@ near_then b m n first second = record {
 
 in_use_here : (f g : Flashed) → IsStill f g → (r : Reply) → IsInUse g r → IsInUse f r
 in_use_here f g still r in_use = record {
-  opened = λ t. subst (λ (l : List ℕ). IsOpen l CONFIG_GATE) (still.reads t) (in_use.opened (subst IsTrue (sym still.told) t));
+  opened = λ t. subst HasOpenGate (still.reads t) (in_use.opened (subst IsTrue (sym still.told) t));
   says = in_use.says;
 }
 

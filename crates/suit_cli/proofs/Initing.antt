@@ -10,13 +10,12 @@ use Rattle.flash_layout.specs.declared.frame.Frame.{Frame}
 use Rattle.flash_layout.specs.declared.layout.Entry.{Entry}
 use Rattle.flash_layout.specs.declared.layout_fault.LayoutFault.{LayoutFault}
 use Rattle.flash_layout.specs.declared.layout_fault.LayoutFault.TheVariants as faults
+use Rattle.flash_layout.specs.Formats.{HasOpenGate}
 use Rattle.flash_layout.specs.LayoutFaults.{IsFaultOf, IsLayoutOf, RefusesLayout}
 use Rattle.suit_cli.specs.declared.reply.Reply.{Reply}
 use Rattle.suit_cli.specs.declared.reply.Stop.{Stop}
 use Rattle.suit_cli.specs.declared.reply.Stop.TheVariants as stops
 use Rattle.suit_cli.specs.declared.reply.Outcome.TheVariants as outcomes
-use Rattle.suit_edge.specs.Gate.{IsOpen}
-use Rattle.flash_layout.specs.declared.frame.TheConstants.{CONFIG_GATE, VERSION_1}
 use Rattle.flash_layout.specs.declared.key.Key.{Key}
 use Rattle.suit_cli.specs.Outside.{Outside, Flashed, Looks, with_flash}
 use Rattle.suit_cli.specs.Replies.{Makes, refused_by, stop_of}
@@ -43,11 +42,13 @@ fault_stands size d (faults.TooMany n) line is tells = is
 fault_stands size d (faults.TwoAlike i j) line is tells = is
 fault_stands size d (faults.Overlap i j) line is tells = is
 fault_stands size d (faults.Outside i) line is tells = is
+fault_stands size d faults.BaseOutside line is tells = is
+fault_stands size d (faults.BaseOverlap i) line is tells = is
 fault_stands size d faults.NoMemory line is tells = absurd tells
 
-pub layout_there : (size : ℕ) (bytes : List ℕ) (d : Data) (layout : List Entry) (frame : Frame) → IsUtf8 bytes → read bytes ≡ Some d → IsLayoutOf size d layout → frame ≡ VERSION_1
+pub layout_there : (size : ℕ) (bytes : List ℕ) (d : Data) (layout : List Entry) (frame : Frame) → IsUtf8 bytes → read bytes ≡ Some d → IsLayoutOf size d layout frame
     → (here : Outside) → Does (device_in size bytes) here here (Ok (layout, frame))
-layout_there size bytes d layout frame utf8 reads is first here = (refl, record { utf8 = utf8; value = d; reads = reads; describes = is; frame_is = first })
+layout_there size bytes d layout frame utf8 reads is here = (refl, record { utf8 = utf8; value = d; reads = reads; describes = is })
 
 -- it is no JSON
 pub no_device_text : (size : ℕ) (bytes : List ℕ) (here : Outside) (stop : Stop) → Does (json_in bytes) here here (Err stop) → Does (device_in size bytes) here here (Err stop)
@@ -71,8 +72,8 @@ some_bytes (byte ∷ bytes) some = omega arith
 pub looks_self : (o : Outside) → Looks o o
 looks_self o = record { beside = refl; still = record { told = refl; size = refl; reads = λ t. refl }; faults = refl }
 
--- the gate is open after all, which was told unless memory ran out
-pub in_use_there : (frame : Frame) (layout : List Entry) (key : Key) (before after : Outside) → Looks before after → (IsTrue before.flash.told → IsOpen before.flash.reads CONFIG_GATE)
+-- a gate is open after all, which was told unless memory ran out
+pub in_use_there : (frame : Frame) (layout : List Entry) (key : Key) (before after : Outside) → Looks before after → (IsTrue before.flash.told → HasOpenGate before.flash.reads)
     → (made : Result Reply AllocError) (stop : Stop) → Makes made outcomes.NotBlank (codes "not blank\n") → stop ≡ stop_of made
     → formats frame layout key before after (ending_of (Err stop))
 in_use_there frame layout key before after looks opened made stop says is =

@@ -46,7 +46,7 @@ module _ (records : SomeAnswer) where
 
     launches : (now.launches ≡ launched.launches) ⊎ LaunchesAccepted uris u.layout u.key u.bytes image launched.launches now.launches
     launches =
-        let f = facts u.layout u.key u.bytes u.accepted u.is_accepted in
+        let f = facts u.frame u.layout u.key u.bytes u.accepted u.is_accepted in
         let some = records u.frame (head_of u.frame image) in
         let digest : Digest = f.authentic.digest in
         let payloads = payloads_in u.bytes u.accepted.said f.envelope in

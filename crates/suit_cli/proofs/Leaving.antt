@@ -1,12 +1,13 @@
 -- The images a power loss during a command may leave.
 use Rattle.std.proofs.Common.{◌≡◌, ℕ, List, Option, Some, inl, inr, sym, subst}
 use Rattle.suit_edge.specs.Flash.{Flash, Now, Passes, IsFlash, IsSame}
-use Rattle.suit_edge.specs.FlashLaws.{starts, weakens, joined, each_now}
+use Rattle.suit_edge.specs.FlashLaws.{starts, weakens, joined, each_now, image_on}
 use Rattle.flash_layout.specs.declared.frame.Frame.{Frame}
 use Rattle.flash_layout.specs.declared.key.Key.{Key}
 use Rattle.flash_layout.specs.declared.layout.Entry.{Entry}
 use Rattle.flash_layout.specs.Formats.{IsBlankOrFormatted}
-use Rattle.suit_cli.specs.Words.{Task, RunInit, RunUpdate, RunBoot}
+use Rattle.rollback_record.specs.Migrating.{OutsideMigration}
+use Rattle.suit_cli.specs.Words.{Task, RunInit, RunUpdate, RunBoot, RunMigrate}
 use Rattle.suit_cli.specs.Outside.{Outside, Flashed, with_flash}
 use Rattle.suit_cli.specs.Inputs.{longest_device, IsRead, IsKey}
 use Rattle.suit_cli.specs.Devices.{IsDevice, key_of}
@@ -26,6 +27,7 @@ start_left task before a = weakens a a (Now a) (MayBeLeft task before a) (λ ima
   of_task (Some (RunInit device key_name)) image now = inl now
   of_task (Some (RunUpdate name uris)) image now = tt
   of_task (Some RunBoot) image now = tt
+  of_task (Some (RunMigrate base)) image now = image_on (OutsideMigration base) a image now
   of_task _ image now = now
 
 -- ---- `run init`

@@ -24,6 +24,7 @@ pub mod Sounding
 pub mod Settling
 pub mod BootAnswers
 pub mod BootKeeping
+pub mod Migrating
 pub mod Turns
 pub mod Refused
 pub mod AcceptedFacts
@@ -46,6 +47,7 @@ pub mod CommandLawProofs
 pub mod OneFlaw
 pub mod OneAnswers
 pub mod FlashLawProofs
+pub mod MigrateLawProofs
 pub mod DescribingLawProofs
 pub mod MakeLawProofs
 pub mod UpdateLawProofs

@@ -26,7 +26,7 @@ zero_at : (image : List ℕ) → AreZeros image → (i : ℕ) → get_or image i
 zero_at image zeros i = ⊎_elim (λ lt. zeros i 0 lt) (λ le. get_or_past image i 0 le) (cases_lt i (length image))
 
 pub zeros_sound : (image : List ℕ) → AreZeros image → Sound image
-zeros_sound image zeros = SoundBlank (inr (λ opened. shut (sym (zero_at image zeros 0) ∙ opened))) where
+zeros_sound image zeros = SoundBlank (inr (λ opened. shut (sym (zero_at image zeros 0) ∙ opened), λ opened. shut (sym (zero_at image zeros 45056) ∙ opened))) where
   shut : ◌≡◌ {A = ℕ} 0 0xA5 → ⊥
   shut e = omega (arith, e)
 

@@ -1,6 +1,7 @@
 -- A description has one first flaw, and is told by one line.
-use Rattle.std.proofs.Common.{◌≡◌, ℕ, List, Some, None, Ok, refl, sym, ap, subst, ◌∙◌}
+use Rattle.std.proofs.Common.{◌≡◌, ℕ, List, Some, None, Ok, refl, sym, subst, ◌∙◌}
 use Rattle.std.proofs.lemmas.Option.{same_Some}
+use Rattle.det_cbor.specs.ResultLaws.{same_ok}
 use Rattle.serde_json.specs.Data.{Data}
 use Rattle.flash_layout.specs.declared.frame.Frame.{Frame}
 use Rattle.flash_layout.specs.declared.layout.Entry.{Entry}
@@ -20,7 +21,7 @@ device_not_both size bytes x r device (IsNoJson none says) =
     let never : None ≡ Some device.value = sym (none device.utf8) ∙ device.reads in absurd cc
 device_not_both size bytes x r device (IsNoLayout value fault utf8 reads refuses says) =
     let same : value ≡ device.value = same_Some value device.value (sym reads ∙ device.reads) in
-    never_both size device.value x.0 fault device.describes (subst (λ (v : Data). RefusesLayout size v fault) same refuses)
+    never_both size device.value x.0 x.1 fault device.describes (subst (λ (v : Data). RefusesLayout size v fault) same refuses)
 
 one_line : (fault : LayoutFault) (s t : List ℕ) → IsFaultLine fault s → IsFaultLine fault t → t ≡ s
 one_line (faults.BadField pointer) s t is is' = is' ∙ sym is
@@ -30,9 +31,11 @@ one_line (faults.TooMany n) s t is is' = is' ∙ sym is
 one_line (faults.TwoAlike i j) s t is is' = is' ∙ sym is
 one_line (faults.Overlap i j) s t is is' = is' ∙ sym is
 one_line (faults.Outside i) s t is is' = is' ∙ sym is
+one_line faults.BaseOutside s t is is' = is' ∙ sym is
+one_line (faults.BaseOverlap i) s t is is' = is' ∙ sym is
 one_line faults.NoMemory s t is is' = absurd is
 
-one_telling : (fault : LayoutFault) (r q : Reply) → TellsLayout fault r → TellsLayout fault q → q ≡ r
+pub one_telling : (fault : LayoutFault) (r q : Reply) → TellsLayout fault r → TellsLayout fault q → q ≡ r
 one_telling fault r q first second =
     one_reply r q outcomes.Refused r.text (record { outcome_is = first.outcome_is; text_is = refl })
     (record { outcome_is = second.outcome_is; text_is = one_line fault r.text q.text first.line second.line })
@@ -51,10 +54,8 @@ one_no_device size bytes r q (IsNoLayout value f utf8 reads refuses tells) (IsNo
 same_layout : (size : ℕ) (bytes : List ℕ) (x y : List Entry × Frame) → IsDevice size bytes x.0 x.1 → IsDevice size bytes y.0 y.1 → y ≡ x
 same_layout size bytes x y first second =
     let same : second.value ≡ first.value = same_Some second.value first.value (sym second.reads ∙ first.reads) in
-    let here : described_layout first.value ≡ Ok y.0 = subst (λ (v : Data). described_layout v ≡ Ok y.0) same second.describes.reads in
-    let both : Ok y.0 ≡ Ok x.0 = sym here ∙ first.describes.reads in
-    let layout : y.0 ≡ x.0 = cc in
-    ap (λ (l : List Entry). (l, y.1)) layout ∙ ap (λ (f : Frame). (x.0, f)) (second.frame_is ∙ sym first.frame_is)
+    let here : described_layout first.value ≡ Ok (y.0, y.1) = subst (λ (v : Data). described_layout v ≡ Ok (y.0, y.1)) same second.describes.reads in
+    same_ok y x (sym here ∙ first.describes.reads)
 
 pub one_device : (size : ℕ) (bytes : List ℕ) → HasOne (λ (x : List Entry × Frame). IsDevice size bytes x.0 x.1) (IsNoDevice size bytes)
 one_device size bytes = record { value = same_layout size bytes; refusal = one_no_device size bytes; never = device_not_both size bytes }

@@ -7,8 +7,10 @@ use Rattle.suit_manifest.specs.declared.manifest.Manifest.{Manifest}
 use Rattle.suit_manifest.specs.declared.manifest.Members.{Members}
 use Rattle.suit_manifest.specs.MembersApart.{HasMembers}
 use Rattle.suit_manifest.specs.Procedures.{update_tree, invocation_tree}
+use Rattle.flash_layout.specs.declared.frame.Frame.{Frame}
 use Rattle.flash_layout.specs.declared.key.Key.{Key}
 use Rattle.flash_layout.specs.declared.layout.Entry.{Entry}
+use Rattle.flash_layout.specs.Frames.{bank_size}
 use Rattle.rollback_record.specs.SoundFlash.{key_bytes}
 use Rattle.admission.specs.declared.refusal.NotAdmitted.{NotAdmitted}
 use Rattle.admission.specs.declared.refusal.NotAdmitted.TheVariants as refusals
@@ -41,12 +43,13 @@ use Rattle.suit_cli.specs.Opening.{never}
 is_refusal : (refusal : NotAdmitted) (reply : Reply) → TellsRefusal reply refusal → refusal ≢ refusals.NoMemory
 is_refusal refusal reply says same = subst (λ (r : NotAdmitted). TellsRefusal reply r) same says
 
-pub accepting_stops : (layout : List Entry) (key : Key) (word bytes : List ℕ) (refusal : NotAdmitted) (stop : Stop) → word ≡ key_bytes key
-    → (refusal ≢ refusals.NoMemory → IsNotAdmitted layout word bytes refusal) → StopsAs refusal stop → (here : Outside) → Does (accepts layout key bytes) here here (Err stop)
-accepting_stops layout key word bytes refusal (stops.Declined reply) same is says here =
-    (refl, record { refusal = refusal; refused = subst (λ (k : List ℕ). IsNotAdmitted layout k bytes refusal) same (is (is_refusal refusal reply says)); says = says })
-accepting_stops layout key word bytes refusal (stops.Fault object) same is says here = absurd says
-accepting_stops layout key word bytes refusal stops.NoMemory same is says here = refl
+pub accepting_stops : (frame : Frame) (layout : List Entry) (key : Key) (limit : ℕ) (word bytes : List ℕ) (refusal : NotAdmitted) (stop : Stop) → limit ≡ bank_size frame → word ≡ key_bytes key
+    → (refusal ≢ refusals.NoMemory → IsNotAdmitted limit layout word bytes refusal) → StopsAs refusal stop → (here : Outside) → Does (accepts frame layout key bytes) here here (Err stop)
+accepting_stops frame layout key limit word bytes refusal (stops.Declined reply) room same is says here =
+    let refused = subst (λ (k : List ℕ). IsNotAdmitted limit layout k bytes refusal) same (is (is_refusal refusal reply says)) in
+    (refl, record { refusal = refusal; refused = subst (λ (n : ℕ). IsNotAdmitted n layout (key_bytes key) bytes refusal) room refused; says = says })
+accepting_stops frame layout key limit word bytes refusal (stops.Fault object) room same is says here = absurd says
+accepting_stops frame layout key limit word bytes refusal stops.NoMemory room same is says here = refl
 
 -- ---- up to the manifest
 

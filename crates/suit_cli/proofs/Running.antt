@@ -34,6 +34,7 @@ use Rattle.suit_cli.specs.Judgement.{IsNarrow, IsWide, AreSafe, AreJudged, Judge
 use Rattle.suit_cli.specs.Shown.{IsShown, authenticity_outcome}
 use Rattle.suit_cli.specs.Devices.{IsNoDevice, IsNoJson, IsNoLayout}
 use Rattle.suit_cli.specs.Installed.{HoldsNone, IsBlank, IsBad}
+use Rattle.suit_cli.specs.Migrating.{IsLeft, AtConfig as AtNoConfig, AtVersion, AtBase, migrates}
 use Rattle.suit_cli.specs.Commands.{in_manifest, judges_manifest, checks, shows_manifest, shows, inits_as, inits, begins_boot, tells_status, drills}
 use Rattle.path_model.proofs.Refuting.{IsBadPath-not_safe}
 use Rattle.suit_cli.proofs.OneCause.{Behind, Stops, Passes, passes, one_way}
@@ -53,6 +54,7 @@ Declining outcomes.NotAuthentic = Unit {0}
 Declining outcomes.UnknownComponent = Unit {0}
 Declining outcomes.Absent = Unit {0}
 Declining outcomes.TooLong = Unit {0}
+Declining outcomes.SecondLayout = Unit {0}
 Declining outcomes.Done = ⊥
 Declining outcomes.Unsafe = ⊥
 Declining outcomes.Usage = ⊥
@@ -342,7 +344,7 @@ showed name key_name b a r answer = of_reached (reaches name (λ bytes. shows_ma
   of_reached (inl none) = inl (no_manifest_declines name b r none)
   of_reached (inr at) = of_rest at.said at.manifest at.there at.on
 
--- ---- an answer of `run init` or `run status`
+-- ---- an answer of `run init`, `run status` or `run migrate`
 
 -- it declines, or is done
 abbrev pub Plain : Outcome → Type 0
@@ -376,6 +378,15 @@ stated b a r (Declines _ d) = inl (holds_none_declines _ r d.1)
 stated b a r (Goes config m0 _ g (Declines _ d)) = inl (declining r _ _ d.1.says tt)
 stated b a r (Goes config m0 _ g (Goes installed m1 _ h (Declines _ d))) = absurd d.1
 stated b a r (Goes config m0 _ g (Goes installed m1 _ h (Goes lines m2 _ l (Ends _ same says)))) = inr says.outcome_is
+
+pub left_declines : (base : ℕ) (flash : Flashed) (r : Reply) → IsLeft base flash r → Declining r.outcome
+left_declines base flash r (AtNoConfig none) = holds_none_declines flash r none
+left_declines base flash r (AtVersion second) = declining r _ _ second.says tt
+left_declines base flash r (AtBase none) = subst Declining (sym none.tells.outcome_is) tt
+
+pub migrated : (base : ℕ) (b a : Outside) (r : Reply) → migrates base b a (Says r) → Plain r.outcome
+migrated base b a r (Declines _ d) = inl (left_declines base b.flash r d.1)
+migrated base b a r (Goes u m _ g (IsSaid _ same says)) = inr says.outcome_is
 
 pub plain_not : (o p : Outcome) → Plain o → o ≡ p → (Declining p → ⊥) → (p ≡ outcomes.Done → ⊥) → ⊥
 plain_not o p (inl d) is never done = never (subst Declining is d)

@@ -1,14 +1,13 @@
 -- A settled flash stays sound.
 use Rattle.std.proofs.Common.{◌≡◌, ◌⊎◌, inl, inr, ℕ, List, length, Option, Some, sym, ap, subst, ◌∙◌, arith}
 use Rattle.std.specs.Prelude.{IsTrue}
-use Rattle.suit_edge.specs.Gate.{IsOpen}
 use Rattle.suit_edge.specs.Flash.{Flash, Now, Passes, IsFlash, IsSame}
 use Rattle.suit_edge.specs.FlashLaws.{same_flash, starts, weakens, joined}
 use Rattle.flash_layout.specs.declared.frame.Frame.{Frame}
 use Rattle.flash_layout.specs.declared.key.Key.{Key}
 use Rattle.flash_layout.specs.declared.layout.Entry.{Entry}
 use Rattle.flash_layout.specs.Configs.{Blank, ConfigOf, IsAllowed, IsBlank, Configured}
-use Rattle.flash_layout.specs.Formats.{IsFormatted}
+use Rattle.flash_layout.specs.Formats.{HasOpenGate, IsFormatted}
 use Rattle.flash_layout.specs.ToldFrames.{same_config}
 use Rattle.rollback_record.specs.SoundFlash.{Follows, FollowsBlank, Settled, Sound, SoundBlank}
 use Rattle.rollback_record.specs.SoundLaws.{SoundLaws}
@@ -17,15 +16,18 @@ use Rattle.rollback_record.proofs.HeadSince.{follows_now}
 use Rattle.invoke_proc.specs.declared.boot_end.BootEnd.{BootEnd}
 use Rattle.invoke_proc.specs.declared.boot_end.BootEnd.TheVariants as ends
 use Rattle.invoke_proc.specs.Booting.{KeepsBoot, KeptSo}
-use Rattle.suit_cli.specs.Words.{Task, RunInit, RunUpdate, RunBoot, task_said}
+use Rattle.suit_cli.specs.Words.{Task, RunInit, RunUpdate, RunBoot, RunMigrate, task_said}
 use Rattle.suit_cli.specs.declared.words.Command.{Command}
+use Rattle.suit_cli.specs.declared.reply.Outcome.{Outcome}
+use Rattle.suit_cli.specs.declared.reply.Outcome.TheVariants as outcomes
 use Rattle.suit_cli.specs.Outside.{Outside}
 use Rattle.suit_cli.specs.Devices.{key_of}
 use Rattle.suit_cli.specs.Formatting.{MayFormat, MayLeave}
-use Rattle.suit_cli.specs.Stages.{Ending}
+use Rattle.suit_cli.specs.Migrating.{KeepsTold, MovedSo, StaysOrTells}
+use Rattle.suit_cli.specs.Stages.{Ending, Says, FaultOf, NoMemory}
 use Rattle.suit_cli.specs.Launching.{Launching}
 use Rattle.suit_cli.specs.Coming.{Answered, Ended, PassesAny, StaysSound}
-use Rattle.suit_cli.specs.Program.{FlashPasses, IfBoots, IfLaunches, KeepsFor, MayBeLeft}
+use Rattle.suit_cli.specs.Program.{FlashPasses, IfBoots, IfSaidApart, KeepsFor, MayBeLeft}
 use Rattle.suit_cli.proofs.Leaving.{start_left}
 
 -- the configuration is allowed after a read
@@ -62,11 +64,11 @@ module _ (laws : SoundLaws) (a : Flash) (settled : Settled a) where
       before = λ t image le may. inr (law.sized t image (omega (arith, le, run.later)) may);
     }
 
-    blank_reads : (IsTrue before.flash.told → IsOpen before.flash.reads 0 → ⊥) → IsBlank a.reads
-    blank_reads shut = inr (λ opened. shut told (subst (λ (r : List ℕ). IsOpen r 0) reads opened))
+    blank_reads : (IsTrue before.flash.told → HasOpenGate before.flash.reads → ⊥) → IsBlank a.reads
+    blank_reads shut = inr (λ opened. shut told (subst HasOpenGate reads (inl opened)), λ opened. shut told (subst HasOpenGate reads (inr opened)))
 
     blank_each : IsBlank a.reads → (image : List ℕ) → Now a image → IsBlank image
-    blank_each blank image now = let same = settled.sure image now in same_config a.reads image same.size same.head Blank blank
+    blank_each blank image now = let same = settled.sure image now in same_config a.reads image same.head Blank blank
 
     formatted_sound : (image : List ℕ) → length image ≡ before.flash.size → MayFormat before.flash.size device key_name before a image
         → IsBlank a.reads → Sound image
@@ -92,10 +94,11 @@ module _ (laws : SoundLaws) (a : Flash) (settled : Settled a) where
 
   -- by the words
   pub stays_by : (task : Option Task) (before : Outside) (b : Flash) → IsTrue before.flash.told → a.reads ≡ before.flash.reads → IsFlash b before.flash.size
-      → IfLaunches task (Settled a → StaysSound a b) → Passes a b (MayBeLeft task before a) → StaysSound a b
+      → IfSaidApart task (Settled a → StaysSound a b) → Passes a b (MayBeLeft task before a) → StaysSound a b
   stays_by (Some (RunInit device key)) before b told reads law boot run = stays_formatting device key before b told reads law run
   stays_by (Some (RunUpdate name uris)) before b told reads law boot run = boot settled
   stays_by (Some RunBoot) before b told reads law boot run = boot settled
+  stays_by (Some (RunMigrate base)) before b told reads law boot run = boot settled
   stays_by _ before b told reads law boot run = stays_now b run
 
   -- behind looks at it
@@ -139,14 +142,15 @@ module _ (frame : Frame) (layout : List Entry) (key : Key) (a b : Flash) where
 
 -- ---- by the words
 
-pub if_launches : (task : Option Task) (P : Type 0) → P → IfLaunches task P
-if_launches (Some (RunUpdate name uris)) P p = p
-if_launches (Some RunBoot) P p = p
-if_launches _ P p = tt
+pub if_said_apart : (task : Option Task) (P : Type 0) → P → IfSaidApart task P
+if_said_apart (Some (RunUpdate name uris)) P p = p
+if_said_apart (Some RunBoot) P p = p
+if_said_apart (Some (RunMigrate base)) P p = p
+if_said_apart _ P p = tt
 
 -- where nothing was done
-if_unmoved : (laws : SoundLaws) (task : Option Task) (a : Flash) → IfLaunches task (Settled a → StaysSound a a)
-if_unmoved laws task a = if_launches task (Settled a → StaysSound a a) (λ settled. stays_start laws a settled)
+if_unmoved : (laws : SoundLaws) (task : Option Task) (a : Flash) → IfSaidApart task (Settled a → StaysSound a a)
+if_unmoved laws task a = if_said_apart task (Settled a → StaysSound a a) (λ settled. stays_start laws a settled)
 
 pub if_boots : (task : Option Task) (P : Type 0) → P → IfBoots task P
 if_boots (Some RunBoot) P p = p
@@ -158,10 +162,21 @@ if_boots_by task t P same p = subst (λ (u : Option Task). IfBoots u P) (sym sam
 pub as_it_boots : (task : Option Task) (P : Type 0) → task ≡ Some RunBoot → IfBoots task P → P
 as_it_boots task P boots p = subst (λ (u : Option Task). IfBoots u P) boots p
 
+-- of a migration
+so_either : (Moved Same : Type 0) (o : Outcome) → (Same → Moved) → Same → MovedSo Moved Same o
+so_either Moved Same outcomes.Done may same = may same
+so_either Moved Same _ may same = same
+
+told_unmoved : (before : Outside) (ending : Ending) (a : Flash) → KeepsTold before.flash ending a a
+told_unmoved before (Says reply) a = so_either (StaysOrTells before.flash a a) (IsSame a a) reply.outcome (λ same. inl same) (same_flash a)
+told_unmoved before (FaultOf object) a = inl (same_flash a)
+told_unmoved before NoMemory a = same_flash a
+
 -- where nothing was done
 keeps_unmoved : (task : Option Task) (l m : Launching) (before : Outside) (ending : Ending) (a : Flash) → KeepsFor task l m before (Answered ending) a a
 keeps_unmoved (Some (RunUpdate name uris)) l m before ending a = λ settled. same_flash a
 keeps_unmoved (Some RunBoot) l m before ending a = same_flash a
+keeps_unmoved (Some (RunMigrate base)) l m before ending a = told_unmoved before ending a
 keeps_unmoved _ l m before ending a = tt
 
 -- ---- what becomes of the flash

@@ -11,6 +11,7 @@ use Rattle.flash_layout.specs.declared.key.Key.{Key}
 use Rattle.flash_layout.specs.declared.frame.Frame.{Frame}
 use Rattle.flash_layout.specs.declared.layout.Entry.{Entry}
 use Rattle.suit_cli.specs.Formatting.{formatting, FormatsInVain}
+use Rattle.suit_cli.specs.Migrating.{migrates, migrating, MigratesInVain}
 use Rattle.suit_cli.specs.Inputs.{longest_file, longest_device, longest_key}
 use Rattle.suit_cli.specs.Commands.{describes, shows, checks, inits, inits_as, begins_boot, tells_status, drills}
 use Rattle.suit_cli.specs.Program.{answers}
@@ -174,6 +175,17 @@ formatting_keeps frame layout key = record {
   at_fault objects.Host b a f = absurd f
   at_fault objects.Flash b a f = record { quiet = beside_quiet 0 b a f.beside; faulted = flash_fault b a f.faulted f.beside }
 
+migrating_keeps : (base : ℕ) → StageKeeps 0 (migrating base)
+migrating_keeps base = record {
+  gives = λ b a x g. beside_calm 0 b a g.beside g.faults;
+  declines = λ b a r d. looks_calm b a d.0;
+  faults = λ object b a f. at_fault object b a f;
+  lacks = λ b a l. looks_calm b a l;
+} where
+  at_fault : (object : Object) (b a : Outside) → at_flash (MigratesInVain base) object b a → Faulty 0 object b a
+  at_fault objects.Host b a f = absurd f
+  at_fault objects.Flash b a f = record { quiet = beside_quiet 0 b a f.beside; faulted = flash_fault b a f.faulted f.beside }
+
 said_keeps : (says : Reply → Type 0) → Keeps 0 (Said says)
 said_keeps says b a _ (IsSaid r same is) = record { quiet = same_quiet 0 b a same; counts = same_counts b a same }
 
@@ -212,6 +224,9 @@ begins_keeps = then_keeps 0 0 _ _ (looking_keeps _ _) (λ config. last_keeps _)
 
 pub tells_keeps : Keeps 0 tells_status
 tells_keeps = then_keeps 0 0 _ _ (looking_keeps _ _) (λ config. then_keeps 0 0 _ _ (looking_keeps _ _) (λ installed. then_keeps 0 0 _ _ (looking_keeps _ _) (λ lines. last_keeps _)))
+
+pub migrates_keeps : (base : ℕ) → Keeps 0 (migrates base)
+migrates_keeps base = then_keeps 0 0 _ _ (migrating_keeps base) (λ u. said_keeps _)
 
 pub drills_keeps : (number : ℕ) → Keeps 0 (drills number)
 drills_keeps number = last_keeps _

@@ -6,17 +6,18 @@ use Rattle.author.specs.FileNames.{file_names}
 use Rattle.suit_cli.specs.declared.reply.Reply.{Reply}
 use Rattle.suit_cli.specs.declared.reply.Object.{Object}
 use Rattle.suit_cli.specs.declared.reply.Object.TheVariants as objects
-use Rattle.suit_cli.specs.Words.{Task, Make, Describe, Show, Check, RunInit, RunUpdate, RunBoot, RunStatus, Drill, task_of}
+use Rattle.suit_cli.specs.Words.{Task, Make, Describe, Show, Check, RunInit, RunUpdate, RunBoot, RunStatus, RunMigrate, Drill, task_of}
 use Rattle.suit_cli.specs.Outside.{Outside, Files, Quiet, LeavesOthers, FilesStay, Leaves}
 use Rattle.suit_cli.specs.Stages.{Ending, Says, FaultOf, NoMemory, Answers, Stage, in_turn, Then, Goes, Declines, Faults, Lacks, IsSaid}
 use Rattle.suit_cli.specs.Inputs.{longest_key, file}
 use Rattle.suit_cli.specs.Authoring.{longest_description, files_after, names_read, names_held, most_named, stores, makes_described}
+use Rattle.flash_layout.specs.declared.frame.Frame.{Frame}
 use Rattle.flash_layout.specs.declared.key.Key.{Key}
 use Rattle.flash_layout.specs.declared.layout.Entry.{Entry}
 use Rattle.suit_cli.specs.Acceptance.{accepts}
 use Rattle.suit_cli.specs.Commands.{begins_update, makes, does}
 use Rattle.suit_cli.specs.Program.{answers, most_pulled, stored_by}
-use Rattle.suit_cli.proofs.StagesKeep.{Counts, KeptBy, Calm, Faulty, StageKeeps, host_fault, quiet_more, quiet_then, counts_then, same_quiet, same_counts, judging_keeps, last_keeps, looking_keeps, reading_keeps, describes_keeps, shows_keeps, checks_keeps, inits_keeps, begins_keeps, tells_keeps, drills_keeps}
+use Rattle.suit_cli.proofs.StagesKeep.{Counts, KeptBy, Calm, Faulty, StageKeeps, host_fault, quiet_more, quiet_then, counts_then, same_quiet, same_counts, judging_keeps, last_keeps, looking_keeps, reading_keeps, describes_keeps, shows_keeps, checks_keeps, inits_keeps, begins_keeps, tells_keeps, migrates_keeps, drills_keeps}
 
 -- ---- one stage and then another
 
@@ -163,13 +164,13 @@ module _ (description key_name out : List ℕ) (b a : Outside) where
 
 -- ---- `run update`, before it begins
 
-accepts_keeps : (layout : List Entry) (key : Key) (bytes : List ℕ) → StageKeeps 0 (accepts layout key bytes)
-accepts_keeps layout key bytes = judging_keeps _ _
+accepts_keeps : (frame : Frame) (layout : List Entry) (key : Key) (bytes : List ℕ) → StageKeeps 0 (accepts frame layout key bytes)
+accepts_keeps frame layout key bytes = judging_keeps _ _
 
 pub updates_lets : (name : List ℕ) → Lets 1048577 None (begins_update name)
 updates_lets name =
     then_lets 0 1048577 None _ _ (looking_keeps _ _) (λ config. then_lets 1048577 0 None _ _ (reading_keeps _ _ _ _) (λ bytes.
-    then_lets 0 0 None _ _ (accepts_keeps config.0 config.1 bytes) (λ accepted b a e last. kept_left 0 e b a (last_keeps _ b a e last))))
+    then_lets 0 0 None _ _ (accepts_keeps config.2 config.0 config.1 bytes) (λ accepted b a e last. kept_left 0 e b a (last_keeps _ b a e last))))
 
 -- ---- the commands
 
@@ -182,6 +183,7 @@ does_lets (RunInit device key_name) b a e answer = kept_left _ e b a (inits_keep
 does_lets (RunUpdate name uris) b a e answer = updates_lets name b a e answer
 does_lets RunBoot b a e answer = kept_left _ e b a (begins_keeps b a e answer)
 does_lets RunStatus b a e answer = kept_left _ e b a (tells_keeps b a e answer)
+does_lets (RunMigrate base) b a e answer = kept_left _ e b a (migrates_keeps base b a e answer)
 does_lets (Drill number) b a e answer = kept_left _ e b a (drills_keeps number b a e answer)
 
 pub answers_lets : (words : List (List ℕ)) (b a : Outside) (e : Ending) → answers words b a e → LeftBy (most_pulled (task_of words) b.files) (stored_by (task_of words)) e b a

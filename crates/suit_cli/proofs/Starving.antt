@@ -19,13 +19,14 @@ use Rattle.update_proc.specs.declared.update_end.UpdateEnd.{UpdateEnd}
 use Rattle.update_proc.specs.declared.update_end.UpdateEnd.TheVariants as update_ends
 use Rattle.suit_cli.specs.declared.reply.Object.TheVariants as objects
 use Rattle.suit_cli.specs.declared.reply.Reply.{Reply}
-use Rattle.suit_cli.specs.Words.{Task, Make, Describe, Show, Check, RunInit, RunUpdate, RunBoot, RunStatus, Drill}
+use Rattle.suit_cli.specs.Words.{Task, Make, Describe, Show, Check, RunInit, RunUpdate, RunBoot, RunStatus, RunMigrate, Drill}
 use Rattle.suit_cli.specs.Outside.{Outside, Flashed}
 use Rattle.suit_cli.specs.Stages.{Ending, Says, FaultOf, NoMemory, Answers, Stage, judging, reading, looking, in_turn, Then, Goes, Lacks, Last, EndsWithout}
 use Rattle.suit_cli.specs.Statuses.{ending_status}
 use Rattle.suit_cli.specs.Authoring.{files_after, stores}
 use Rattle.suit_cli.specs.Acceptance.{accepts}
 use Rattle.suit_cli.specs.Formatting.{formats}
+use Rattle.suit_cli.specs.Migrating.{migrates}
 use Rattle.suit_cli.specs.Commands.{does}
 use Rattle.suit_cli.specs.Launching.{Launching, cause_status}
 use Rattle.suit_cli.specs.Booting.{boot_status}
@@ -84,8 +85,12 @@ formats_starves : (frame : Frame) (layout : List Entry) (key : Key) → Starves 
 formats_starves frame layout key b a (Lacks l) = near_looks b a l
 formats_starves frame layout key b a (Goes u m _ g rest) = elim rest [ ]
 
-accepts_nears : (layout : List Entry) (key : Key) (bytes : List ℕ) → Nears (accepts layout key bytes)
-accepts_nears layout key bytes = judging_nears _ _
+migrates_starves : (base : ℕ) → Starves (migrates base)
+migrates_starves base b a (Lacks l) = near_looks b a l
+migrates_starves base b a (Goes u m _ g rest) = elim rest [ ]
+
+accepts_nears : (frame : Frame) (layout : List Entry) (key : Key) (bytes : List ℕ) → Nears (accepts frame layout key bytes)
+accepts_nears frame layout key bytes = judging_nears _ _
 
 does_starves : (task : Task) → Starves (does task)
 does_starves (Make description key_name out) =
@@ -106,9 +111,10 @@ does_starves (RunInit device key_name) =
     then_starves _ _ (reading_nears _ _ _ _) (λ key. formats_starves described.1 described.0 _))))
 does_starves (RunUpdate name uris) =
     then_starves _ _ (looking_nears _ _) (λ config. then_starves _ _ (reading_nears _ _ _ _) (λ bytes.
-    then_starves _ _ (accepts_nears config.0 config.1 bytes) (λ accepted. last_starves _)))
+    then_starves _ _ (accepts_nears config.2 config.0 config.1 bytes) (λ accepted. last_starves _)))
 does_starves RunBoot = then_starves _ _ (looking_nears _ _) (λ config. last_starves _)
 does_starves RunStatus = then_starves _ _ (looking_nears _ _) (λ config. then_starves _ _ (looking_nears _ _) (λ installed. then_starves _ _ (looking_nears _ _) (λ lines. last_starves _)))
+does_starves (RunMigrate base) = migrates_starves base
 does_starves (Drill number) = last_starves _
 
 answers_starves : (words : List (List ℕ)) → Starves (answers words)
@@ -139,7 +145,7 @@ module _ (name : List ℕ) (uris : List (List ℕ × List ℕ)) (l m : Launching
   update_found : (lines : List ℕ) (u : Updates name uris l m b a update_ends.NoMemory lines)
       → (IsTrue b.flash.told → (held : Option Record) × RecordOf u.frame (head_of u.frame b.flash.reads) held) → AsFound l m b a
   update_found lines u recorded =
-      let f = facts u.layout u.key u.bytes u.accepted u.is_accepted in
+      let f = facts u.frame u.layout u.key u.bytes u.accepted u.is_accepted in
       let digest : Digest = f.authentic.digest in
       let states : WrapperSays u.accepted.said.wrapper digest f.authentic.blocks = f.authentic.says in
       let payloads = payloads_in u.bytes u.accepted.said f.envelope in

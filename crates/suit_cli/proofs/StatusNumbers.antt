@@ -23,7 +23,7 @@ by_status zero none one other = none refl
 by_status (suc zero) none one other = one refl
 by_status (suc (suc n)) none one other = other (λ e. omega (arith, e)) (λ e. omega (arith, e))
 
-of_outcome : (outcome : Outcome) → status_of outcome ≤ 21
+of_outcome : (outcome : Outcome) → status_of outcome ≤ 22
 of_outcome outcomes.Done = omega arith
 of_outcome outcomes.Unsafe = omega arith
 of_outcome outcomes.Usage = omega arith
@@ -38,14 +38,15 @@ of_outcome outcomes.Differs = omega arith
 of_outcome outcomes.UnknownComponent = omega arith
 of_outcome outcomes.Absent = omega arith
 of_outcome outcomes.TooLong = omega arith
+of_outcome outcomes.SecondLayout = omega arith
 
-of_ending : (ending : Ending) → ending_status ending ≤ 21
+of_ending : (ending : Ending) → ending_status ending ≤ 22
 of_ending (Says reply) = of_outcome reply.outcome
 of_ending (FaultOf objects.Host) = omega arith
 of_ending (FaultOf objects.Flash) = omega arith
 of_ending NoMemory = omega arith
 
-of_cause : (cause : Cause) → cause_status cause ≤ 21
+of_cause : (cause : Cause) → cause_status cause ≤ 22
 of_cause causes.Missing = omega arith
 of_cause causes.SelfCopy = omega arith
 of_cause causes.TooLarge = omega arith
@@ -54,7 +55,7 @@ of_cause causes.HostFault = omega arith
 of_cause causes.FlashFault = omega arith
 of_cause causes.LaunchFault = omega arith
 
-of_boot : (end : BootEnd) → boot_status end ≤ 21
+of_boot : (end : BootEnd) → boot_status end ≤ 22
 of_boot boots.Ended = omega arith
 of_boot boots.NothingInstalled = omega arith
 of_boot (boots.BadBank refusal) = omega arith
@@ -64,7 +65,7 @@ of_boot (boots.Condition place) = omega arith
 of_boot (boots.Stopped place cause) = of_cause cause
 of_boot boots.FlashFault = omega arith
 
-of_update : (end : UpdateEnd) → update_status end ≤ 21
+of_update : (end : UpdateEnd) → update_status end ≤ 22
 of_update (updates.Installed installed) = omega arith
 of_update (updates.Lower recorded offered) = omega arith
 of_update (updates.OtherDigest recorded offered) = omega arith
@@ -74,7 +75,7 @@ of_update (updates.Stopped place cause) = of_cause cause
 of_update updates.FlashFault = omega arith
 of_update updates.NoMemory = omega arith
 
-pub of_ended : (ended : Ended) → ended_status ended ≤ 21
+pub of_ended : (ended : Ended) → ended_status ended ≤ 22
 of_ended (Answered ending) = of_ending ending
 of_ended (Booted end lines) = of_boot end
 of_ended (Updated end lines) = of_update end

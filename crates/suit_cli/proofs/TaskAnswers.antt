@@ -3,14 +3,14 @@ use Rattle.std.proofs.Common.{◌≡◌, ℕ, List, Some, None, ◌⊎◌, inl, 
 use Rattle.std.proofs.lemmas.Option.{same_Some}
 use Rattle.suit_commands.specs.Tree.{PlanTree}
 use Rattle.suit_cli.specs.declared.reply.Reply.{Reply}
-use Rattle.suit_cli.specs.Words.{Task, Make, Describe, Show, Check, RunInit, RunUpdate, RunBoot, RunStatus, Drill, task_of}
+use Rattle.suit_cli.specs.Words.{Task, Make, Describe, Show, Check, RunInit, RunUpdate, RunBoot, RunStatus, RunMigrate, Drill, task_of}
 use Rattle.suit_cli.specs.Outside.{Outside}
 use Rattle.suit_cli.specs.Stages.{Says, Goes, Declines}
 use Rattle.suit_cli.specs.Commands.{does}
 use Rattle.suit_cli.specs.Holding.{HasProcedures}
 use Rattle.suit_cli.specs.Judgement.{AreJudged, JudgedSafe, JudgedUnsafe}
 use Rattle.suit_cli.specs.Program.{Judges, answers}
-use Rattle.suit_cli.proofs.Running.{Declining, IsJudged, Plain, checked, shown_plain, showed, inited, begun, stated, drilled}
+use Rattle.suit_cli.proofs.Running.{Declining, IsJudged, Plain, checked, shown_plain, showed, inited, begun, stated, migrated, drilled}
 use Rattle.suit_cli.proofs.AcceptedFacts.{IsUnsafeFile, began}
 use Rattle.suit_cli.proofs.Describing.{described}
 use Rattle.suit_cli.proofs.MakeLawProofs.{made_as}
@@ -49,4 +49,5 @@ reply_of (RunUpdate name uris) m a r rest = of_way (began name m a r rest) where
   of_way (inr u) = inr (record { name = name; judges = refl; file = u })
 reply_of RunBoot m a r rest = inl (begun m a r rest)
 reply_of RunStatus m a r rest = inl (stated m a r rest)
+reply_of (RunMigrate base) m a r rest = inl (migrated base m a r rest)
 reply_of (Drill number) m a r rest = inl (drilled number m a r rest)

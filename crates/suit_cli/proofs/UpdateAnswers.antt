@@ -36,8 +36,8 @@ use Rattle.suit_cli.proofs.UpdateSound.{has_offer}
 abbrev Nothing : Answers
 Nothing = Last (λ (reply : Reply). ⊥)
 
-abbrev OfFile : List Entry → Key → List ℕ → Answers
-OfFile layout key name = file longest_file name >>= λ bytes. accepts layout key bytes >>= λ accepted. Nothing
+abbrev OfFile : Frame → List Entry → Key → List ℕ → Answers
+OfFile frame layout key name = file longest_file name >>= λ bytes. accepts frame layout key bytes >>= λ accepted. Nothing
 
 -- ---- in stages
 
@@ -47,22 +47,22 @@ module _ (name : List ℕ) (uris : List (List ℕ × List ℕ)) (l : Launching) 
 
   -- where there is no configuration
   pub unconfigured_update : (a : Outside) (stop : Stop) → Does config_in b a (Err stop) → Comes_to l a (Answered (ending_of (Err stop)))
-  unconfigured_update a stop found = ByStages _ (stopped config_in (λ config. OfFile config.0 config.1 name) b a stop found) refl
+  unconfigured_update a stop found = ByStages _ (stopped config_in (λ config. OfFile config.2 config.0 config.1 name) b a stop found) refl
 
   module _ (layout : List Entry) (key : Key) (frame : Frame) (c : Outside) (held : config_in.gives b c (layout, key, frame)) where
     -- where the file is not read
     pub unread_update : (a : Outside) (stop : Stop) → Does (file longest_file name) c a (Err stop) → Comes_to l a (Answered (ending_of (Err stop)))
     unread_update a stop found =
-        ByStages _ (Goes (layout, key, frame) c _ held (stopped (file longest_file name) (λ bytes. accepts layout key bytes >>= λ accepted. Nothing) c a stop found)) refl
+        ByStages _ (Goes (layout, key, frame) c _ held (stopped (file longest_file name) (λ bytes. accepts frame layout key bytes >>= λ accepted. Nothing) c a stop found)) refl
 
     module _ (bytes : List ℕ) (d : Outside) (read : (file longest_file name).gives c d bytes) where
       -- where it is not accepted
-      pub unaccepted_update : (stop : Stop) → Does (accepts layout key bytes) d d (Err stop) → Comes_to l d (Answered (ending_of (Err stop)))
+      pub unaccepted_update : (stop : Stop) → Does (accepts frame layout key bytes) d d (Err stop) → Comes_to l d (Answered (ending_of (Err stop)))
       unaccepted_update stop found =
-          ByStages _ (Goes (layout, key, frame) c _ held (Goes bytes d _ read (stopped (accepts layout key bytes) (λ accepted. Nothing) d d stop found))) refl
+          ByStages _ (Goes (layout, key, frame) c _ held (Goes bytes d _ read (stopped (accepts frame layout key bytes) (λ accepted. Nothing) d d stop found))) refl
 
       -- and behind that
-      pub comes_updated : (m : Launching) (a : Outside) (accepted : Accepted) → IsAccepted layout key bytes accepted → (ended : Ended)
+      pub comes_updated : (m : Launching) (a : Outside) (accepted : Accepted) → IsAccepted frame layout key bytes accepted → (ended : Ended)
           → UpdatesBy (offer frame layout bytes accepted uris) l m d a ended → Comes_to m a ended
       comes_updated m a accepted is (Answered ending) by =
           ByStages ending (Goes (layout, key, frame) c ending held (Goes bytes d ending read (Goes accepted d ending (refl, is)
@@ -84,12 +84,12 @@ module _ (name : List ℕ) (uris : List (List ℕ × List ℕ)) (l : Launching) 
       })
 
 -- the acceptance of the same bytes
-pub accepted_as : (layout : List Entry) (key : Key) (x y : List ℕ) → x ≡ y → (a : Accepted) → IsAccepted layout key x a → IsAccepted layout key y a
-accepted_as layout key x y same a is = subst (λ (bytes : List ℕ). IsAccepted layout key bytes a) same is
+pub accepted_as : (frame : Frame) (layout : List Entry) (key : Key) (x y : List ℕ) → x ≡ y → (a : Accepted) → IsAccepted frame layout key x a → IsAccepted frame layout key y a
+accepted_as frame layout key x y same a is = subst (λ (bytes : List ℕ). IsAccepted frame layout key bytes a) same is
 
-pub unaccepted_as : (layout : List Entry) (key : Key) (x y : List ℕ) → x ≡ y → (stop : Stop) → ((here : Outside) → Does (accepts layout key x) here here (Err stop))
-    → (here : Outside) → Does (accepts layout key y) here here (Err stop)
-unaccepted_as layout key x y same stop found = subst (λ (bytes : List ℕ). (here : Outside) → Does (accepts layout key bytes) here here (Err stop)) same found
+pub unaccepted_as : (frame : Frame) (layout : List Entry) (key : Key) (x y : List ℕ) → x ≡ y → (stop : Stop) → ((here : Outside) → Does (accepts frame layout key x) here here (Err stop))
+    → (here : Outside) → Does (accepts frame layout key y) here here (Err stop)
+unaccepted_as frame layout key x y same stop found = subst (λ (bytes : List ℕ). (here : Outside) → Does (accepts frame layout key bytes) here here (Err stop)) same found
 
 -- and what it is offered as
 pub updates_as : (frame : Frame) (layout : List Entry) (x y : List ℕ) → x ≡ y → (a : Accepted) (uris : List (List ℕ × List ℕ)) (l m : Launching) (before after : Outside) (ended : Ended)
@@ -107,7 +107,7 @@ keeps_as frame layout x y same a uris l m before ended old now kept = subst (λ 
 module _ (name : List ℕ) (uris : List (List ℕ × List ℕ)) (l m : Launching) (before middle : Outside) (told_is : middle.told ≡ before.told) (files_are : IsTrue before.told → middle.files ≡ before.files)
     (size : ℕ) (is_size : before.flash.size ≡ size) (a b c : Flash) (law_a : IsFlash a size) (law_b : IsFlash b size) (same : IsSame a b)
     (layout : List Entry) (key : Key) (frame : Frame) (allowed : IsAllowed frame size layout key) (config : ConfigOf size a.reads (Configured layout key frame))
-    (settled : Settled a) (bytes : List ℕ) (read : IsRead longest_file name before bytes) (x : Accepted) (is : IsAccepted layout key bytes x) (configs : OneAnswer) where
+    (settled : Settled a) (bytes : List ℕ) (read : IsRead longest_file name before bytes) (x : Accepted) (is : IsAccepted frame layout key bytes x) (configs : OneAnswer) where
   done_since : (held : Option Record) (made : List ℕ) → IsDone (offer frame layout bytes x uris) l m middle held b.reads made → IsDone (offer frame layout bytes x uris) l m before held a.reads made
   done_since held made did host launcher =
       subst (λ (r : List ℕ). PlaysToEnd layout x.places (update_tree x.manifest x.members) held bytes uris before.files r l.launches m.launches made) same.reads
@@ -136,6 +136,6 @@ module _ (name : List ℕ) (uris : List (List ℕ × List ℕ)) (l m : Launching
     is_accepted = is;
     offered =
         has_offer configs frame layout key a.reads (subst (λ (n : ℕ). ConfigOf n a.reads (Configured layout key frame)) (sym law_a.fits) config) bytes x
-        (facts layout key bytes x is) settled.sound;
+        (facts frame layout key bytes x is) settled.sound;
     kept = kept_since end kept;
   }

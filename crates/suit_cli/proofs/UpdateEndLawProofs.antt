@@ -170,18 +170,19 @@ module _ (configs : OneAnswer) (envelopes : EnvelopeLaws) (manifests : ManifestL
     same_bytes : u.bytes ≡ f.bytes
     same_bytes = one_read longest_file name before told f.bytes u.bytes f.read u.read
 
-    accepted_there : IsAccepted f.layout f.key f.bytes u.accepted
+    accepted_there : IsAccepted f.frame f.layout f.key f.bytes u.accepted
     accepted_there =
         let layouts : u.layout ≡ f.layout = let e = same_config in cc in
         let keys : u.key ≡ f.key = let e = same_config in cc in
-        subst (λ (z : List ℕ). IsAccepted f.layout f.key z u.accepted) same_bytes
-        (subst (λ (z : Key). IsAccepted f.layout z u.bytes u.accepted) keys (subst (λ (z : List Entry). IsAccepted z u.key u.bytes u.accepted) layouts u.is_accepted))
+        subst (λ (z : List ℕ). IsAccepted f.frame f.layout f.key z u.accepted) same_bytes
+        (subst (λ (z : Key). IsAccepted f.frame f.layout z u.bytes u.accepted) keys
+        (subst (λ (z : List Entry). IsAccepted f.frame z u.key u.bytes u.accepted) layouts (subst (λ (z : Frame). IsAccepted z u.layout u.key u.bytes u.accepted) same_frame u.is_accepted)))
 
-    x : Meets f.layout f.key f.bytes f.accepted
-    x = facts f.layout f.key f.bytes f.accepted f.is_accepted
+    x : Meets f.frame f.layout f.key f.bytes f.accepted
+    x = facts f.frame f.layout f.key f.bytes f.accepted f.is_accepted
 
-    y : Meets f.layout f.key f.bytes u.accepted
-    y = facts f.layout f.key f.bytes u.accepted accepted_there
+    y : Meets f.frame f.layout f.key f.bytes u.accepted
+    y = facts f.frame f.layout f.key f.bytes u.accepted accepted_there
 
     same_said : u.accepted.said ≡ f.accepted.said
     same_said = (one_envelope envelopes f.bytes).value f.accepted.said u.accepted.said (x.are_bytes, x.envelope) (y.are_bytes, y.envelope)

@@ -8,6 +8,7 @@ use Rattle.flash_layout.specs.declared.frame.Frame.{Frame}
 use Rattle.flash_layout.specs.declared.key.Key.{Key}
 use Rattle.flash_layout.specs.declared.layout.Entry.{Entry}
 use Rattle.flash_layout.specs.ConfigLaws.{OneAnswer}
+use Rattle.flash_layout.specs.Frames.{bank_size}
 use Rattle.rollback_record.specs.SoundFlash.{key_bytes}
 use Rattle.admission.specs.declared.refusal.NotAdmitted.{NotAdmitted}
 use Rattle.admission.specs.declared.refusal.NotAdmitted.TheVariants as refusals
@@ -63,14 +64,14 @@ module _ (r q : Reply) where
   same_told refusals.NoMemory refusals.NoMemory same first second = absurd first
   same_told _ _ same first second = absurd same
 
-module _ (laws : AdmittingLaws) (layout : List Entry) (key : Key) (bytes : List ℕ) where
+module _ (laws : AdmittingLaws) (frame : Frame) (layout : List Entry) (key : Key) (bytes : List ℕ) where
   -- one cause stands
-  same_cause : (r q : Reply) → IsDeclined layout key bytes r → IsDeclined layout key bytes q → SameButPath r q
-  same_cause r q x y = same_told r q x.refusal y.refusal (laws.one_refusal layout (key_bytes key) bytes x.refusal y.refusal x.refused y.refused) x.says y.says
+  same_cause : (r q : Reply) → IsDeclined frame layout key bytes r → IsDeclined frame layout key bytes q → SameButPath r q
+  same_cause r q x y = same_told r q x.refusal y.refusal (laws.one_refusal (bank_size frame) layout (key_bytes key) bytes x.refusal y.refusal x.refused y.refused) x.says y.says
 
   -- and none where the bytes are accepted
-  accepted_not : (a : Accepted) (q : Reply) → IsAccepted layout key bytes a → IsDeclined layout key bytes q → ⊥
-  accepted_not a q is not = laws.never_both layout (key_bytes key) bytes a not.refusal is not.refused
+  accepted_not : (a : Accepted) (q : Reply) → IsAccepted frame layout key bytes a → IsDeclined frame layout key bytes q → ⊥
+  accepted_not a q is not = laws.never_both (bank_size frame) layout (key_bytes key) bytes a not.refusal is not.refused
 
 -- ---- the command
 
@@ -86,7 +87,7 @@ module _ (configs : OneAnswer) (laws : AdmittingLaws) (name : List ℕ) (b : Out
   abbrev Begins : Reply → Type 0
   Begins =
       Behind (Holds b.flash) (HoldsNone b.flash) (λ config.
-      Behind (IsRead longest_file name b) (IsUnread longest_file name b) (λ bytes. IsDeclined config.0 config.1 bytes))
+      Behind (IsRead longest_file name b) (IsUnread longest_file name b) (λ bytes. IsDeclined config.2 config.0 config.1 bytes))
 
   stages_of : (r : Reply) → UpdateSays name b r → Begins r
   stages_of r (AtConfig none) = Stops none
@@ -101,13 +102,13 @@ module _ (configs : OneAnswer) (laws : AdmittingLaws) (name : List ℕ) (b : Out
 
   one_beginning : (r q : Reply) → UpdateSays name b r → UpdateSays name b q → SameButPath r q
   one_beginning r q first second =
-      one_way _ _ _ _ one_held SameButPath (λ x y same. inl same) (λ config held. one_way _ _ _ _ one_bytes SameButPath (λ x y same. inl same) (λ bytes read. same_cause laws config.0 config.1 bytes))
+      one_way _ _ _ _ one_held SameButPath (λ x y same. inl same) (λ config held. one_way _ _ _ _ one_bytes SameButPath (λ x y same. inl same) (λ bytes read. same_cause laws config.2 config.0 config.1 bytes))
       r q (stages_of r first) (stages_of q second)
 
-  accepted_no_reply : (config : List Entry × Key × Frame) (bytes : List ℕ) (y : Accepted) (q : Reply) → Holds b.flash config → IsRead longest_file name b bytes → IsAccepted config.0 config.1 bytes y
+  accepted_no_reply : (config : List Entry × Key × Frame) (bytes : List ℕ) (y : Accepted) (q : Reply) → Holds b.flash config → IsRead longest_file name b bytes → IsAccepted config.2 config.0 config.1 bytes y
       → UpdateSays name b q → ⊥
   accepted_no_reply config bytes y q held read accepted says =
-      accepted_not laws config.0 config.1 bytes y q accepted (passes _ _ _ one_bytes bytes q read (passes _ _ _ one_held config q held (stages_of q says)))
+      accepted_not laws config.2 config.0 config.1 bytes y q accepted (passes _ _ _ one_bytes bytes q read (passes _ _ _ one_held config q held (stages_of q says)))
 
 pub update_laws : OneAnswer → AdmittingLaws → UpdateLaws
 update_laws configs laws = record {

@@ -48,7 +48,7 @@ has_each layout ids places are k d inside = (get_or places.layout_index k 0, are
 
 -- ---- the places of its components
 
-module _ (manifests : ManifestLaws) (layout : List Entry) (key : Key) (bytes : List ℕ) (a : Accepted) (f : Meets layout key bytes a) (other : HaveOtherPlaces a.manifest.components a.places) where
+module _ (manifests : ManifestLaws) (frame : Frame) (layout : List Entry) (key : Key) (bytes : List ℕ) (a : Accepted) (f : Meets frame layout key bytes a) (other : HaveOtherPlaces a.manifest.components a.places) where
   pub distinct : AreDistinct layout a.places
   distinct =
       let grammar = manifests.grammatical a.said.manifest_place f.says.item a.manifest f.says.says_so in
@@ -77,12 +77,12 @@ module _ (configs : OneAnswer) (frame : Frame) (layout : List Entry) (key : Key)
   some_record : Sound reads → (held : Option Record) × RecordOf frame (head_of frame reads) held
   some_record sound = of_cases (sound_by frame reads told sound)
 
-  pub has_offer : (bytes : List ℕ) (a : Accepted) → Meets layout key bytes a → Sound reads → HasOffer frame reads a.said.wrapper
+  pub has_offer : (bytes : List ℕ) (a : Accepted) → Meets frame layout key bytes a → Sound reads → HasOffer frame reads a.said.wrapper
   has_offer bytes a f sound = let some = some_record sound in (some.0, f.authentic.digest, f.authentic.blocks, some.1, f.authentic.says)
 
   -- ---- it may be installed
 
-  module _ (installs : InstalledAnywhere) (bytes : List ℕ) (a : Accepted) (f : Meets layout key bytes a) where
+  module _ (installs : InstalledAnywhere) (bytes : List ℕ) (a : Accepted) (f : Meets frame layout key bytes a) where
     abbrev stated : Digest
     stated = f.authentic.digest
 
@@ -121,7 +121,7 @@ gains_nothing : (launched now : List Launch) → now ≡ launched → GainsSafe 
 gains_nothing launched now same = record { gained = []; added = same ∙ sym (append-nil launched); safe = tt }
 
 module _ (safe : SafeLaunches) (faulted : FaultedSafeLaunches) (manifests : ManifestLaws) (size : ℕ) (frame : Frame) (layout : List Entry) (key : Key) (allowed : IsAllowed frame size layout key)
-    (typed : All HasIdentifiers layout) (bytes : List ℕ) (a : Accepted) (f : Meets layout key bytes a) (other : HaveOtherPlaces a.manifest.components a.places)
+    (typed : All HasIdentifiers layout) (bytes : List ℕ) (a : Accepted) (f : Meets frame layout key bytes a) (other : HaveOtherPlaces a.manifest.components a.places)
     (uris : List (List ℕ × List ℕ)) (host : Hosted) (before : List ℕ) (launched now : List Launch) where
   abbrev payloads : List (List ℕ × List ℕ)
   payloads = integrated_payloads (map_entries f.envelope.says_so.map)
@@ -138,7 +138,7 @@ module _ (safe : SafeLaunches) (faulted : FaultedSafeLaunches) (manifests : Mani
     added = p.plays.added;
     safe =
         have_digests safe faulted (update_tree a.manifest a.members) (setting_of p.standings payloads uris p.given) (contents_of p.standings (empty_ram layout) before) f.are_safe.update_safe
-        (are_identities frame size layout allowed.layout_is a.places (record { number = p.numbers }) p.standings typed (distinct manifests layout key bytes a f other) p.choice p.stand
+        (are_identities frame size layout allowed.layout_is a.places (record { number = p.numbers }) p.standings typed (distinct manifests frame layout key bytes a f other) p.choice p.stand
         (update_tree a.manifest a.members) (sym f.placed.count ∙ sym p.stand.count))
         (record { contents = contents_of p.standings p.ram made; launches = map launched_as p.plays.gained; asked = p.plays.asks }) end p.plays.ends;
   }

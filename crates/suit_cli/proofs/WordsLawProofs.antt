@@ -6,7 +6,7 @@ use Rattle.command_words.specs.Tasks.{Answer}
 use Rattle.command_words.specs.Tasks as asked
 use Rattle.command_words.specs.Table as table
 use Rattle.command_words.specs.Spelled.{Asks, WordLaws}
-use Rattle.suit_cli.specs.Words.{Task, Make, Describe, Show, Check, RunInit, RunUpdate, RunBoot, RunStatus, Drill, named_by, built, task_of}
+use Rattle.suit_cli.specs.Words.{Task, Make, Describe, Show, Check, RunInit, RunUpdate, RunBoot, RunStatus, RunMigrate, Drill, named_by, built, task_of}
 use Rattle.suit_cli.specs.WordsLaws.{WordsLaws, answered_by, asked_by}
 
 -- ---- the commands, among all
@@ -28,6 +28,7 @@ built_asked (RunInit device key) = refl
 built_asked (RunUpdate file uris) = ap (λ (u : List (List ℕ × List ℕ)). Some (RunUpdate file u)) (pairs_back uris)
 built_asked RunBoot = refl
 built_asked RunStatus = refl
+built_asked (RunMigrate base) = refl
 built_asked (Drill number) = refl
 
 asked_built : (t : asked.Task) (task : Task) → built t ≡ Some task → t ≡ asked_by task
@@ -40,6 +41,7 @@ asked_built (asked.Update file uris) task is =
     ap (λ (u : List Answer). asked.Update file u) (sym (answers_back uris)) ∙ ap asked_by (same_Some (RunUpdate file (map named_by uris)) task is)
 asked_built asked.Boot task is = ap asked_by (same_Some RunBoot task is)
 asked_built asked.Status task is = ap asked_by (same_Some RunStatus task is)
+asked_built (asked.Migrate base) task is = ap asked_by (same_Some (RunMigrate base) task is)
 asked_built (asked.Drill number) task is = ap asked_by (same_Some (Drill number) task is)
 
 -- ---- the laws

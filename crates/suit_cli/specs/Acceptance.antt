@@ -4,12 +4,13 @@ use Rattle.suit_envelope.specs.Authentic.{IsAuthentic}
 use Rattle.suit_envelope.specs.Said.{EnvelopeOf}
 use Rattle.suit_manifest.specs.MembersApart.{HasMembers}
 use Rattle.suit_manifest.specs.Procedures.{update_tree, invocation_tree}
+use Rattle.flash_layout.specs.declared.frame.Frame.{Frame}
 use Rattle.flash_layout.specs.declared.key.Key.{Key}
 use Rattle.flash_layout.specs.declared.layout.Entry.{Entry}
+use Rattle.flash_layout.specs.Frames.{bank_size}
 use Rattle.flash_layout.specs.Placement.{ArePlaces}
 use Rattle.rollback_record.specs.SoundFlash.{key_bytes}
 use Rattle.admission.specs.declared.admitting.Admitted.{Admitted}
-use Rattle.admission.specs.declared.opening.TheConstants.{LONGEST_TRIMMED}
 use Rattle.admission.specs.declared.refusal.NotAdmitted.{NotAdmitted}
 use Rattle.admission.specs.Admission.{Admission, IsAdmitted, IsNotAdmitted, admission_of}
 use Rattle.suit_cli.specs.declared.reply.Reply.{Reply}
@@ -23,26 +24,29 @@ use Rattle.suit_cli.specs.Judgement.{AreSafe, IsNarrow}
 abbrev pub Accepted : Type 0
 Accepted = Admission
 
--- the bytes are admitted so, under the layout and the key of the flash
-abbrev pub IsAccepted : List Entry → Key → List ℕ → Accepted → Type 0
-IsAccepted layout key bytes accepted = IsAdmitted layout (key_bytes key) bytes accepted
+-- the bytes are admitted so, under the layout and the key of a flash with this frame, whose banks hold the envelope
+abbrev pub IsAccepted : Frame → List Entry → Key → List ℕ → Accepted → Type 0
+IsAccepted frame layout key bytes accepted =
+    IsAdmitted (bank_size frame) layout (key_bytes key) bytes accepted
 
 -- they are not, and the reply tells why: the first thing that is wrong
-pub record IsDeclined (layout : List Entry) (key : Key) (bytes : List ℕ) (reply : Reply)
-    : Type 0 where
+pub record IsDeclined (frame : Frame) (layout : List Entry) (key : Key) (bytes : List ℕ)
+    (reply : Reply) : Type 0 where
   pub refusal : NotAdmitted
-  pub refused : IsNotAdmitted layout (key_bytes key) bytes refusal
+  pub refused : IsNotAdmitted (bank_size frame) layout (key_bytes key) bytes refusal
   pub says : TellsRefusal reply refusal
 
-abbrev pub accepts : List Entry → Key → List ℕ → Stage Accepted
-accepts layout key bytes = judging (IsAccepted layout key bytes) (IsDeclined layout key bytes)
+abbrev pub accepts : Frame → List Entry → Key → List ℕ → Stage Accepted
+accepts frame layout key bytes =
+    judging (IsAccepted frame layout key bytes) (IsDeclined frame layout key bytes)
 
 -- the same as demands on the bytes, under the layout and the key of the flash
-pub record Meets (layout : List Entry) (key : Key) (bytes : List ℕ) (a : Accepted) : Type 0 where
+pub record Meets (frame : Frame) (layout : List Entry) (key : Key) (bytes : List ℕ) (a : Accepted)
+    : Type 0 where
   -- they spell an envelope that a bank holds when it is trimmed
   pub are_bytes : AreBytes bytes
   pub envelope : EnvelopeOf bytes a.said
-  pub is_short : IsShort LONGEST_TRIMMED a.said
+  pub is_short : IsShort (bank_size frame) a.said
   -- it is authentic, and has a manifest
   pub authentic : IsAuthentic a.said.wrapper a.said.manifest (key_bytes key)
   pub says : ManifestOf a.said a.manifest

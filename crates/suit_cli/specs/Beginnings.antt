@@ -15,5 +15,5 @@ abbrev pub begins_update : List ℕ → Answers
 begins_update name =
     config_in >>= λ config.
     file longest_file name >>= λ bytes.
-    accepts config.0 config.1 bytes >>= λ accepted.
+    accepts config.2 config.0 config.1 bytes >>= λ accepted.
     Last (λ reply. ⊥)

@@ -15,6 +15,7 @@ use Rattle.suit_cli.specs.Outside.{Outside}
 use Rattle.suit_cli.specs.Stages.{Ending, NoMemory, Answers, ending_of}
 use Rattle.suit_cli.specs.Statuses.{ending_status, ending_text}
 use Rattle.suit_cli.specs.Launching.{Launching}
+use Rattle.suit_cli.specs.Migrating.{KeepsTold}
 use Rattle.suit_cli.specs.Booting.{IsBoot, Boots, KeepsBooted, boot_line, boot_status}
 use Rattle.suit_cli.specs.Updating.{IsUpdate, KeepsFlash, KeepsOffer, Offer, Updates, update_line, update_status}
 
@@ -73,6 +74,11 @@ BootedSo Kept Same _ = Same
 -- A boot that started a manifest changed no slot but those that its procedure may write, and every other one nothing.
 abbrev pub BootKeeps : Outside → Ended → Flash → Flash → Type 0
 BootKeeps before ended old now = BootedSo (KeepsBooted before old now) (IsSame old now) ended
+
+-- a migration kept the flash as its ending says
+abbrev pub MigrateKeeps : Outside → Ended → Flash → Flash → Type 0
+MigrateKeeps before (Answered ending) old now = KeepsTold before.flash ending old now
+MigrateKeeps before _ old now = IsSame old now
 
 -- ---- inside
 

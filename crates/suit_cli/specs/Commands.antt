@@ -3,7 +3,7 @@ use Rattle.std.specs.Prelude.{ℕ, List}
 use Rattle.suit_envelope.specs.Envelopes.{EnvelopeSays}
 use Rattle.suit_manifest.specs.declared.manifest.Manifest.{Manifest}
 use Rattle.suit_manifest.specs.Procedures.{update_tree, invocation_tree}
-use Rattle.suit_cli.specs.Words.{Task, Make, Describe, Show, Check, RunInit, RunUpdate, RunBoot, RunStatus, Drill}
+use Rattle.suit_cli.specs.Words.{Task, Make, Describe, Show, Check, RunInit, RunUpdate, RunBoot, RunStatus, RunMigrate, Drill}
 use Rattle.suit_cli.specs.Stages.{Answers, ◌>>=◌, Last}
 use Rattle.suit_cli.specs.Inputs.{longest_file, longest_shown, longest_device, file, key_in}
 use Rattle.suit_cli.specs.Envelopes.{envelope_in, short, manifest_in, members_in}
@@ -16,6 +16,7 @@ use Rattle.suit_cli.specs.Formatting.{unused, formats}
 pub use Rattle.suit_cli.specs.Beginnings.{begins_boot, begins_update}
 use Rattle.suit_cli.specs.Drilling.{IsDrilled}
 use Rattle.suit_cli.specs.Installed.{config_in, record_in, lines_in, IsStatus}
+use Rattle.suit_cli.specs.Migrating.{migrates}
 
 -- up to the manifest in a file, and then on
 abbrev pub in_file : List ℕ → (EnvelopeSays → Manifest → Answers) → Answers
@@ -72,7 +73,7 @@ makes description key_name out =
     description_in bytes >>= λ value.
     makes_described value key_name out
 
--- `run init DEVICE KEY`: the gate, the device's description, the key, and the format
+-- `run init DEVICE KEY`: the gates, the device's description, the key, and the format
 abbrev pub inits_as : ℕ → List ℕ → List ℕ → Answers
 inits_as size device key_name =
     file longest_device device >>= λ bytes.
@@ -104,4 +105,5 @@ does (RunInit device key_name) = inits device key_name
 does (RunUpdate name uris) = begins_update name
 does RunBoot = begins_boot
 does RunStatus = tells_status
+does (RunMigrate base) = migrates base
 does (Drill number) = drills number

@@ -5,7 +5,6 @@ use Rattle.std.specs.Str.{IsUtf8}
 use Rattle.serde_json.specs.Data.{Data}
 use Rattle.serde_json.specs.Read.{read}
 use Rattle.flash_layout.specs.declared.frame.Frame.{Frame}
-use Rattle.flash_layout.specs.declared.frame.TheConstants.{VERSION_1}
 use Rattle.flash_layout.specs.declared.key.Key.{Key}
 use Rattle.flash_layout.specs.declared.layout.Entry.{Entry}
 use Rattle.flash_layout.specs.declared.layout_fault.LayoutFault.{LayoutFault}
@@ -27,8 +26,7 @@ pub record IsDevice (size : ℕ) (bytes : List ℕ) (layout : List Entry) (frame
   pub utf8 : IsUtf8 bytes
   pub value : Data
   pub reads : read bytes ≡ Some value
-  pub describes : IsLayoutOf size value layout
-  pub frame_is : frame ≡ VERSION_1
+  pub describes : IsLayoutOf size value layout frame
 
 -- a word, and the place of a value by its JSON Pointer
 abbrev pub pointed_line : List ℕ → List ℕ → List ℕ
@@ -53,6 +51,9 @@ IsFaultLine (faults.TwoAlike i j) text = text ≡ alike_line i j
 IsFaultLine (faults.Overlap i j) text = text ≡ overlap_line i j
 IsFaultLine (faults.Outside i) text =
     text ≡ joined (codes "slot of " ∷ decimal i ∷ codes " is outside\n" ∷ [])
+IsFaultLine faults.BaseOutside text = text ≡ codes "base is outside\n"
+IsFaultLine (faults.BaseOverlap i) text =
+    text ≡ joined (codes "base overlaps slot of " ∷ decimal i ∷ codes "\n" ∷ [])
 IsFaultLine faults.NoMemory text = ⊥
 
 pub record TellsLayout (fault : LayoutFault) (reply : Reply) : Type 0 where

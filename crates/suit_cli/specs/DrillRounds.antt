@@ -127,7 +127,7 @@ pub record IsCutOff (uris : List (List ℕ × List ℕ)) (launched now : Launchi
   pub bytes : List ℕ
   pub read : IsRead longest_file envelope_name before bytes
   pub accepted : Accepted
-  pub is_accepted : IsAccepted layout key bytes accepted
+  pub is_accepted : IsAccepted frame layout key bytes accepted
   pub held : Option Record
   pub record_is : RecordOf frame (head_of frame before.flash.reads) held
   pub digest : Digest

@@ -2,13 +2,11 @@
 use Rattle.std.specs.Prelude.{◌≡◌, ◌⊎◌, ℕ, IsTrue, List, codes}
 use Rattle.suit_edge.specs.Faults.{Faulted}
 use Rattle.suit_edge.specs.Flash.{Flash, Now}
-use Rattle.suit_edge.specs.Gate.{IsOpen}
 use Rattle.suit_edge.specs.Ranges.{SameOn}
 use Rattle.flash_layout.specs.declared.frame.Frame.{Frame}
-use Rattle.flash_layout.specs.declared.frame.TheConstants.{CONFIG_GATE}
 use Rattle.flash_layout.specs.declared.key.Key.{Key}
 use Rattle.flash_layout.specs.declared.layout.Entry.{Entry}
-use Rattle.flash_layout.specs.Formats.{IsFormatted, IsBlankOrFormatted, OutsideFormat}
+use Rattle.flash_layout.specs.Formats.{HasOpenGate, IsFormatted, IsBlankOrFormatted, OutsideFormat}
 use Rattle.suit_cli.specs.declared.reply.Reply.{Reply}
 use Rattle.suit_cli.specs.declared.reply.Outcome.TheVariants as outcomes
 use Rattle.suit_cli.specs.Replies.{IsReply}
@@ -17,11 +15,11 @@ use Rattle.suit_cli.specs.Stages.{Stage, Answers, looking, at_flash, ◌>>=◌, 
 use Rattle.suit_cli.specs.Inputs.{longest_device, IsRead, IsKey}
 use Rattle.suit_cli.specs.Devices.{IsDevice, key_of}
 
--- ---- the gate of the configuration page
+-- ---- the gate of version 1, and that of the root
 
--- it is not open
+-- neither is open
 abbrev pub IsShut : Flashed → Type 0
-IsShut flash = IsTrue flash.told → IsOpen flash.reads CONFIG_GATE → ⊥
+IsShut flash = IsTrue flash.told → HasOpenGate flash.reads → ⊥
 
 -- and the flash has this size
 pub record IsUnused (flash : Flashed) (size : ℕ) : Type 0 where
@@ -29,7 +27,7 @@ pub record IsUnused (flash : Flashed) (size : ℕ) : Type 0 where
   pub shut : IsShut flash
 
 pub record IsInUse (flash : Flashed) (reply : Reply) : Type 0 where
-  pub opened : IsTrue flash.told → IsOpen flash.reads CONFIG_GATE
+  pub opened : IsTrue flash.told → HasOpenGate flash.reads
   pub says : IsReply reply outcomes.NotBlank (codes "not blank\n")
 
 abbrev pub unused : Stage ℕ
@@ -58,7 +56,7 @@ pub record FormatsInVain (frame : Frame) (layout : List Entry) (before after : O
   pub kept : IsTrue before.flash.told
       → SameOn (OutsideFormat frame layout) before.flash.reads after.flash.reads
 
--- it declines where the gate is open after all, which no flash that tells can do behind the stage that found it shut
+-- it declines where a gate is open after all, which no flash that tells can do behind the stage that found both shut
 abbrev pub formatting : Frame → List Entry → Key → Stage (Unit {0})
 formatting frame layout key = record {
   gives = λ before after _. Formats frame layout key before after;

@@ -28,7 +28,7 @@ pub record LaunchesAccepted (uris : List (List ℕ × List ℕ)) (layout : List 
   pub frame : Frame
   pub config : ConfigOf (length image) image (Configured layout key frame)
   pub accepted : Accepted
-  pub is_accepted : IsAccepted layout key bytes accepted
+  pub is_accepted : IsAccepted frame layout key bytes accepted
   pub held : Option Record
   pub recorded : RecordOf frame (head_of frame image) held
   pub payloads : List (List ℕ × List ℕ)

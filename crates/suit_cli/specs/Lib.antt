@@ -18,6 +18,7 @@ pub mod Authoring
 pub mod Formatting
 pub mod Settling
 pub mod Installed
+pub mod Migrating
 pub mod Launching
 pub mod Booting
 pub mod Acceptance
@@ -40,6 +41,7 @@ pub mod CommandLaws
 pub mod DescribingLaws
 pub mod MakeLaws
 pub mod FlashLaws
+pub mod MigrateLaws
 pub mod LifeLaws
 pub mod LaunchedLaws
 pub mod LaunchedUpdateLaws

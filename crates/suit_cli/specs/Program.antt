@@ -2,20 +2,21 @@
 use Rattle.std.specs.Prelude.{◌≡◌, ◌≢◌, ◌⊎◌, ◌≤◌, ◌+◌, ◌*◌, ℕ, IsTrue, List, ◌∷◌, ◌++◌, length, take, Option, Some, None}
 use Rattle.std.specs.List.{AllByRecursion}
 use Rattle.suit_edge.specs.Faults.{Faulted}
-use Rattle.suit_edge.specs.Flash.{Flash, Now, Passes}
+use Rattle.suit_edge.specs.Flash.{Flash, ImageOn, Now, Passes}
 use Rattle.suit_commands.specs.Tree.{PlanTree}
+use Rattle.rollback_record.specs.Migrating.{OutsideMigration}
 use Rattle.rollback_record.specs.SoundFlash.{Settled}
 use Rattle.path_model.specs.Settings.{found_under}
 use Rattle.suit_cli.specs.declared.reply.Outcome.TheVariants as outcomes
 use Rattle.suit_cli.specs.Texts.{usage_line}
-use Rattle.suit_cli.specs.Words.{Task, Make, Describe, Show, Check, RunInit, RunUpdate, RunBoot, task_of}
+use Rattle.suit_cli.specs.Words.{Task, Make, Describe, Show, Check, RunInit, RunUpdate, RunBoot, RunMigrate, task_of}
 use Rattle.suit_cli.specs.Replies.{IsReply}
 use Rattle.suit_cli.specs.Outside.{Outside, Files, Sunk, Leaves}
 use Rattle.suit_cli.specs.Stages.{Stage, judging, Answers, ◌>>=◌}
 use Rattle.suit_cli.specs.Statuses.{sink_fault_status}
 use Rattle.suit_cli.specs.Launching.{Launching}
 use Rattle.suit_cli.specs.Updating.{most_room}
-use Rattle.suit_cli.specs.Coming.{Ended, Comes, BootKeeps, KeepsSound, StaysOrKeeps, ended_status, ended_text}
+use Rattle.suit_cli.specs.Coming.{Ended, Comes, BootKeeps, MigrateKeeps, KeepsSound, StaysOrKeeps, ended_status, ended_text}
 use Rattle.suit_cli.specs.Inputs.{longest_file, longest_device, longest_key}
 use Rattle.suit_cli.specs.Authoring.{longest_description, names_held, most_named}
 use Rattle.suit_cli.specs.Judgement.{AreSafe, ShowUnsafe}
@@ -70,10 +71,10 @@ IsExcuse result = (result ≡ 7) ⊎ (result ≡ 8) ⊎ (result ≡ 9) ⊎ (resu
 abbrev pub EndsIn : ℕ → ℕ → Type 0
 EndsIn status result = (result ≡ status) ⊎ IsExcuse result
 
--- Each status has its number, 0 to 21: 9 is that of a fault of the sink, and the others are those of an answer, a boot or
+-- Each status has its number, 0 to 22: 9 is that of a fault of the sink, and the others are those of an answer, a boot or
 -- an update.
 abbrev pub IsStatus : ℕ → Type 0
-IsStatus result = result ≤ 21
+IsStatus result = result ≤ 22
 
 -- ---- the headline
 
@@ -197,12 +198,14 @@ LeavesBy task before after = Leaves (most_pulled task before.files) (stored_by t
 
 -- ---- power losses
 
--- The images that a power loss at a moment of the run may leave. All commands but `run init`, `run boot` and `run
--- update` leave those of the start.
+-- The images that a power loss at a moment of the run may leave. All commands but `run init`, `run boot`, `run update` and
+-- `run migrate` leave those of the start.
 abbrev pub MayBeLeft : Option Task → Outside → Flash → List ℕ → Type 0
 MayBeLeft (Some (RunInit device key)) before start image = MayLeave device key before start image
 MayBeLeft (Some RunBoot) before start image = Unit {0}
 MayBeLeft (Some (RunUpdate name uris)) before start image = Unit {0}
+MayBeLeft (Some (RunMigrate base)) before start image =
+    ImageOn (OutsideMigration base) start image
 MayBeLeft _ before start image = Now start image
 
 -- ---- counts of faults
@@ -249,11 +252,12 @@ KeepsLauncher words launched now = (MayLaunch (task_of words) → ⊥) → now �
 
 -- ---- soundness
 
--- inside: of a boot and of an update it is said by itself
-abbrev pub IfLaunches : Option Task → Type 0 → Type 0
-IfLaunches (Some RunBoot) P = P
-IfLaunches (Some (RunUpdate name uris)) P = P
-IfLaunches _ P = Unit {0}
+-- inside: of a boot, of an update and of a migration it is said by itself
+abbrev pub IfSaidApart : Option Task → Type 0 → Type 0
+IfSaidApart (Some RunBoot) P = P
+IfSaidApart (Some (RunUpdate name uris)) P = P
+IfSaidApart (Some (RunMigrate base)) P = P
+IfSaidApart _ P = Unit {0}
 
 -- inside: of a boot alone
 abbrev pub IfBoots : Option Task → Type 0 → Type 0
@@ -264,18 +268,20 @@ IfBoots _ P = Unit {0}
 
 -- Of a settled flash, an update keeps the old record and the contents of all slots that it may not write, or leaves the new record
 -- with the contents that its procedure made, which was done: by the end that it came to. A boot keeps all but slots that its
--- procedure may write, of any flash.
+-- procedure may write, of any flash. A migration keeps what a settled flash of version 1 tells, and any other flash as it is.
 abbrev pub KeepsFor : Option Task → Launching → Launching → Outside → Ended → Flash → Flash → Type 0
 KeepsFor (Some (RunUpdate name uris)) launched later before ended old now =
     Settled old → StaysOrKeeps name uris launched later before ended old now
 KeepsFor (Some RunBoot) launched later before ended old now = BootKeeps before ended old now
+KeepsFor (Some (RunMigrate base)) launched later before ended old now =
+    MigrateKeeps before ended old now
 KeepsFor _ launched later before ended old now = Unit {0}
 
 -- inside: what becomes of a flash that tells, at each moment and at the end
 pub record FlashPasses (task : Option Task) (launched later : Launching) (before after : Outside)
     (ended : Ended) (old now : Flash) : Type 0 where
   pub any_moment : Passes old now (MayBeLeft task before old)
-  pub sound : IfLaunches task (KeepsSound old now)
+  pub sound : IfSaidApart task (KeepsSound old now)
   pub settled : StaysSettled old now before.flash.faults after.flash.faults
   pub keeps : KeepsFor task launched later before ended old now
 

@@ -33,7 +33,7 @@ pub record HoldsOfRun (words : List (List ℕ)) (launched now : Launching) (befo
   pub usage : result ≡ 2 → IsUsage words sunk_before sunk_after
   -- and wherever they are none
   pub no_command_is_usage : task_of words ≡ None → EndsIn 2 result
-  -- the status is one of those that there are, 0 to 21
+  -- the status is one of those that there are, 0 to 22
   pub status : IsStatus result
   -- of output that failed, the beginning of the answer's lines
   pub cut_off : result ≡ 9 → IsCutOff words launched now before after sunk_before sunk_after

@@ -22,6 +22,7 @@ status_of outcomes.Differs = 17
 status_of outcomes.UnknownComponent = 18
 status_of outcomes.Absent = 20
 status_of outcomes.TooLong = 21
+status_of outcomes.SecondLayout = 22
 
 abbrev pub fault_status : Object → ℕ
 fault_status objects.Host = 7

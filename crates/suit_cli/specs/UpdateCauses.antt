@@ -17,4 +17,4 @@ pub data UpdateSays (name : List ℕ) (before : Outside) (reply : Reply) : Type 
       → IsUnread longest_file name before reply → UpdateSays name before reply
   AtBytes : (config : List Entry × Key × Frame) (bytes : List ℕ) → Holds before.flash config
       → IsRead longest_file name before bytes
-      → IsDeclined config.0 config.1 bytes reply → UpdateSays name before reply
+      → IsDeclined config.2 config.0 config.1 bytes reply → UpdateSays name before reply

@@ -84,7 +84,7 @@ pub record UpdateIsCaused (name : List ℕ) (uris : List (List ℕ × List ℕ))
   pub bytes : List ℕ
   pub read : IsRead longest_file name before bytes
   pub accepted : Accepted
-  pub is_accepted : IsAccepted layout key bytes accepted
+  pub is_accepted : IsAccepted frame layout key bytes accepted
   pub ends :
       UpdateEnds (offer frame layout bytes accepted uris) launched now before after end
   pub lines_are : lines ≡ update_line accepted.manifest.sequence end
@@ -100,7 +100,7 @@ pub record IsOffered (name : List ℕ) (before : Outside) (verdict : Judged) : T
   pub bytes : List ℕ
   pub read : IsRead longest_file name before bytes
   pub accepted : Accepted
-  pub is_accepted : IsAccepted layout key bytes accepted
+  pub is_accepted : IsAccepted frame layout key bytes accepted
   pub held : Option Record
   pub recorded : RecordOf frame (head_of frame before.flash.reads) held
   pub digest : Digest

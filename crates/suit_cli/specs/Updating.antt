@@ -153,7 +153,7 @@ pub record Updates (name : List ℕ) (uris : List (List ℕ × List ℕ)) (launc
   pub middle : Outside
   pub read : (file longest_file name).gives configured middle bytes
   pub accepted : Accepted
-  pub is_accepted : IsAccepted layout key bytes accepted
+  pub is_accepted : IsAccepted frame layout key bytes accepted
   pub update : IsUpdate (offer frame layout bytes accepted uris) launched now middle after end
   pub lines_are : lines ≡ update_line accepted.manifest.sequence end
 
@@ -200,7 +200,7 @@ pub record KeepsFlash (name : List ℕ) (uris : List (List ℕ × List ℕ)) (la
   pub bytes : List ℕ
   pub read : IsRead longest_file name before bytes
   pub accepted : Accepted
-  pub is_accepted : IsAccepted layout key bytes accepted
+  pub is_accepted : IsAccepted frame layout key bytes accepted
   pub offered : HasOffer frame old.reads accepted.said.wrapper
   pub kept :
       KeepsOffer (offer frame layout bytes accepted uris) launched later before end old now

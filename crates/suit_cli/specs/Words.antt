@@ -16,6 +16,7 @@ pub data Task : Type 0 where
   RunUpdate : List ℕ → List (List ℕ × List ℕ) → Task
   RunBoot : Task
   RunStatus : Task
+  RunMigrate : ℕ → Task
   Drill : ℕ → Task
 
 -- a URI, and the name of the file that answers it
@@ -32,6 +33,7 @@ built (asked.Init device key) = Some (RunInit device key)
 built (asked.Update file uris) = Some (RunUpdate file (map named_by uris))
 built asked.Boot = Some RunBoot
 built asked.Status = Some RunStatus
+built (asked.Migrate base) = Some (RunMigrate base)
 built (asked.Drill number) = Some (Drill number)
 
 -- all words but those of a command are usage
@@ -47,4 +49,5 @@ task_said (commands.RunInit device key) = RunInit device.now key.now
 task_said (commands.RunUpdate file uris) = RunUpdate file.now uris
 task_said commands.RunBoot = RunBoot
 task_said commands.RunStatus = RunStatus
+task_said (commands.RunMigrate base) = RunMigrate base
 task_said (commands.Drill number) = Drill number

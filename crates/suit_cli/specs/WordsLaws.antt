@@ -3,7 +3,7 @@ use Rattle.std.specs.Prelude.{◌≡◌, ◌↔◌, ℕ, List, map, Some, None}
 use Rattle.command_words.specs.Tasks.{Answer}
 use Rattle.command_words.specs.Tasks as asked
 use Rattle.command_words.specs.Spelled.{Asks}
-use Rattle.suit_cli.specs.Words.{Task, Make, Describe, Show, Check, RunInit, RunUpdate, RunBoot, RunStatus, Drill, task_of}
+use Rattle.suit_cli.specs.Words.{Task, Make, Describe, Show, Check, RunInit, RunUpdate, RunBoot, RunStatus, RunMigrate, Drill, task_of}
 
 abbrev pub answered_by : List ℕ × List ℕ → Answer
 answered_by named = record { uri = named.0; name = named.1 }
@@ -18,6 +18,7 @@ asked_by (RunInit device key) = asked.Init device key
 asked_by (RunUpdate file uris) = asked.Update file (map answered_by uris)
 asked_by RunBoot = asked.Boot
 asked_by RunStatus = asked.Status
+asked_by (RunMigrate base) = asked.Migrate base
 asked_by (Drill number) = asked.Drill number
 
 pub record WordsLaws : Type 0 where

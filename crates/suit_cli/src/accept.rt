@@ -1,6 +1,7 @@
 //! Envelopes are opened and accepted, or it is told what they are refused for.
 
 ghost use Rattle.std.specs.Prelude.{◌≡◌, ◌<◌, ◌≤◌, ◌^◌, IfOk, codes, length};
+ghost use Rattle.flash_layout.specs.Frames.{bank_size};
 ghost use Rattle.flash_layout.specs.Layouts.{IsKey};
 ghost use Rattle.flash_layout.specs.Placement.{HaveOtherPlaces};
 ghost use Rattle.suit_envelope.specs.Places.{MembersEndBelow};
@@ -23,7 +24,7 @@ use crate::show::authenticity_line;
 use crate::status::number_line;
 use admission::{Admitted, NotAdmitted, Opened, Procedure, admit, open};
 use det_cbor::Text;
-use flash_layout::{Key, Layout};
+use flash_layout::{Frame, Key, Layout, MOST_ENTRIES, bank_size};
 use invoke_proc::key_bytes;
 use std::alloc::{AllocError, Global};
 use suit_envelope::MemberName;
@@ -164,21 +165,29 @@ pub(crate) fn members_in(alloc: Global, file: &Opened<'_>) -> Result<Members, St
     taken(alloc, members_of(alloc, &file.envelope, &file.manifest))
 }
 
-/// The update that a file offers to a flash with this layout and key.
+// The longest trimmed envelope that a flash takes, in bytes: its banks hold it.
+fn longest_trimmed(frame: Frame) -> u32
+    ensures { result ≡ bank_size frame }
+{
+    bank_size(frame) as u32
+}
+
+/// The update that a file offers to a flash with this layout, frame and key.
 pub(crate) fn accept<'a>(
     alloc: Global,
     layout: &Layout,
+    frame: Frame,
     key: &Key,
     bytes: &'a [u8],
 ) -> Result<Admitted<'a>, Stop>
-    requires entries { length layout.now ≤ 8 }
+    requires entries { length layout.now ≤ MOST_ENTRIES }
     requires key { IsKey key.now }
-    ensures finds { FindsAccepted (accepts layout.now key.now bytes.now) result }
+    ensures finds { FindsAccepted (accepts frame layout.now key.now bytes.now) result }
     ensures wrapper { IfOk result (λ a. HasWrapper a.envelope.wrapper.now) }
     ensures whole { IfOk result (λ a. a.envelope.whole.now ≡ bytes.now) }
     ensures other { IfOk result (λ a. HaveOtherPlaces a.manifest.components a.places) }
 {
-    match admit(alloc, layout, key_bytes(key), bytes) {
+    match admit(alloc, layout, key_bytes(key), bytes, longest_trimmed(frame)) {
         Ok(admitted) => Ok(admitted),
         Err(refusal) => Err(refusal_stop(alloc, refusal)),
     }

@@ -25,7 +25,7 @@ fn judge_manifest(alloc: Global, file: &Opened<'_>) -> Result<Reply, Stop>
 {
     procedure_laws();
     let members = members_in(alloc, file)?;
-    match judge(alloc, &file.manifest, &members) {
+    match judge(alloc, &file.manifest, members) {
         Ok(()) => {}
         Err(refusal) => return Err(refusal_stop(alloc, NotAdmitted::from(refusal))),
     }

@@ -2,6 +2,7 @@
 
 ghost use Rattle.std.specs.Prelude.{◌≡◌, ◌≤◌, ◌<◌, ◌++◌, All, IfOk, IsTrue, OnOk, length, string_bytes};
 ghost use Rattle.suit_edge.specs.Flash.{IsSame};
+ghost use Rattle.flash_layout.specs.declared.frame.Frame.{Frame};
 ghost use Rattle.flash_layout.specs.Layouts.{IsEntry};
 ghost use Rattle.flash_layout.specs.Slots.{LiesWithin, slot_content};
 ghost use Rattle.suit_cli.specs.Outside.{Outside, with_flash};
@@ -77,7 +78,7 @@ fn component_line<D: Disk>(
     active: u8,
     flash: &mut D,
 ) -> Result<String, Stop>
-    requires { IsEntry (D.extent flash.old) entry.now }
+    requires { (frame : Frame) × IsEntry frame (D.extent flash.old) entry.now }
     ensures extent { D.extent flash.new ≡ D.extent flash.old }
     ensures counts { FlashCounts result (D.faults flash.old) (D.faults flash.new) }
     ensures line { IsTrue D.told → IfOk result (λ t. string_bytes t ≡
@@ -108,7 +109,7 @@ fn push_components<D: Disk>(
     flash: &mut D,
 ) -> Result<(), Stop>
     requires few { length layout.now ≤ MOST_ENTRIES }
-    requires each { All (IsEntry (D.extent flash.old)) layout.now }
+    requires each { (frame : Frame) × All (IsEntry frame (D.extent flash.old)) layout.now }
     ensures extent { D.extent flash.new ≡ D.extent flash.old }
     ensures counts { FlashCounts result (D.faults flash.old) (D.faults flash.new) }
     ensures lines { IsTrue D.told → OnOk result (text.new ≡
@@ -130,7 +131,7 @@ pub(crate) fn component_lines<D: Disk>(
     flash: &mut D,
 ) -> Result<Text, Stop>
     requires few { length layout.now ≤ MOST_ENTRIES }
-    requires each { All (IsEntry (D.extent flash.old)) layout.now }
+    requires each { (frame : Frame) × All (IsEntry frame (D.extent flash.old)) layout.now }
     ensures finds { (here : Outside) → Does (lines_in layout.now installed.now)
         (with_flash here (⟦<D as SeenDisk>⟧.seen flash.old))
         (with_flash here (⟦<D as SeenDisk>⟧.seen flash.new)) result }

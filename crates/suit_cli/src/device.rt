@@ -1,8 +1,8 @@
 //! The stage that judges a device's description, and the key of a flash.
 
 ghost use Rattle.std.specs.Prelude.{◌≡◌, ◌≤◌, IfOk, length, string_bytes};
-ghost use Rattle.flash_layout.specs.Frames.{IsFrame, head_size};
-ghost use Rattle.flash_layout.specs.declared.frame.TheConstants.{VERSION_1};
+ghost use Rattle.flash_layout.specs.Frames.{IsFrame};
+ghost use Rattle.flash_layout.specs.declared.frame.TheConstants.{HEAD_SIZE};
 ghost use Rattle.flash_layout.specs.Layouts.{IsKey, IsLayout};
 ghost use Rattle.suit_cli.specs.Devices.{device_in, key_of, IsFaultLine, pointed_line};
 ghost use Rattle.suit_cli.specs.Stages.{Finds};
@@ -19,8 +19,8 @@ pub(crate) fn pointed_line(alloc: Global, word: &str, pointer: &str) -> Result<S
     format!(in alloc; "{word} {pointer}\n")
 }
 
-// The line that tells what is wrong with a description.
-fn fault_line(alloc: Global, fault: LayoutFault) -> Result<String, AllocError>
+/// The line that tells what is wrong with a description.
+pub(crate) fn fault_line(alloc: Global, fault: LayoutFault) -> Result<String, AllocError>
     ensures { IfOk result (λ t. IsFaultLine fault (string_bytes t)) }
 {
     match fault {
@@ -35,6 +35,10 @@ fn fault_line(alloc: Global, fault: LayoutFault) -> Result<String, AllocError>
             format!(in alloc; "slots of {first} and {second} overlap\n")
         }
         LayoutFault::Outside(component) => format!(in alloc; "slot of {component} is outside\n"),
+        LayoutFault::BaseOutside => format!(in alloc; "base is outside\n"),
+        LayoutFault::BaseOverlap(component) => {
+            format!(in alloc; "base overlaps slot of {component}\n")
+        }
         LayoutFault::NoMemory => Err(AllocError),
     }
 }
@@ -43,7 +47,7 @@ fn fault_line(alloc: Global, fault: LayoutFault) -> Result<String, AllocError>
 pub(crate) fn device_in(alloc: Global, size: u64, bytes: &[u8]) -> Result<(Layout, Frame), Stop>
     ensures finds { Finds (device_in size bytes.now) result }
     ensures allowed { IfOk result (λ described. IsLayout described.1 size described.0) }
-    ensures placed { head_size VERSION_1 ≤ size
+    ensures placed { HEAD_SIZE ≤ size
         → IfOk result (λ described. IsFrame size described.1) }
 {
     let value = json_in(alloc, bytes)?;

@@ -4,8 +4,8 @@ ghost use Rattle.std.specs.Prelude.{◌≡◌, ◌≤◌, IfOk, IsTrue};
 ghost use Rattle.suit_edge.specs.Flash.{IsSame, Passes};
 ghost use Rattle.flash_layout.specs.Formats.{IsBlankOrFormatted};
 ghost use Rattle.flash_layout.specs.Layouts.{IsKey, IsLayout};
-ghost use Rattle.flash_layout.specs.Frames.{IsFrame, head_size};
-ghost use Rattle.flash_layout.specs.declared.frame.TheConstants.{VERSION_1};
+ghost use Rattle.flash_layout.specs.Frames.{IsFrame};
+ghost use Rattle.flash_layout.specs.declared.frame.TheConstants.{HEAD_SIZE};
 ghost use Rattle.suit_cli.specs.Outside.{Outside, with_flash};
 ghost use Rattle.suit_cli.specs.Stages.{Does, ending_of};
 ghost use Rattle.suit_cli.specs.Formatting.{unused, formats, MayBe, MayFormat, MayLeave};
@@ -16,14 +16,14 @@ use crate::device::{device_in, key_of};
 use crate::input::{LONGEST_DEVICE, read, read_key};
 use crate::outside::{SeenDisk, SeenHost};
 use crate::reply::{Object, Outcome, Reply, Stop, declined};
-use flash_layout::{CONFIG_GATE, Formatted, Frame, Key, Layout, format};
+use flash_layout::{FlashFault, Formatted, Frame, Key, Layout, format, has_open_gate};
 use rollback_record::sound_laws;
 use std::alloc::Global;
-use suit_edge::{Disk, Edge, Host, OPEN};
+use suit_edge::{Disk, Host};
 
-// The size of a flash whose configuration page is unused.
+// The size of a flash that has no open gate.
 fn unused<D: Disk>(alloc: Global, flash: &mut D) -> Result<u64, Stop>
-    requires { head_size VERSION_1 ≤ D.extent flash.old }
+    requires { HEAD_SIZE ≤ D.extent flash.old }
     ensures finds { (here : Outside) → Does unused
         (with_flash here (⟦<D as SeenDisk>⟧.seen flash.old))
         (with_flash here (⟦<D as SeenDisk>⟧.seen flash.new)) result }
@@ -32,15 +32,11 @@ fn unused<D: Disk>(alloc: Global, flash: &mut D) -> Result<u64, Stop>
     ensures same { IsTrue D.told → IsSame (D.flash flash.old) (D.flash flash.new) }
 {
     let size = flash.size();
-    let mut gate = [0u8; 1];
-    match flash.read_at(CONFIG_GATE, &mut gate) {
-        Edge::Failed => return Err(Stop::Fault(Object::Flash)),
-        Edge::Done => {}
+    match has_open_gate(flash) {
+        Ok(false) => Ok(size),
+        Ok(true) => Err(declined(Reply::fixed(alloc, Outcome::NotBlank, "not blank\n"))),
+        Err(FlashFault) => Err(Stop::Fault(Object::Flash)),
     }
-    if gate[0] == OPEN {
-        return Err(declined(Reply::fixed(alloc, Outcome::NotBlank, "not blank\n")));
-    }
-    Ok(size)
 }
 
 // Formats the flash. The reply is made before the first write, so that memory cannot run out later.
@@ -83,7 +79,7 @@ fn init_as<H: Host, D: Disk>(
     host: &mut H,
     flash: &mut D,
 ) -> Result<Reply, Stop>
-    requires large { head_size VERSION_1 ≤ D.extent flash.old }
+    requires large { HEAD_SIZE ≤ D.extent flash.old }
     requires size { size ≡ D.extent flash.old }
     ensures answer { inits_as size device.now key_name.now
         (⟦<H as SeenHost>⟧.seen host.old (⟦<D as SeenDisk>⟧.seen flash.old))
@@ -110,7 +106,7 @@ pub(crate) fn init<H: Host, D: Disk>(
     host: &mut H,
     flash: &mut D,
 ) -> Result<Reply, Stop>
-    requires { head_size VERSION_1 ≤ D.extent flash.old }
+    requires { HEAD_SIZE ≤ D.extent flash.old }
     ensures answer { inits device.now key_name.now
         (⟦<H as SeenHost>⟧.seen host.old (⟦<D as SeenDisk>⟧.seen flash.old))
         (⟦<H as SeenHost>⟧.seen host.new (⟦<D as SeenDisk>⟧.seen flash.new)) (ending_of result) }

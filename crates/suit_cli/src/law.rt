@@ -5,6 +5,7 @@ ghost use Rattle.suit_cli.specs.RunLaws.{RunLaws};
 ghost use Rattle.suit_cli.specs.CommandLaws.{CheckLaws, ShowLaws};
 ghost use Rattle.suit_cli.specs.DescribingLaws.{DescribingLaws};
 ghost use Rattle.suit_cli.specs.MakeLaws.{MakeLaws};
+ghost use Rattle.suit_cli.specs.MigrateLaws.{MigrateLaws};
 ghost use Rattle.suit_cli.specs.DrillLaws.{DrillLaws};
 ghost use Rattle.suit_cli.specs.FlashLaws.{InitLaws, StatusLaws};
 ghost use Rattle.suit_cli.specs.UpdateEndLaws.{UpdateEndLaws};
@@ -75,6 +76,16 @@ pub fn status_laws()
 {
     config_laws();
     record_laws();
+}
+
+/// Does nothing. Its contract has the laws of `run migrate BASE` over a flash that tells what it holds: each reply has its
+/// cause, and where a cause stands, each answer is that reply, unless the flash failed or memory ran out. Where it is done,
+/// the flash has layout version 2 with that base, and tells what it told; and otherwise, and after memory ran out, the flash
+/// is as it was.
+pub fn migrate_laws()
+    ensures { MigrateLaws }
+{
+    config_laws();
 }
 
 /// Does nothing. Its contract has the laws of the words: each command that is built comes of the words that spell it and

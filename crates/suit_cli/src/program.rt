@@ -1,8 +1,7 @@
 //! The top call: all that the program does.
 
 ghost use Rattle.std.specs.Prelude.{◌≡◌, ◌≤◌, IsTrue, Some};
-ghost use Rattle.flash_layout.specs.declared.frame.TheConstants.{VERSION_1};
-ghost use Rattle.flash_layout.specs.Frames.{head_size};
+ghost use Rattle.flash_layout.specs.declared.frame.TheConstants.{HEAD_SIZE};
 ghost use Rattle.suit_cli.specs.Words.{RunBoot, task_of, task_said};
 ghost use Rattle.suit_cli.specs.Stages.{ending_of};
 ghost use Rattle.suit_cli.specs.Commands.{does};
@@ -28,6 +27,7 @@ use crate::check::check;
 use crate::drill::drill;
 use crate::init::init;
 use crate::make::make_envelope;
+use crate::migrate::run_migrate;
 use crate::outside::{SeenDisk, SeenHost, SeenLauncher, SeenSink};
 use crate::reply::{Outcome, Reply, Stop, declined};
 use crate::run_boot::run_boot;
@@ -49,7 +49,7 @@ use suit_manifest::{manifest_laws, members_laws};
 pub struct Status(pub u8);
 
 const USAGE: &str =
-    "usage: suit make DESCRIPTION KEY OUT | show FILE [KEY] | check FILE | run init DEVICE KEY | run update FILE [URI=NAME]... | run boot | run status | drill NUMBER\n";
+    "usage: suit make DESCRIPTION KEY OUT | show FILE [KEY] | check FILE | run init DEVICE KEY | run update FILE [URI=NAME]... | run boot | run status | run migrate BASE | drill NUMBER\n";
 
 // The answer to a command.
 fn perform<H: Host, D: Disk, L: Launcher>(
@@ -59,7 +59,7 @@ fn perform<H: Host, D: Disk, L: Launcher>(
     flash: &mut D,
     launcher: &mut L,
 ) -> Answer
-    requires { head_size VERSION_1 ≤ D.extent flash.old }
+    requires { HEAD_SIZE ≤ D.extent flash.old }
     ensures answer { Comes (does (task_said command.entry)) (λ task. task_said command.entry ≡ task)
         (⟦<L as SeenLauncher>⟧.seen launcher.old) (⟦<L as SeenLauncher>⟧.seen launcher.new)
         (⟦<H as SeenHost>⟧.seen host.old (⟦<D as SeenDisk>⟧.seen flash.old))
@@ -83,6 +83,7 @@ fn perform<H: Host, D: Disk, L: Launcher>(
         Command::RunUpdate(name, uris) => { run_update(alloc, name, &uris, host, flash, launcher) }
         Command::RunBoot => run_boot(alloc, host, flash, launcher),
         Command::RunStatus => Answer::Said(status(alloc, flash)),
+        Command::RunMigrate(base) => Answer::Said(run_migrate(alloc, base, flash)),
         Command::Drill(number) => Answer::Said(drill(alloc, number)),
     }
 }
@@ -95,7 +96,7 @@ fn answer<H: Host, D: Disk, L: Launcher>(
     flash: &mut D,
     launcher: &mut L,
 ) -> Answer
-    requires { head_size VERSION_1 ≤ D.extent flash.old }
+    requires { HEAD_SIZE ≤ D.extent flash.old }
     ensures answer { ComesTo words.now
         (⟦<L as SeenLauncher>⟧.seen launcher.old) (⟦<L as SeenLauncher>⟧.seen launcher.new)
         (⟦<H as SeenHost>⟧.seen host.old (⟦<D as SeenDisk>⟧.seen flash.old))
@@ -159,8 +160,8 @@ fn put<K: Sink>(out: &mut K, answer: Answer) -> Status
     }
 }
 
-/// Runs the program. The words leave out its name. The flash must have at least 49,152 bytes, where the configuration, the
-/// records and the banks are. What follows of each run is the law `run_laws`.
+/// Runs the program. The words leave out its name. The flash must have at least 49,152 bytes, the head of layout version 1:
+/// the root stands in it too. What follows of each run is the law `run_laws`.
 pub fn run<H: Host, D: Disk, L: Launcher, K: Sink>(
     alloc: Global,
     words: &Names,
@@ -169,13 +170,14 @@ pub fn run<H: Host, D: Disk, L: Launcher, K: Sink>(
     launcher: &mut L,
     out: &mut K,
 ) -> Status
-    requires { head_size VERSION_1 ≤ D.extent flash.old }
+    requires { HEAD_SIZE ≤ D.extent flash.old }
 
     // The answer to the words: stage by stage from what the host and the flash tell, or from a boot or an update, of
     // which the launcher tells as well. Its lines are put, whole or up to a fault of the sink, and its status is returned.
     // By this very answer the flash was kept at each moment. Of a settled flash, `run update` leaves the old record and the
     // contents of all slots that it may not write, or the new record and the contents that its procedure made, which was
     // played to its end; where it was not, the old record stands. `run boot` leaves all but slots that its procedure may write.
+    // `run migrate` leaves layout version 1 or 2, each telling what the flash told.
     ensures runs { Runs words.now
         (world (⟦<H as SeenHost>⟧.seen host.old (⟦<D as SeenDisk>⟧.seen flash.old))
         (⟦<L as SeenLauncher>⟧.seen launcher.old) (⟦<K as SeenSink>⟧.seen out.old)

@@ -46,6 +46,8 @@ pub enum Outcome {
     Absent,
     /// A file is longer than its limit.
     TooLong,
+    /// The flash has layout version 2 already.
+    SecondLayout,
 }
 
 impl Outcome {
@@ -68,6 +70,7 @@ impl Outcome {
             Outcome::UnknownComponent => 18,
             Outcome::Absent => 20,
             Outcome::TooLong => 21,
+            Outcome::SecondLayout => 22,
         }
     }
 }

@@ -52,8 +52,8 @@ fn update_by<H: Host, D: Disk, L: Launcher>(
     requires held { IsTrue D.told
         → ConfigOf (D.extent flash.old) (D.flash flash.old).reads
         (Configured config.now.0 config.now.1 config.now.2) }
-    requires accepted { IsAccepted config.now.0 config.now.1 accepted.now.envelope.whole.now
-        (admission_of accepted.now) }
+    requires accepted { IsAccepted config.now.2 config.now.0 config.now.1
+        accepted.now.envelope.whole.now (admission_of accepted.now) }
     requires wrapper { HasWrapper accepted.now.envelope.wrapper.now }
     requires other { HaveOtherPlaces accepted.now.manifest.components accepted.now.places }
     requires fits { length accepted.now.envelope.whole.now < 2 ^ 64 }
@@ -136,7 +136,7 @@ pub(crate) fn run_update<H: Host, D: Disk, L: Launcher>(
         Ok(bytes) => bytes,
         Err(stop) => return Answer::Said(Err(stop)),
     };
-    let accepted = match accept(alloc, &config.0, &config.1, bytes.as_slice()) {
+    let accepted = match accept(alloc, &config.0, config.2, &config.1, bytes.as_slice()) {
         Ok(accepted) => accepted,
         Err(stop) => return Answer::Said(Err(stop)),
     };

@@ -31,6 +31,8 @@ pub(crate) enum Command<'a> {
     RunBoot,
     /// To show what is installed in the flash.
     RunStatus,
+    /// To migrate the flash to layout version 2 with this base.
+    RunMigrate(u64),
     /// To run rounds that are drawn from this number, on a flash in memory.
     Drill(u64),
 }
@@ -80,6 +82,7 @@ fn built<'a>(
         }
         command_words::Command::Boot => Some(Command::RunBoot),
         command_words::Command::Status => Some(Command::RunStatus),
+        command_words::Command::Migrate { base } => Some(Command::RunMigrate(base)),
         command_words::Command::Drill { number } => Some(Command::Drill(number)),
     })
 }

@@ -89,6 +89,7 @@ fn uris_asked(command: Option<Command<'_>>) -> Option<Uris>
             | Command::RunInit(..)
             | Command::RunBoot
             | Command::RunStatus
+            | Command::RunMigrate(_)
             | Command::Drill(_),
         )
         | None => None,

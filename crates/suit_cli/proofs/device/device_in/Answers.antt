@@ -1,7 +1,4 @@
-use Rattle.std.proofs.Common.{◌≤◌, subst, sym, Err}
-use Rattle.flash_layout.specs.declared.frame.Frame.{Frame}
-use Rattle.flash_layout.specs.FirstFrame.{of_version}
-use Rattle.flash_layout.specs.Frames.{head_size}
+use Rattle.std.proofs.Common.{subst, sym, Err}
 use Rattle.suit_cli.specs.declared.reply.Stop.{Stop}
 use Rattle.suit_cli.specs.Devices.{device_in}
 use Rattle.suit_cli.specs.Stages.{Does}
@@ -17,10 +14,10 @@ returns-in_err-value-clause-finds c here =
 pub returns-in-Ok-clause-finds : goal.returns-in-Ok-clause-finds
 returns-in-Ok-clause-finds c here =
     let text = (c.in_ok-value.ensures anywhere).1 in
-    layout_there c.args.size c.args.bytes.now _ c.in-Ok.layout c.in-Ok.frame text.utf8 text.reads c.in-Ok.ensures.ok c.in-Ok.ensures.version here
+    layout_there c.args.size c.args.bytes.now _ c.in-Ok.layout c.in-Ok.frame text.utf8 text.reads c.in-Ok.ensures.ok here
 
 pub returns-in-Ok-clause-placed : goal.returns-in-Ok-clause-placed
-returns-in-Ok-clause-placed c room = of_version c.args.size c.in-Ok.frame c.in-Ok.ensures.version (subst (λ (f : Frame). head_size f ≤ c.args.size) (sym c.in-Ok.ensures.version) room)
+returns-in-Ok-clause-placed c room = c.in-Ok.ensures.placed room
 
 pub returns-clause-finds : goal.returns-clause-finds
 returns-clause-finds c here =

@@ -1,6 +1,6 @@
 use Rattle.std.proofs.Common.{ℕ, ◌≤◌, List, length, Ok, Err, sym, ap, subst, ◌∙◌}
-use Rattle.flash_layout.specs.declared.frame.TheConstants.{VERSION_1}
-use Rattle.flash_layout.specs.Frames.{IsFrame, head_size}
+use Rattle.flash_layout.specs.declared.frame.TheConstants.{HEAD_SIZE}
+use Rattle.flash_layout.specs.Frames.{IsFrame}
 use Rattle.flash_layout.specs.Layouts.{IsLayout}
 use Rattle.suit_cli.specs.Stages.{Goes}
 use Rattle.suit_cli.specs.Devices.{key_of}
@@ -39,7 +39,7 @@ formats-requires-clause-layout g c = subst (λ (n : ℕ). IsLayout c.in_ok-layou
 pub formats-requires-clause-frame : goal.formats-requires-clause-frame
 formats-requires-clause-frame g c =
     subst (λ (n : ℕ). IsFrame n c.in_ok-layout.frame) c.requires.size
-    (c.in_ok-layout.ensures.placed (subst (λ (n : ℕ). head_size VERSION_1 ≤ n) (sym c.requires.size) c.requires.large))
+    (c.in_ok-layout.ensures.placed (subst (λ (n : ℕ). HEAD_SIZE ≤ n) (sym c.requires.size) c.requires.large))
 
 pub key_of-key-requires-clause-some : goal.key_of-key-requires-clause-some
 key_of-key-requires-clause-some g c = subst (λ (l : List ℕ). 1 ≤ length l) (sym c.as_slice-2.ensures) (some_bytes _ (c.in_ok-key_bytes.ensures anywhere.flash).1.some)

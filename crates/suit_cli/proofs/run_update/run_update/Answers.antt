@@ -3,9 +3,7 @@ use Rattle.suit_edge.specs.Flash.{IsFlash}
 use Rattle.suit_cli.specs.Launching.{Launching}
 use Rattle.suit_cli.specs.Coming.{ended_of}
 use Rattle.admission.specs.Admission.{admission_of}
-use Rattle.flash_layout.specs.declared.frame.Frame.{Frame}
-use Rattle.flash_layout.specs.FirstFrame.{to_first}
-use Rattle.flash_layout.specs.Frames.{most}
+use Rattle.step_machine.proofs.Fitting.{few_entries}
 use Rattle.suit_cli.proofs.Chains.{anywhere, flash_at, outside_at}
 use Rattle.suit_cli.proofs.Sounding.{allowed_after, held_after, settled_later}
 use Rattle.suit_cli.proofs.UpdateAnswers.{accepted_as, comes_updated, keeps_as, keeps_since, unaccepted_as, unaccepted_update, unconfigured_update, unread_update, updates_as}
@@ -35,14 +33,14 @@ returns-in-Err-accept-clause-answer g c =
     let h = g.H.Host in
     let here = outside_at h.told (h.file c.args.host.now) (h.pulled c.args.host.now) (h.asked c.args.host.now) (h.faults c.args.host.now) anywhere.flash in
     unaccepted_update c.args.name.now c.args.uris.now _ _ c.in-Ok.config.0 c.in-Ok.config.1 c.in-Ok.config.2 _ (c.in-Ok.ensures.finds here) c.in-Ok-read.bytes _ (c.in-Ok-read.ensures _) c.in-Err-accept.stop
-    (unaccepted_as c.in-Ok.config.0 c.in-Ok.config.1 _ _ c.as_slice.ensures c.in-Err-accept.stop c.in-Err-accept.ensures.finds _)
+    (unaccepted_as c.in-Ok.config.2 c.in-Ok.config.0 c.in-Ok.config.1 _ _ c.as_slice.ensures c.in-Err-accept.stop c.in-Err-accept.ensures.finds _)
 
 pub returns-in-Err-accept-clause-keeps : goal.returns-in-Err-accept-clause-keeps
 returns-in-Err-accept-clause-keeps g c told settled = c.in-Ok.ensures.same told
 
 pub accept-requires-clause-entries : goal.accept-requires-clause-entries
 accept-requires-clause-entries g c =
-    to_first _ _ c.in-Ok.ensures.allowed.frame_is (λ (f : Frame). length c.in-Ok.config.0 ≤ most f) c.in-Ok.ensures.allowed.layout_is.few
+    few_entries c.in-Ok.config.2 _ c.in-Ok.config.0 c.in-Ok.ensures.allowed.layout_is
 
 pub accept-requires-clause-key : goal.accept-requires-clause-key
 accept-requires-clause-key g c = c.in-Ok.ensures.allowed.key_is
@@ -55,7 +53,7 @@ update_by-requires-clause-held g c told =
     held_after c.in-Ok.config.0 c.in-Ok.config.1 c.in-Ok.config.2 _ _ _ _ c.in-Ok.ensures.extent (c.in-Ok.ensures.same told).reads ((c.in-Ok.ensures.finds anywhere).1 told)
 
 pub update_by-requires-clause-accepted : goal.update_by-requires-clause-accepted
-update_by-requires-clause-accepted g c = accepted_as c.in-Ok.config.0 c.in-Ok.config.1 _ _ (sym c.in-Ok-accept.ensures.whole) (admission_of c.in-Ok-accept.accepted) (c.in-Ok-accept.ensures.finds anywhere).1
+update_by-requires-clause-accepted g c = accepted_as c.in-Ok.config.2 c.in-Ok.config.0 c.in-Ok.config.1 _ _ (sym c.in-Ok-accept.ensures.whole) (admission_of c.in-Ok-accept.accepted) (c.in-Ok-accept.ensures.finds anywhere).1
 
 pub update_by-requires-clause-wrapper : goal.update_by-requires-clause-wrapper
 update_by-requires-clause-wrapper g c = c.in-Ok-accept.ensures.wrapper
@@ -74,7 +72,7 @@ returns-clause-answer g c =
     let h = g.H.Host in
     let here = outside_at h.told (h.file c.args.host.now) (h.pulled c.args.host.now) (h.asked c.args.host.now) (h.faults c.args.host.now) anywhere.flash in
     comes_updated c.args.name.now c.args.uris.now _ _ c.in-Ok.config.0 c.in-Ok.config.1 c.in-Ok.config.2 _ (c.in-Ok.ensures.finds here) c.in-Ok-read.bytes _ (c.in-Ok-read.ensures _) _ _ (admission_of c.in-Ok-accept.accepted)
-    (accepted_as c.in-Ok.config.0 c.in-Ok.config.1 _ _ c.as_slice.ensures (admission_of c.in-Ok-accept.accepted) (c.in-Ok-accept.ensures.finds anywhere).1) _
+    (accepted_as c.in-Ok.config.2 c.in-Ok.config.0 c.in-Ok.config.1 _ _ c.as_slice.ensures (admission_of c.in-Ok-accept.accepted) (c.in-Ok-accept.ensures.finds anywhere).1) _
     (updates_as c.in-Ok.config.2 c.in-Ok.config.0 _ _ (c.in-Ok-accept.ensures.whole ∙ c.as_slice.ensures) (admission_of c.in-Ok-accept.accepted) c.args.uris.now _ _ _ _ _ c.update_by.ensures.answer)
 
 pub returns-clause-keeps : goal.returns-clause-keeps
@@ -90,7 +88,7 @@ returns-clause-keeps g c told settled =
     keeps_since c.args.name.now c.args.uris.now l m before middle refl (c.in-Ok-read.ensures anywhere.flash).0.quiet.files (g.D.Disk.extent c.args.flash.now) refl
     (g.D.Disk.flash c.args.flash.now) (g.D.Disk.flash c.config_in.new.flash) (g.D.Disk.flash c.update_by.new.flash)
     (g.met.D.Disk.obeys c.args.flash.now told) law same c.in-Ok.config.0 c.in-Ok.config.1 c.in-Ok.config.2 c.in-Ok.ensures.allowed ((c.in-Ok.ensures.finds anywhere).1 told) settled c.in-Ok-read.bytes (c.in-Ok-read.ensures _).1
-    (admission_of c.in-Ok-accept.accepted) (accepted_as c.in-Ok.config.0 c.in-Ok.config.1 _ _ c.as_slice.ensures (admission_of c.in-Ok-accept.accepted) (c.in-Ok-accept.ensures.finds anywhere).1)
+    (admission_of c.in-Ok-accept.accepted) (accepted_as c.in-Ok.config.2 c.in-Ok.config.0 c.in-Ok.config.1 _ _ c.as_slice.ensures (admission_of c.in-Ok-accept.accepted) (c.in-Ok-accept.ensures.finds anywhere).1)
     c.config_laws.ensures.answer (ended_of c.update_by.result) (keeps_as c.in-Ok.config.2 c.in-Ok.config.0 _ _ (c.in-Ok-accept.ensures.whole ∙ c.as_slice.ensures) (admission_of c.in-Ok-accept.accepted) c.args.uris.now l m middle (ended_of c.update_by.result)
     (g.D.Disk.flash c.config_in.new.flash) (g.D.Disk.flash c.update_by.new.flash)
     (c.update_by.ensures.keeps told (settled_later _ _ _ law same settled)))

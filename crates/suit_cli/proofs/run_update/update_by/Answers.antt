@@ -1,8 +1,6 @@
 use Rattle.std.proofs.Common.{◌≤◌, ℕ, ◌^◌, inr, ⊎_elim, length, refl, sym, ap, subst, arith}
 use Rattle.suit_edge.specs.FlashLaws.{same_flash}
-use Rattle.suit_envelope.specs.Trimmed.{trimmed}
 use Rattle.flash_layout.specs.Configs.{ConfigOf, Configured}
-use Rattle.flash_layout.specs.FrameFacts as frames
 use Rattle.rollback_record.specs.SoundFlash.{Settled}
 use Rattle.admission.specs.Admission.{admission_of}
 use Rattle.step_machine.specs.Fetching.{asked_at}
@@ -25,34 +23,32 @@ update-end-requires-clause-layout g c = c.requires.allowed.layout_is
 
 pub update-end-requires-clause-distinct : goal.update-end-requires-clause-distinct
 update-end-requires-clause-distinct g c =
-    distinct c.manifest_laws.ensures c.args.config.now.0 c.args.config.now.1 c.args.accepted.now.envelope.whole.now (admission_of c.args.accepted.now) (facts c.args.config.now.0 c.args.config.now.1 c.args.accepted.now.envelope.whole.now (admission_of c.args.accepted.now) c.requires.accepted) c.requires.other
+    distinct c.manifest_laws.ensures c.args.config.now.2 c.args.config.now.0 c.args.config.now.1 c.args.accepted.now.envelope.whole.now (admission_of c.args.accepted.now) (facts c.args.config.now.2 c.args.config.now.0 c.args.config.now.1 c.args.accepted.now.envelope.whole.now (admission_of c.args.accepted.now) c.requires.accepted) c.requires.other
 
 pub update-end-requires-clause-count : goal.update-end-requires-clause-count
-update-end-requires-clause-count g c = sym (facts c.args.config.now.0 c.args.config.now.1 c.args.accepted.now.envelope.whole.now (admission_of c.args.accepted.now) c.requires.accepted).placed.count
+update-end-requires-clause-count g c = sym (facts c.args.config.now.2 c.args.config.now.0 c.args.config.now.1 c.args.accepted.now.envelope.whole.now (admission_of c.args.accepted.now) c.requires.accepted).placed.count
 
 pub update-end-requires-clause-plan : goal.update-end-requires-clause-plan
 update-end-requires-clause-plan g c =
-    let f = facts c.args.config.now.0 c.args.config.now.1 c.args.accepted.now.envelope.whole.now (admission_of c.args.accepted.now) c.requires.accepted in
+    let f = facts c.args.config.now.2 c.args.config.now.0 c.args.config.now.1 c.args.accepted.now.envelope.whole.now (admission_of c.args.accepted.now) c.requires.accepted in
     c.procedure_laws.ensures.update _ f.says.item _ _ _ f.says.says_so f.members
 
 pub update-end-requires-clause-manifest : goal.update-end-requires-clause-manifest
-update-end-requires-clause-manifest g c = (facts c.args.config.now.0 c.args.config.now.1 c.args.accepted.now.envelope.whole.now (admission_of c.args.accepted.now) c.requires.accepted).says
+update-end-requires-clause-manifest g c = (facts c.args.config.now.2 c.args.config.now.0 c.args.config.now.1 c.args.accepted.now.envelope.whole.now (admission_of c.args.accepted.now) c.requires.accepted).says
 
 pub update-end-requires-clause-members : goal.update-end-requires-clause-members
-update-end-requires-clause-members g c = (facts c.args.config.now.0 c.args.config.now.1 c.args.accepted.now.envelope.whole.now (admission_of c.args.accepted.now) c.requires.accepted).members
+update-end-requires-clause-members g c = (facts c.args.config.now.2 c.args.config.now.0 c.args.config.now.1 c.args.accepted.now.envelope.whole.now (admission_of c.args.accepted.now) c.requires.accepted).members
 
 pub update-end-requires-clause-ends : goal.update-end-requires-clause-ends
 update-end-requires-clause-ends g c =
-    c.envelope_laws.ensures.ends c.args.accepted.now.envelope.whole.now _ (2 ^ 64) (facts c.args.config.now.0 c.args.config.now.1 c.args.accepted.now.envelope.whole.now (admission_of c.args.accepted.now) c.requires.accepted).envelope c.requires.fits
+    c.envelope_laws.ensures.ends c.args.accepted.now.envelope.whole.now _ (2 ^ 64) (facts c.args.config.now.2 c.args.config.now.0 c.args.config.now.1 c.args.accepted.now.envelope.whole.now (admission_of c.args.accepted.now) c.requires.accepted).envelope c.requires.fits
 
 pub update-end-requires-clause-wrapper : goal.update-end-requires-clause-wrapper
 update-end-requires-clause-wrapper g c = c.requires.wrapper
 
 pub update-end-requires-clause-fits : goal.update-end-requires-clause-fits
 update-end-requires-clause-fits g c =
-    let short : length (trimmed c.args.accepted.now.envelope.wrapper.now c.args.accepted.now.envelope.manifest.now) ≤ 16384 =
-    (facts c.args.config.now.0 c.args.config.now.1 c.args.accepted.now.envelope.whole.now (admission_of c.args.accepted.now) c.requires.accepted).is_short in
-    omega (arith, short, (frames.facts (g.D.Disk.extent c.args.flash.now) c.args.config.now.2 c.requires.allowed.frame_is).large)
+    (facts c.args.config.now.2 c.args.config.now.0 c.args.config.now.1 c.args.accepted.now.envelope.whole.now (admission_of c.args.accepted.now) c.requires.accepted).is_short
 
 pub update-end-requires-clause-config : goal.update-end-requires-clause-config
 update-end-requires-clause-config g c told = (c.args.config.now.1, c.requires.held told)
@@ -60,7 +56,7 @@ update-end-requires-clause-config g c told = (c.args.config.now.1, c.requires.he
 pub returns-clause-answer : goal.returns-clause-answer
 returns-clause-answer g c =
     let u = c.update-end.ensures in
-    let f = facts c.args.config.now.0 c.args.config.now.1 c.args.accepted.now.envelope.whole.now (admission_of c.args.accepted.now) c.requires.accepted in (
+    let f = facts c.args.config.now.2 c.args.config.now.0 c.args.config.now.1 c.args.accepted.now.envelope.whole.now (admission_of c.args.accepted.now) c.requires.accepted in (
       record {
         alone = record { told = refl; files = u.files; flash_told = refl; size = u.size; launcher_told = refl };
         counts = u.counts;
@@ -87,7 +83,7 @@ pub returns-clause-flash : goal.returns-clause-flash
 returns-clause-flash g c told =
     let a = g.D.Disk.flash c.args.flash.now in
     let config = subst (λ (n : ℕ). ConfigOf n a.reads (Configured c.args.config.now.0 c.args.config.now.1 c.args.config.now.2)) (sym (g.met.D.Disk.obeys c.args.flash.now told).fits) (c.requires.held told) in
-    let sound = λ (settled : Settled a). sound_update c.config_laws.ensures.answer c.args.config.now.2 c.args.config.now.0 c.args.config.now.1 a.reads config c.installation_laws.ensures c.args.accepted.now.envelope.whole.now (admission_of c.args.accepted.now) (facts c.args.config.now.0 c.args.config.now.1 c.args.accepted.now.envelope.whole.now (admission_of c.args.accepted.now) c.requires.accepted)
+    let sound = λ (settled : Settled a). sound_update c.config_laws.ensures.answer c.args.config.now.2 c.args.config.now.0 c.args.config.now.1 a.reads config c.installation_laws.ensures c.args.accepted.now.envelope.whole.now (admission_of c.args.accepted.now) (facts c.args.config.now.2 c.args.config.now.0 c.args.config.now.1 c.args.accepted.now.envelope.whole.now (admission_of c.args.accepted.now) c.requires.accepted)
     a (g.D.Disk.flash c.update-end.new.disk) settled.sound (c.update-end.ensures.sound told settled) in
     record {
       any_moment = record { later = c.update-end.ensures.later told; each = λ image may. tt; before = λ t image le may. inr tt };

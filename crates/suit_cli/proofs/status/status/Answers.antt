@@ -38,8 +38,11 @@ component_lines-requires-clause-few g c =
 
 pub component_lines-requires-clause-each : goal.component_lines-requires-clause-each
 component_lines-requires-clause-each g c =
-    subst (λ (l : List Entry). All (IsEntry (g.D.Disk.extent c.record_in.new.flash)) l) (sym c.as_slice.ensures)
-    (subst (λ (n : ℕ). All (IsEntry n) c.in_ok-config.config.0) (sym (c.in_ok-installed.ensures.extent ∙ c.in_ok-config.ensures.extent)) c.in_ok-config.ensures.allowed.layout_is.each)
+    let frame = c.in_ok-config.config.2 in (
+      frame,
+      subst (λ (l : List Entry). All (IsEntry frame (g.D.Disk.extent c.record_in.new.flash)) l) (sym c.as_slice.ensures)
+          (subst (λ (n : ℕ). All (IsEntry frame n) c.in_ok-config.config.0) (sym (c.in_ok-installed.ensures.extent ∙ c.in_ok-config.ensures.extent)) c.in_ok-config.ensures.allowed.layout_is.each),
+    )
 
 pub returns-in_err-lines-clause-answer : goal.returns-in_err-lines-clause-answer
 returns-in_err-lines-clause-answer g c here =

@@ -1,11 +1,13 @@
-use Rattle.std.proofs.Common.{◌∙◌, refl, arith}
+use Rattle.std.proofs.Common.{◌∙◌, ⊎_elim, refl, arith}
 use Rattle.flash_layout.specs.FirstFrame.{version_1}
 use Rattle.suit_cli.specs.DrillDevice.{flash_size}
 use Rattle.suit_cli.proofs.DrillDevices.{is_first, is_ready, never_open, sized}
 use Rattle.suit_cli.proofs.drill.device.new_flash.Goals as goal
 
 pub unreachable-requires : goal.unreachable-requires
-unreachable-requires c = never_open c.in_ok-disk.disk _ flash_size _ c.in_ok-disk.ensures.state (omega arith) (c.in-NotBlank.ensures.not_blank refl).0
+unreachable-requires c =
+    ⊎_elim (never_open c.in_ok-disk.disk _ flash_size 0 c.in_ok-disk.ensures.state (omega arith)) (never_open c.in_ok-disk.disk _ flash_size 45056 c.in_ok-disk.ensures.state (omega arith))
+    (c.in-NotBlank.ensures.not_blank refl).0
 
 pub returns-in-Done-clause-first : goal.returns-in-Done-clause-first
 returns-in-Done-clause-first c =
