@@ -134,3 +134,10 @@ pub(crate) fn blank(alloc: Global, fails: &[u64]) -> Result<MemoryDisk, AllocErr
 {
     MemoryDisk::new(alloc, 65_536, fails)
 }
+
+/// A flash of 327,680 zero bytes, which has room for layout version 2.
+pub(crate) fn blank_large(alloc: Global) -> Result<MemoryDisk, AllocError>
+    ensures { IfOk result (λ flash. length flash.first ≡ 327680) }
+{
+    MemoryDisk::new(alloc, 327_680, &[])
+}

@@ -10,8 +10,7 @@ ghost use Rattle.suit_cli.specs.Program.{
   KeepsLauncher,
 };
 ghost use Rattle.suit_cli.specs.Words.{RunBoot, task_of};
-ghost use Rattle.flash_layout.specs.declared.frame.TheConstants.{VERSION_1};
-ghost use Rattle.flash_layout.specs.Frames.{head_size};
+ghost use Rattle.flash_layout.specs.declared.frame.TheConstants.{HEAD_SIZE};
 
 use det_cbor::Names;
 use std::alloc::Global;
@@ -27,7 +26,7 @@ pub(crate) fn run_by_laws<H: Host, D: Disk, L: Launcher, K: Sink>(
     launcher: &mut L,
     sink: &mut K,
 ) -> Status
-    requires { head_size VERSION_1 ≤ D.extent flash.old }
+    requires { HEAD_SIZE ≤ D.extent flash.old }
     ensures size { D.extent flash.new ≡ D.extent flash.old }
     ensures usage { result.0 ≡ 2 →
         IsUsage words.now (⟦<K as SeenSink>⟧.seen sink.old) (⟦<K as SeenSink>⟧.seen sink.new) }

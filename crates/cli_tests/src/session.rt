@@ -35,7 +35,7 @@ component 0 slot 1 length 3";
 
 /// What wrong words are answered. A row names the line `USAGE`.
 const USAGE: &str =
-    "usage: suit make DESCRIPTION KEY OUT | show FILE [KEY] | check FILE | run init DEVICE KEY | run update FILE [URI=NAME]... | run boot | run status | drill NUMBER";
+    "usage: suit make DESCRIPTION KEY OUT | show FILE [KEY] | check FILE | run init DEVICE KEY | run update FILE [URI=NAME]... | run boot | run status | run migrate BASE | drill NUMBER";
 
 /// A command, and what it ends with.
 #[derive(Clone, Copy)]

@@ -1,6 +1,7 @@
 //! The tests.
 
 mod accepted;
+mod based;
 mod check;
 mod cut;
 mod damage;
@@ -11,6 +12,7 @@ mod failing;
 mod goes;
 mod installed;
 mod make;
+pub(crate) mod migrated;
 mod nor;
 mod procedures;
 mod real_files;

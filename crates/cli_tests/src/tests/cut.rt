@@ -2,5 +2,6 @@
 
 pub(crate) mod after;
 mod faults;
-mod losses;
+pub(crate) mod losses;
+mod migrations;
 pub(crate) mod recorded;

@@ -6,7 +6,7 @@ use std::alloc::AllocError;
 
 const DRILL: &str = "drill 7
 0
-drill 7: rounds 200, installed 123, stopped 61, cut 16, launches 200, wrong 0";
+drill 7: rounds 200, installed 123, stopped 59, cut 18, launches 200, wrong 0";
 
 #[test]
 fn a_drill_is_the_same_again(rt: HostRuntime) -> Result<(), AllocError> {

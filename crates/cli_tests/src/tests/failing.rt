@@ -40,7 +40,7 @@ fn each_is_told(alloc: Global, object: Object, calls: u64, status: u8) -> Result
 /// As many calls as the commands make of each object.
 const HOST_CALLS: u64 = 34;
 
-const FLASH_CALLS: u64 = 43;
+const FLASH_CALLS: u64 = 48;
 
 const LAUNCHES: u64 = 2;
 

@@ -5,7 +5,8 @@ use crate::session::BEGUN;
 use crate::tests::goes::{both_go, both_launch};
 use std::alloc::AllocError;
 
-/// A flash with a digest by SHA-256, byte for byte: the configuration, the record, its envelope, and the content of slot 1.
+/// A flash of layout version 1 with a digest by SHA-256, byte for byte: the configuration, the record, its envelope, and the
+/// content of slot 1.
 const STORED: &str = "flash 0
 a5010501 61206b6579 00*59 0002 038141 00*62 00*17 00*17 00*17 0000000000000400 000000000000c000 000000000000c408 00*994
 

@@ -100,7 +100,7 @@ run update 1.suit img=abc.img
 installed 1";
 
 // The first call of the flash that this fetch makes.
-const FIRST_OF_FETCH: u64 = 13;
+const FIRST_OF_FETCH: u64 = 16;
 
 const FAILED_RECORD: &str = "run update 1.suit img=abc.img
 8
@@ -115,7 +115,7 @@ run update 1.suit img=abc.img
 installed 1";
 
 // The last call of the flash without which nothing is recorded.
-const LAST_OF_RECORD: u64 = 25;
+const LAST_OF_RECORD: u64 = 28;
 
 const FAILED_LAUNCH: &str = "make 1-at-once.json k u.suit
 0

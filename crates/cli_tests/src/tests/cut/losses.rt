@@ -8,8 +8,8 @@ use crate::tests::cut::recorded::{ON_ONE, ON_TWO, Sessions, UPDATE, goes_unlaunc
 use std::alloc::{AllocError, Global};
 use suit_edge::{FuseDisk, Host, MemoryDisk};
 
-// Which of the writes since the last sync a loss keeps: none, all, and every other one.
-const CHOICES: [u64; 3] = [0, u64::MAX, 0xAAAA_AAAA_AAAA_AAAA];
+/// Which of the writes since the last sync a loss keeps: none, all, and every other one.
+pub(crate) const CHOICES: [u64; 3] = [0, u64::MAX, 0xAAAA_AAAA_AAAA_AAAA];
 
 /// A flash after the second update, and how that ended.
 #[derive(Drop)]

@@ -1,0 +1,298 @@
+//! Sessions on a flash whose layout has a base: version 2.
+
+ghost use Rattle.std.specs.Prelude.{◌<◌};
+
+use crate::files::{blank_large, with_files};
+use crate::session::{are_launched, goes_after};
+use std::alloc::{AllocError, Global};
+use suit_edge::{MemoryHost, MemoryLauncher};
+
+/// Bases that are refused leave the flash blank: too low and too high by one, over a slot, and no number.
+const REFUSED: &str = r#"text r.json
+{"base":49151,"components":[{"capacity":1024,"id":["00"],"kind":"flash","slots":[49152,50184]}]}
+
+run init r.json k
+3
+base is outside
+
+text r.json
+{"base":102401,"components":[{"capacity":1024,"id":["00"],"kind":"flash","slots":[49152,50184]}]}
+
+run init r.json k
+3
+base is outside
+
+text r.json
+{"base":50000,"components":[{"capacity":1024,"id":["00"],"kind":"flash","slots":[49152,50184]}]}
+
+run init r.json k
+3
+base overlaps slot of 0
+
+text r.json
+{"base":"65536","components":[{"capacity":1024,"id":["00"],"kind":"flash","slots":[49152,50184]}]}
+
+run init r.json k
+3
+bad field /base
+
+run status
+13
+blank"#;
+
+/// As many components as there may be, with the highest base; one more is refused. Then a base that lies between two slots,
+/// and the lowest one, before both: nothing is left between them.
+const TAKEN: &str = r#"run init 33.json k
+3
+33 components
+
+run init 32.json k
+0
+ready
+
+stands 45056
+a502 0000000000019000
+
+run status
+15
+nothing installed
+
+flash 45056
+00
+
+text r.json
+{"base":50184,"components":[{"capacity":1024,"id":["00"],"kind":"flash","slots":[49152,275464]}]}
+
+run init r.json k
+0
+ready
+
+flash 45056
+00
+
+text r.json
+{"base":49152,"components":[{"capacity":1024,"id":["00"],"kind":"flash","slots":[274432,275464]}]}
+
+run init r.json k
+0
+ready"#;
+
+/// The root, and the configuration page at the base: gate, version, the length of the key and the count of components; the
+/// key; the component, and zeros. Byte 0 stays closed.
+const FORMATTED: &str = r#"text based.json
+{"base":65536,"components":[{"capacity":1024,"id":["00"],"kind":"flash","slots":[49152,50184]}]}
+
+run init based.json k
+0
+ready
+
+stands 0
+00
+
+stands 45056
+a502 0000000000010000 00
+
+stands 65536
+a5020501 61206b6579 00*59 0002 038141 00*62 00*51 0000000000000400 000000000000c000000000000000c408 00*4402
+
+run init based.json k
+14
+not blank
+
+run init d k
+14
+not blank
+
+run status
+15
+nothing installed
+
+run boot
+15
+nothing installed"#;
+
+/// An open root is judged whatever byte 0 is: of another version, or with a base that is outside, it is bad, never blank.
+const DAMAGED: &str = "flash 0
+a5
+
+run status
+15
+nothing installed
+
+flash 45057
+03
+
+run status
+13
+bad config
+
+flash 45057
+02 00000000000190 01
+
+run boot
+13
+bad config
+
+flash 0
+00
+
+run init d k
+14
+not blank
+
+flash 45056
+00
+
+run status
+13
+blank
+
+run init d k
+0
+ready";
+
+/// A flash is formatted with a base, and an update is installed and started: a record page, the bank's first bytes, and
+/// what is told. Where version 1 has its records nothing stands.
+const INSTALLED: &str = r#"text based.json
+{"base":65536,"components":[{"capacity":1024,"id":["00"],"kind":"flash","slots":[49152,50184]}]}
+
+run init based.json k
+0
+ready
+
+make 1.json k 1.suit
+0
+made 175
+
+run update 1.suit img=abc.img
+0
+installed 1
+
+stands 73728
+a5 0000000000000001 0000000000000001 00 00000000000000af 20 2ede1de95a655c3dae8ceff0cb6a7dab3112f7110678df0ef8653bf63c795c99 00*32 01 00*31
+
+stands 77824
+00
+
+stands 81920
+d86ba2025853825824822f58202ede1de95a655c3dae8ceff0cb6a7dab3112f7110678df0ef8653bf63c795c99
+
+stands 0
+00*45056
+
+run status
+0
+FIRST UPDATE
+
+run boot
+0
+ended"#;
+
+/// An envelope that no bank of version 1 holds, behind a reference of 20,000 bytes, is installed, and an older one no more.
+const LONG: &str = r#"change long.json 2.json
+208 0 2c227265666572656e6365223a22 6f*20000 22
+
+make long.json k long.suit
+0
+made 20180
+
+run update long.suit img=abd.img
+0
+installed 2
+
+stands 77824
+a5 0000000000000002 0000000000000002 01 0000000000004ed4 20 e181552569c65d00c35f59e06c347f249195a5ff3fdec59b15a0d850b3714922 00*32 00*32
+
+run update 1.suit img=abc.img
+5
+rollback: recorded 2, offered 1
+
+run status
+0
+sequence 2
+generation 2
+bank 1
+digest e181552569c65d00c35f59e06c347f249195a5ff3fdec59b15a0d850b3714922
+component 0 slot 0 length 3
+
+run boot
+0
+ended"#;
+
+/// Without a base it is too long.
+const TOO_LONG: &str = "run init d k
+0
+ready
+
+change long.json 2.json
+208 0 2c227265666572656e6365223a22 6f*20000 22
+
+make long.json k long.suit
+0
+made 20180
+
+run update long.suit img=abd.img
+21
+too long envelope";
+
+/// Nothing is started.
+const NOTHING: &str = "run boot
+15
+nothing installed";
+
+// A device of so many components in working memory, with the highest base.
+fn device_of(alloc: Global, count: usize) -> Result<String, AllocError>
+    requires { count < 90 }
+{
+    let mut text = String::new(alloc);
+    text.push_str(r#"{"base":102400,"components":["#)?;
+    for k in 0..count {
+        let comma = if k == 0 { "" } else { "," };
+        let id = 10 + k;
+        let component = format!(in alloc; r#"{comma}{{"capacity":1,"id":["{id}"],"kind":"ram"}}"#)?;
+        text.push_str(component.as_str())?;
+    }
+    text.push_str("]}")?;
+    Ok(text)
+}
+
+fn add_device(
+    alloc: Global,
+    name: &str,
+    count: usize,
+    host: &mut MemoryHost,
+) -> Result<(), AllocError>
+    requires { count < 90 }
+{
+    let text = device_of(alloc, count)?;
+    host.add(name, text.as_bytes())
+}
+
+// Whether two sessions go so, one after the other, on a blank flash with room for a base, and launch these images.
+fn both_launch(
+    alloc: Global,
+    sessions: (&str, &str),
+    images: &[&[u8]],
+) -> Result<bool, AllocError> {
+    let mut host = with_files(alloc, &[])?;
+    add_device(alloc, "32.json", 32, &mut host)?;
+    add_device(alloc, "33.json", 33, &mut host)?;
+    let mut flash = blank_large(alloc)?;
+    let mut launcher = MemoryLauncher::new(alloc, &[])?;
+    let goes = goes_after(alloc, &mut host, &mut flash, &mut launcher, sessions)?;
+    Ok(goes && are_launched(launcher.launches(), images))
+}
+
+#[test]
+fn a_flash_is_formatted_with_a_base(rt: HostRuntime) -> Result<(), AllocError> {
+    assert!(rt; both_launch(rt.alloc(), (REFUSED, TAKEN), &[])?);
+    assert!(rt; both_launch(rt.alloc(), (FORMATTED, DAMAGED), &[])?);
+    Ok(())
+}
+
+#[test]
+fn what_is_installed_behind_a_base_is_started(rt: HostRuntime) -> Result<(), AllocError> {
+    assert!(rt; both_launch(rt.alloc(), (INSTALLED, LONG), &[b"abc", b"abd"])?);
+    assert!(rt; both_launch(rt.alloc(), (TOO_LONG, NOTHING), &[])?);
+    Ok(())
+}
