@@ -7,9 +7,10 @@ complete -c suit -n __fish_use_subcommand -a check -d 'Say whether a manifest is
 complete -c suit -n __fish_use_subcommand -a run -d 'Work with a flash'
 complete -c suit -n __fish_use_subcommand -a drill -d 'Try updates and boots on a flash in memory'
 
-set -l commands init update boot status
+set -l commands init update boot status migrate
 complete -c suit -n "__fish_seen_subcommand_from run; and not __fish_seen_subcommand_from $commands" -a init -d 'Format a blank flash for a device'
 complete -c suit -n "__fish_seen_subcommand_from run; and not __fish_seen_subcommand_from $commands" -a update -d 'Install an envelope'
 complete -c suit -n "__fish_seen_subcommand_from run; and not __fish_seen_subcommand_from $commands" -a boot -d 'Start what is installed'
 complete -c suit -n "__fish_seen_subcommand_from run; and not __fish_seen_subcommand_from $commands" -a status -d 'Print what is installed'
+complete -c suit -n "__fish_seen_subcommand_from run; and not __fish_seen_subcommand_from $commands" -a migrate -d 'Give the flash the second layout'
 complete -c suit -n '__fish_seen_subcommand_from make show check init update' -F
