@@ -64,54 +64,75 @@ EndsWhole Ready IsDone =
 
 -- the bytes of a file are accepted exactly where they meet what is asked of them
 abbrev pub AcceptsWhatMeets : Type 0
-AcceptsWhatMeets = (frame : Frame) (layout : List Entry) (key : Key) (bytes : List ℕ) (a : Accepted) → IsAccepted frame layout key bytes a ↔ Meets frame layout key bytes a
+AcceptsWhatMeets =
+    (frame : Frame) (layout : List Entry) (key : Key) (bytes : List ℕ) (a : Accepted)
+    → IsAccepted frame layout key bytes a ↔ Meets frame layout key bytes a
 
 abbrev pub AsksUpdate : List (List ℕ) → Type 0
-AsksUpdate words = (name : List ℕ) × (uris : List (List ℕ × List ℕ)) × (task_of words ≡ Some (RunUpdate name uris))
+AsksUpdate words = (name : List ℕ) × (uris : List (List ℕ × List ℕ))
+    × (task_of words ≡ Some (RunUpdate name uris))
 
 -- it is done only where it was ready
 abbrev pub OnlyReadyUpdates : Type 0
 OnlyReadyUpdates =
-    (words : List (List ℕ)) (launched now : Launching) (before after : Outside) (ended : Ended) → AsksUpdate words → AreTold launched before
+    (words : List (List ℕ)) (launched now : Launching) (before after : Outside) (ended : Ended)
+    → AsksUpdate words → AreTold launched before
     → ComesTo words launched now before after ended → ended_status ended ≡ 0
-    → (ready : ReadyToUpdate words launched before) × Installs words launched before ready now after ended
+    → (ready : ReadyToUpdate words launched before)
+    × Installs words launched before ready now after ended
 
 -- so status 0 comes only of that
 abbrev pub UpdateSaysSo : Type 0
 UpdateSaysSo =
-    (words : List (List ℕ)) (launched now : Launching) (before after : Outside) (sunk_before sunk_after : Sunk) → AsksUpdate words → AreTold launched before
+    (words : List (List ℕ)) (launched now : Launching) (before after : Outside)
+    (sunk_before sunk_after : Sunk)
+    → AsksUpdate words → AreTold launched before
     → Performs words launched now before after sunk_before sunk_after 0
-    → (ready : ReadyToUpdate words launched before) × PutsDone (Installs words launched before ready now after) sunk_before sunk_after
+    → (ready : ReadyToUpdate words launched before)
+    × PutsDone (Installs words launched before ready now after) sunk_before sunk_after
 
 -- ---- `run boot`
 
 -- on a sound flash it is done only where it was ready
 abbrev pub OnlyReadyBoots : Type 0
 OnlyReadyBoots =
-    (words : List (List ℕ)) (launched now : Launching) (before after : Outside) (ended : Ended) → task_of words ≡ Some RunBoot → AreTold launched before
-    → before.flash.size ≡ length before.flash.reads → Sound before.flash.reads → ComesTo words launched now before after ended → ended_status ended ≡ 0
-    → (ready : ReadyToBoot words launched before) × BootsWhole words launched before ready now after ended
+    (words : List (List ℕ)) (launched now : Launching) (before after : Outside) (ended : Ended)
+    → task_of words ≡ Some RunBoot → AreTold launched before
+    → before.flash.size ≡ length before.flash.reads → Sound before.flash.reads
+    → ComesTo words launched now before after ended → ended_status ended ≡ 0
+    → (ready : ReadyToBoot words launched before)
+    × BootsWhole words launched before ready now after ended
 
 abbrev pub BootSaysSo : Type 0
 BootSaysSo =
-    (words : List (List ℕ)) (launched now : Launching) (before after : Outside) (sunk_before sunk_after : Sunk) → task_of words ≡ Some RunBoot → AreTold launched before
-    → before.flash.size ≡ length before.flash.reads → Sound before.flash.reads → Performs words launched now before after sunk_before sunk_after 0
-    → (ready : ReadyToBoot words launched before) × PutsDone (BootsWhole words launched before ready now after) sunk_before sunk_after
+    (words : List (List ℕ)) (launched now : Launching) (before after : Outside)
+    (sunk_before sunk_after : Sunk)
+    → task_of words ≡ Some RunBoot → AreTold launched before
+    → before.flash.size ≡ length before.flash.reads → Sound before.flash.reads
+    → Performs words launched now before after sunk_before sunk_after 0
+    → (ready : ReadyToBoot words launched before)
+    × PutsDone (BootsWhole words launched before ready now after) sunk_before sunk_after
 
 -- ---- `run migrate`
 
 -- it is done only where it was ready
 abbrev pub OnlyReadyMigrations : Type 0
 OnlyReadyMigrations =
-    (words : List (List ℕ)) (launched now : Launching) (before after : Outside) (ended : Ended) (base : ℕ) → task_of words ≡ Some (RunMigrate base) → AreTold launched before
+    (words : List (List ℕ)) (launched now : Launching) (before after : Outside) (ended : Ended)
+    (base : ℕ)
+    → task_of words ≡ Some (RunMigrate base) → AreTold launched before
     → ComesTo words launched now before after ended → ended_status ended ≡ 0
-    → (ready : ReadyToMigrate words launched before) × MigratesWhole words launched before ready now after ended
+    → (ready : ReadyToMigrate words launched before)
+    × MigratesWhole words launched before ready now after ended
 
 abbrev pub MigrateSaysSo : Type 0
 MigrateSaysSo =
-    (words : List (List ℕ)) (launched now : Launching) (before after : Outside) (sunk_before sunk_after : Sunk) (base : ℕ) → task_of words ≡ Some (RunMigrate base) → AreTold launched before
+    (words : List (List ℕ)) (launched now : Launching) (before after : Outside)
+    (sunk_before sunk_after : Sunk) (base : ℕ)
+    → task_of words ≡ Some (RunMigrate base) → AreTold launched before
     → Performs words launched now before after sunk_before sunk_after 0
-    → (ready : ReadyToMigrate words launched before) × PutsDone (MigratesWhole words launched before ready now after) sunk_before sunk_after
+    → (ready : ReadyToMigrate words launched before)
+    × PutsDone (MigratesWhole words launched before ready now after) sunk_before sunk_after
 
 pub record CompletenessLaws : Type 0 where
   pub accepts : AcceptsWhatMeets
