@@ -16,6 +16,7 @@ use Rattle.path_checker.specs.declared.judge_plan.facts.Knowledge.{Knowledge}
 use Rattle.path_checker.specs.declared.judge_plan.halt.Halt.{Halt}
 use Rattle.path_checker.specs.Knowing.{Allows}
 use Rattle.path_checker.specs.Exploring.{Course, In, Kept, Stopped, Failures, after_stops, Found, Explores, Uncovered, Uncovers}
+use Rattle.path_checker.specs.Going.{GoesLast}
 use Rattle.path_checker.specs.Halting.{Halts}
 use Rattle.path_checker.specs.Inner.{AllAt, BranchAdds, entered, all_entered, left, all_left, resumed, softly, none_inside}
 use Rattle.path_checker.specs.Invoking.{Covers}
@@ -24,7 +25,6 @@ use Rattle.path_checker.specs.Small.{IsSmallSequence, AreSmallBranches}
 use Rattle.path_checker.proofs.Branching.{rest_course, failing_course, softly-at}
 use Rattle.path_checker.proofs.Carrying.{nothing_course, Explores-nothing}
 use Rattle.path_checker.proofs.Exploring.{then_course}
-use Rattle.path_checker.proofs.Going.{GoesOn}
 use Rattle.path_checker.proofs.InnerSequences.{Leads-outer}
 use Rattle.path_checker.proofs.InnerStates.{In-entered, In-all_left, left-from, In-softly}
 use Rattle.path_checker.proofs.Keeping.{softly-inside}
@@ -195,28 +195,32 @@ module _ (whole body : Course) (others : ℕ → Course) (after : Course) (s : S
       first facts events u = Uncovers-outer body (then_course (branch_course body others c) after) s c true now facts events same (λ ids es p r. inl (tt, inl (Directive p, r, (λ n. n), refl))) u
 
 -- null: all that are left are done
-pub GoesBoth-null : (whole after : Course) (from now done done' : List Kept) → GoesBoth whole from nothing_course after now done → done' ≡ done ++ now → GoesOn whole from after done'
-GoesBoth-null whole after from now done done' w all =
-    subst (λ (ks : List Kept). GoesOn whole from after ks) (sym all) (record {
-      covers = λ g. w.covers (Covers-then nothing_course after now now ([], Explores-nothing now) (λ k i. g k (In-right k done now i))) (λ k i. g k (In-left k done now i));
-      uncovers = λ facts events u. elim (In-cases u.0 done now u.1) [
+pub GoesBoth-null : (whole ends after : Course) (from now last done done' : List Kept) → GoesBoth whole from nothing_course after now done → last ≡ [] → done' ≡ done ++ now → GoesLast whole from ends after last done'
+GoesBoth-null whole ends after from now last done done' w none all =
+    subst (λ (ks : List Kept). GoesLast whole from ends after ks done') (sym none) (subst (λ (ks : List Kept). GoesLast whole from ends after [] ks) (sym all) (record {
+      covers = λ h g. w.covers (Covers-then nothing_course after now now ([], Explores-nothing now) (λ k i. g k (In-right k done now i))) (λ k i. g k (In-left k done now i));
+      uncovers = λ facts events u. absurd u.1;
+      uncovers_done = λ facts events u. elim (In-cases u.0 done now u.1) [
         | inl i ↦ w.uncovers_done facts events (u.0, i, u.2)
         | inr i ↦ w.uncovers facts events (Uncovers-second nothing_course after now now [] facts events (Explores-nothing now) (u.0, i, u.2))
       ];
-    })
+    }))
 
 -- the last branch
-module _ (whole body after : Course) (s : State) (c p : ℕ) (from now inside done : List Kept) (same : AllAt s now) (w : GoesBoth whole from (branch_course body (λ d. failing_course p) c) after now done) (entered_is : inside ≡ all_entered s c true now) where
-  pub GoesBoth-last : Covers (then_course body (leaving_course s after)) inside → GoesOn whole from after done
-  GoesBoth-last h = record {
-    covers = λ g. w.covers (Covers-last body after s c p now same (subst (Covers (then_course body (leaving_course s after))) entered_is h)) g;
-    uncovers = w.uncovers_done;
-  }
+pub GoesBoth-last : (whole body after : Course) (s : State) (c p : ℕ) (from now inside done : List Kept) → AllAt s now → GoesBoth whole from (branch_course body (λ d. failing_course p) c) after now done → inside ≡ all_entered s c true now
+    → GoesLast whole from (then_course body (leaving_course s after)) after inside done
+GoesBoth-last whole body after s c p from now inside done same w entered_is = record {
+  covers = λ h g. w.covers (Covers-last body after s c p now same (subst (Covers (then_course body (leaving_course s after))) entered_is h)) g;
+  uncovers = λ facts events u. w.uncovers facts events (Uncovers-last body after s c p now same facts events (subst (λ (y : List Kept). Uncovers (then_course body (leaving_course s after)) y facts events) entered_is u));
+  uncovers_done = w.uncovers_done;
+}
 
-  pub GoesBoth-stops : (h : Halt) → Halts (then_course body (leaving_course s after)) inside h → Halts whole from h
-  GoesBoth-stops h u =
-      Halts-lift (then_course body (leaving_course s after)) whole inside from
-      (λ facts events x. w.uncovers facts events (Uncovers-last body after s c p now same facts events (subst (λ (y : List Kept). Uncovers (then_course body (leaving_course s after)) y facts events) entered_is x))) h u
+-- what follows the last branch, and then what follows those that are done
+pub GoesLast-halts : (whole ends after : Course) (from last done : List Kept) → GoesLast whole from ends after last done → (h : Halt) → Halts ends last h → Halts whole from h
+GoesLast-halts whole ends after from last done w h u = Halts-lift ends whole last from w.uncovers h u
+
+pub GoesLast-ends : (whole ends after : Course) (from last done : List Kept) → GoesLast whole from ends after last done → (h : Halt) → Halts after done h → Halts whole from h
+GoesLast-ends whole ends after from last done w h u = Halts-lift after whole done from w.uncovers_done h u
 
 -- ---- the branches from a place on, and others behind them
 
@@ -239,3 +243,9 @@ module _ (bs tail : List (Option SequenceTree)) (i : ℕ) (d : Option SequenceTr
       → IsSmallSequence count inner × AreSmallBranches count (branches_tree (drop (i + 1) bs ++ tail))
   small_before inner count is all =
       subst (λ (o : Option SequenceTree). AreSmallBranches count (branches_tree (o ∷ (drop (i + 1) bs ++ tail)))) is (subst (λ (xs : List (Option SequenceTree)). AreSmallBranches count (branches_tree xs)) next_is all)
+
+-- the last branch is small where all are
+pub small_last : (bs : List (Option SequenceTree)) (last : SequenceTree) (count : ℕ) → AreSmallBranches count (branches_tree (bs ++ Some last ∷ [])) → IsSmallSequence count last
+small_last [] last count small = small.0
+small_last (Some inner ∷ bs) last count small = small_last bs last count small.1
+small_last (None ∷ bs) last count small = small_last bs last count small

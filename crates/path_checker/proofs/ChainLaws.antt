@@ -6,28 +6,28 @@ use Rattle.std.proofs.lemmas.List.{append-nil, take_all}
 use Rattle.path_model.specs.declared.event.Event.{Event}
 use Rattle.path_model.specs.declared.event.Event.TheVariants.{Failed}
 use Rattle.path_checker.specs.declared.judge_plan.trace.Told.{Told}
-use Rattle.path_checker.specs.declared.judge_plan.trace.Four.{Four}
-use Rattle.path_checker.specs.Happening.{told_by, four_told, all_told}
+use Rattle.path_checker.specs.declared.judge_plan.trace.Piece.{Piece}
+use Rattle.path_checker.specs.Happening.{told_by, all_told, piece_told}
 use Rattle.path_checker.specs.Standing.{all_in_order}
 
 all_in_order-last : (ps : List (List Event)) (p : List Event) → all_in_order (ps ++ p ∷ []) ≡ p ++ all_in_order ps
 all_in_order-last [] p = sym (append-nil p)
 all_in_order-last (x ∷ ps) p = ap (λ (ys : List Event). ys ++ x) (all_in_order-last ps p) ∙ append_assoc p (all_in_order ps) x
 
-map-last : (hs : List Four) (h : Four) → map four_told (hs ++ h ∷ []) ≡ map four_told hs ++ four_told h ∷ []
+map-last : (hs : List Piece) (h : Piece) → map piece_told (hs ++ h ∷ []) ≡ map piece_told hs ++ piece_told h ∷ []
 map-last [] h = refl
-map-last (x ∷ hs) h = ap (λ (ys : List (List Event)). four_told x ∷ ys) (map-last hs h)
+map-last (x ∷ hs) h = ap (λ (ys : List (List Event)). piece_told x ∷ ys) (map-last hs h)
 
-pub told_more : (events events' whole : List Event) (hs hs' : List Four) (h : Four) → events ++ all_in_order (map four_told hs) ≡ whole → hs ≡ hs' ++ h ∷ [] → events' ≡ events ++ four_told h → events' ++ all_in_order (map four_told hs') ≡ whole
+pub told_more : (events events' whole : List Event) (hs hs' : List Piece) (h : Piece) → events ++ all_in_order (map piece_told hs) ≡ whole → hs ≡ hs' ++ h ∷ [] → events' ≡ events ++ piece_told h → events' ++ all_in_order (map piece_told hs') ≡ whole
 told_more events events' whole hs hs' h so_far popped pushed =
-    let order : all_in_order (map four_told hs) ≡ four_told h ++ all_in_order (map four_told hs') =
-    ap (λ (xs : List Four). all_in_order (map four_told xs)) popped ∙ ap all_in_order (map-last hs' h) ∙ all_in_order-last (map four_told hs') (four_told h)
+    let order : all_in_order (map piece_told hs) ≡ piece_told h ++ all_in_order (map piece_told hs') =
+    ap (λ (xs : List Piece). all_in_order (map piece_told xs)) popped ∙ ap all_in_order (map-last hs' h) ∙ all_in_order-last (map piece_told hs') (piece_told h)
     in
-    ap (λ (xs : List Event). xs ++ all_in_order (map four_told hs')) pushed ∙ append_assoc events (four_told h) (all_in_order (map four_told hs')) ∙ ap (λ (xs : List Event). events ++ xs) (sym order) ∙ so_far
+    ap (λ (xs : List Event). xs ++ all_in_order (map piece_told hs')) pushed ∙ append_assoc events (piece_told h) (all_in_order (map piece_told hs')) ∙ ap (λ (xs : List Event). events ++ xs) (sym order) ∙ so_far
 
-pub parts_more : (whole rest : List (List Event)) (hs hs' : List Four) (h : Four) → map four_told hs ++ (four_told h ∷ rest) ≡ whole → hs' ≡ hs ++ h ∷ [] → map four_told hs' ++ rest ≡ whole
+pub parts_more : (whole rest : List (List Event)) (hs hs' : List Piece) (h : Piece) → map piece_told hs ++ (piece_told h ∷ rest) ≡ whole → hs' ≡ hs ++ h ∷ [] → map piece_told hs' ++ rest ≡ whole
 parts_more whole rest hs hs' h so_far pushed =
-    ap (λ (xs : List Four). map four_told xs ++ rest) pushed ∙ ap (λ (xs : List (List Event)). xs ++ rest) (map-last hs h) ∙ append_assoc (map four_told hs) (four_told h ∷ []) rest ∙ so_far
+    ap (λ (xs : List Piece). map piece_told xs ++ rest) pushed ∙ ap (λ (xs : List (List Event)). xs ++ rest) (map-last hs h) ∙ append_assoc (map piece_told hs) (piece_told h ∷ []) rest ∙ so_far
 
 -- an end by two events
 pub end_told : (past missed : List Event) (e : Event) (place : ℕ) (all : List Event) → missed ≡ past ++ e ∷ [] → all ≡ past ++ e ∷ Failed place ∷ [] → missed ++ Failed place ∷ [] ≡ all

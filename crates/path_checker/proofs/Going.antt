@@ -14,6 +14,7 @@ use Rattle.path_checker.specs.declared.judge_plan.facts.Knowledge.{Knowledge}
 use Rattle.path_checker.specs.declared.judge_plan.halt.Halt.{Halt}
 use Rattle.path_checker.specs.Knowing.{Allows}
 use Rattle.path_checker.specs.Exploring.{Course, Kept, Passes, Uncovered, Uncovers, kept_of}
+use Rattle.path_checker.specs.Going.{GoesOn}
 use Rattle.path_checker.specs.Halting.{Halts}
 use Rattle.path_checker.specs.Invoking.{AreQuiet, Covers}
 use Rattle.path_checker.specs.Procedures.{FromStart, FromThird, FromSecond, ThirdInvokes, SecondInvokes}
@@ -47,11 +48,6 @@ Uncovers-left a b c from facts events (k, i, u) =
     (k, i, Uncovered-lift (then_course a (then_course b c)) (then_course (then_course a b) c) k k facts events refl refl (λ ids al es place r. then-right (a ids) (b ids) (c ids) k.state es (Directive place) r) u)
 
 -- ---- the invariant of a loop
-
--- what may follow some states stands for what may follow the others
-pub record GoesOn (whole : Course) (from : List Kept) (rest : Course) (now : List Kept) : Type 0 where
-  pub covers : Covers rest now → Covers whole from
-  pub uncovers : (facts : List Knowledge) (events : List Event) → Uncovers rest now facts events → Uncovers whole from facts events
 
 pub GoesOn-start : (whole : Course) (from : List Kept) → GoesOn whole from whole from
 GoesOn-start whole from = record { covers = λ h. h; uncovers = λ facts events u. u }

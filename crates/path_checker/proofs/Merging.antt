@@ -1,5 +1,6 @@
 -- Explored states stay explored where some states stand for all.
 use Rattle.std.proofs.Common.{◌≡◌, ◌+◌, ◌<◌, ℕ, Bool, zero, suc, List, [], ◌∷◌, ◌++◌, length, get_or, take, refl, sym, ap, ◌∙◌, subst, arith, inl, inr}
+use Rattle.std.specs.Prelude.{◌⊎◌}
 use Rattle.std.proofs.lemmas.List.{take_more, append-nil}
 use Rattle.path_model.specs.declared.identity.Identity.{Identity}
 use Rattle.path_model.specs.declared.event.Event.{Event}
@@ -15,42 +16,69 @@ use Rattle.path_checker.proofs.Walking.{Walks}
 
 -- ---- one after another
 
-pub Merges-none : {A : Type 0} (S : A → A → Type 0) → Merges S [] []
-Merges-none S = record { part = λ x h. absurd h; each = λ x h. absurd h }
-
 pub Merges-all : {A : Type 0} (S : A → A → Type 0) (xs : List A) → ((x : A) → S x x) → Merges S xs xs
 Merges-all S xs self = record { part = λ x i. i; each = λ x i. (x, i, self x) }
 
-pub Merges-drop : {A : Type 0} (S : A → A → Type 0) (xs kept : List A) (x y : A) → Merges S xs kept → In y kept → S y x → Merges S (xs ++ x ∷ []) kept
-Merges-drop {A} S xs kept x y m there same = record {
-  part = λ z i. In-left z xs (x ∷ []) (m.part z i);
-  each = λ z i. elim (In-cases z xs (x ∷ []) i) [
-    | inl i ↦ m.each z i
-    | inr (inl e) ↦ (y, there, subst (S y) e same)
-    | inr (inr n) ↦ absurd n
-  ];
-}
+-- ---- one after another, from the last on
 
-pub Merges-keep : {A : Type 0} (S : A → A → Type 0) (xs kept : List A) (x : A) → Merges S xs kept → S x x → Merges S (xs ++ x ∷ []) (kept ++ x ∷ [])
-Merges-keep {A} S xs kept x m self = record {
-  part = λ z i. elim (In-cases z kept (x ∷ []) i) [
-    | inl i ↦ In-left z xs (x ∷ []) (m.part z i)
-    | inr i ↦ In-right z xs (x ∷ []) i
-  ];
-  each = λ z i. elim (In-cases z xs (x ∷ []) i) [
-    | inl i ↦ let y = m.each z i in (y.0, In-left y.0 kept (x ∷ []) y.1, y.2)
-    | inr (inl e) ↦ (x, In-right x kept (x ∷ []) (inl refl), subst (S x) e self)
-    | inr (inr n) ↦ absurd n
-  ];
+-- some are left, and those that are kept stand for the others
+pub record MergesLeft {A : Type 0} (S : A → A → Type 0) (all left kept : List A) : Type 0 where
+  pub part : (x : A) → In x kept → In x all
+  pub rest : (x : A) → In x left → In x all
+  pub each : (x : A) → In x all → In x left ⊎ ((y : A) × In y kept × S y x)
+
+pub Left-start : {A : Type 0} (S : A → A → Type 0) (xs kept : List A) → kept ≡ [] → MergesLeft S xs xs kept
+Left-start {A} S xs kept none = record {
+  part = λ x h. absurd (subst (λ (ys : List A). In x ys) none h);
+  rest = λ x i. i;
+  each = λ x i. inl i;
 }
 
 -- one that another stands for, found among those kept as they were read
-pub Merges-found : {A : Type 0} (S : A → A → Type 0) (xs kept read : List A) (x : A) → Merges S xs kept → read ≡ kept → ((y : A) × In y read × S y x) → Merges S (xs ++ x ∷ []) kept
-Merges-found S xs kept read x m same y = Merges-drop S xs kept x y.0 m (subst (In y.0) same y.1) y.2
+pub Left-found : {A : Type 0} (S : A → A → Type 0) (all left left' kept read : List A) (x : A) → MergesLeft S all left kept → left ≡ left' ++ x ∷ [] → read ≡ kept → ((y : A) × In y read × S y x) → MergesLeft S all left' kept
+Left-found {A} S all left left' kept read x m popped same y = record {
+  part = m.part;
+  rest = λ z i. m.rest z (subst (λ (xs : List A). In z xs) (sym popped) (In-left z left' (x ∷ []) i));
+  each = λ z i. elim (m.each z i) [
+    | inl h ↦ elim (In-cases z left' (x ∷ []) (subst (λ (xs : List A). In z xs) popped h)) [
+      | inl there ↦ inl there
+      | inr (inl e) ↦ inr (y.0, subst (In y.0) same y.1, subst (S y.0) e y.2)
+      | inr (inr n) ↦ absurd n
+    ]
+    | inr kept ↦ inr kept
+  ];
+}
 
 -- one that is put behind those kept
-pub Merges-pushed : {A : Type 0} (S : A → A → Type 0) (xs kept more : List A) (x : A) → Merges S xs kept → S x x → more ≡ kept ++ x ∷ [] → Merges S (xs ++ x ∷ []) more
-Merges-pushed {A} S xs kept more x m self pushed = subst (λ (ys : List A). Merges S (xs ++ x ∷ []) ys) (sym pushed) (Merges-keep S xs kept x m self)
+pub Left-pushed : {A : Type 0} (S : A → A → Type 0) (all left left' kept more : List A) (x : A) → MergesLeft S all left kept → left ≡ left' ++ x ∷ [] → S x x → more ≡ kept ++ x ∷ [] → MergesLeft S all left' more
+Left-pushed {A} S all left left' kept more x m popped self pushed = record {
+  part = λ z i. elim (In-cases z kept (x ∷ []) (subst (λ (xs : List A). In z xs) pushed i)) [
+    | inl there ↦ m.part z there
+    | inr there ↦ m.rest z (subst (λ (xs : List A). In z xs) (sym popped) (In-right z left' (x ∷ []) there))
+  ];
+  rest = λ z i. m.rest z (subst (λ (xs : List A). In z xs) (sym popped) (In-left z left' (x ∷ []) i));
+  each = λ z i. elim (m.each z i) [
+    | inl h ↦ elim (In-cases z left' (x ∷ []) (subst (λ (xs : List A). In z xs) popped h)) [
+      | inl there ↦ inl there
+      | inr (inl e) ↦ inr (x, subst (λ (xs : List A). In x xs) (sym pushed) (In-right x kept (x ∷ []) (inl refl)), subst (S x) e self)
+      | inr (inr n) ↦ absurd n
+    ]
+    | inr y ↦ inr (y.0, subst (λ (xs : List A). In y.0 xs) (sym pushed) (In-left y.0 kept (x ∷ []) y.1), y.2)
+  ];
+}
+
+pub none_more : {A : Type 0} (xs : List A) → (0 < length xs → ⊥) → xs ≡ []
+none_more [] none = refl
+none_more (x ∷ xs) none = absurd (none (omega arith))
+
+pub Left-none : {A : Type 0} (S : A → A → Type 0) (all left kept : List A) → MergesLeft S all left kept → left ≡ [] → Merges S all kept
+Left-none {A} S all left kept m none = record {
+  part = m.part;
+  each = λ z i. elim (m.each z i) [
+    | inl h ↦ absurd (subst (λ (xs : List A). In z xs) none h)
+    | inr y ↦ y
+  ];
+}
 
 pub Merges-append : {A : Type 0} (S : A → A → Type 0) (xs kept more : List A) → ((x : A) → S x x) → Merges S xs kept → Merges S (xs ++ more) (kept ++ more)
 Merges-append {A} S xs kept more self m = record {

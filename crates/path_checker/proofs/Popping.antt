@@ -169,16 +169,18 @@ Adds-at_index k c selection count p cmd n n' f is pushed =
 
 -- ---- a walk over the components that are selected
 
-module _ (cmd : CommandTree) (count p : ℕ) (cs : List ℕ) (i : ℕ) (d : ℕ) (lt : i < length cs) (whole : Course) (from now : List Kept) (failed0 failed : Failures) (w : Walks whole from failed0 (each_course cmd count p (drop i cs)) now failed) where
-  at_each : Walks whole from failed0 (then_course (At cmd count p (get_or cs i d)) (each_course cmd count p (drop (i + 1) cs))) now failed
+module _ (cmd : CommandTree) (count p : ℕ) (cs : List ℕ) (i : ℕ) (c : ℕ) (lt : i < length cs) (is : c ≡ get_or cs i c) (whole : Course) (from now : List Kept) (failed0 failed : Failures) (w : Walks whole from failed0 (each_course cmd count p (drop i cs)) now failed) where
+  at_each : Walks whole from failed0 (then_course (At cmd count p c) (each_course cmd count p (drop (i + 1) cs))) now failed
   at_each =
-      let e : each_course cmd count p (drop i cs) ≡ then_course (At cmd count p (get_or cs i d)) (each_course cmd count p (drop (i + 1) cs)) =
-      ap (each_course cmd count p) (drop-cons cs i d lt) ∙ ap (λ (m : ℕ). then_course (At cmd count p (get_or cs i d)) (each_course cmd count p (drop m cs))) (sym (add-one i))
+      let e : each_course cmd count p (drop i cs) ≡ then_course (At cmd count p c) (each_course cmd count p (drop (i + 1) cs)) =
+      ap (each_course cmd count p) (drop-cons cs i c lt)
+      ∙ ap (λ (m : ℕ). then_course (At cmd count p (get_or cs i c)) (each_course cmd count p (drop m cs))) (sym (add-one i))
+      ∙ ap (λ (d : ℕ). then_course (At cmd count p d) (each_course cmd count p (drop (i + 1) cs))) (sym is)
       in
       subst (λ (r : Course). Walks whole from failed0 r now failed) e w
 
-  pub Each-step : (mid : List Kept) (failed' : Failures) → Adds (At cmd count p (get_or cs i d)) now [] mid failed failed' → Walks whole from failed0 (each_course cmd count p (drop (i + 1) cs)) mid failed'
-  Each-step mid failed' a = Walks-then whole (At cmd count p (get_or cs i d)) (each_course cmd count p (drop (i + 1) cs)) from now mid failed0 failed failed' at_each a
+  pub Each-step : (mid : List Kept) (failed' : Failures) → Adds (At cmd count p c) now [] mid failed failed' → Walks whole from failed0 (each_course cmd count p (drop (i + 1) cs)) mid failed'
+  Each-step mid failed' a = Walks-then whole (At cmd count p c) (each_course cmd count p (drop (i + 1) cs)) from now mid failed0 failed failed' at_each a
 
-  pub Each-stops : (h : Halt) → Halts (At cmd count p (get_or cs i d)) now h → Halts whole from h
-  Each-stops h u = Walks-halt whole (At cmd count p (get_or cs i d)) (each_course cmd count p (drop (i + 1) cs)) from now failed0 failed at_each h u
+  pub Each-stops : (h : Halt) → Halts (At cmd count p c) now h → Halts whole from h
+  Each-stops h u = Walks-halt whole (At cmd count p c) (each_course cmd count p (drop (i + 1) cs)) from now failed0 failed at_each h u

@@ -13,7 +13,8 @@ use Rattle.path_checker.specs.Rests.{Later, OfPart, OfSteps, OfTries, OfLeave, R
 use Rattle.path_checker.proofs.Besides.{same_state}
 use Rattle.path_checker.proofs.Branching.{rest_course}
 use Rattle.path_checker.proofs.Exploring.{then_course}
-use Rattle.path_checker.proofs.Going.{GoesOn, GoesOn-next, GoesOn-moved, Covers-left, Uncovers-left}
+use Rattle.path_checker.specs.Going.{GoesOn}
+use Rattle.path_checker.proofs.Going.{GoesOn-next, GoesOn-moved, Covers-left, Uncovers-left}
 use Rattle.path_checker.proofs.Walking.{does_course}
 
 -- ---- what follows at once, from one state

@@ -1,10 +1,17 @@
 -- Parts of a path that share what they begin with: the last part comes first.
-use Rattle.std.specs.Prelude.{List, [], ◌∷◌, Option, Some, None}
-use Rattle.std.specs.Borrow.{Bor}
+use Rattle.std.specs.Prelude.{◌≡◌, List, [], ◌∷◌, Option, Some, None}
 use Rattle.path_model.specs.declared.event.Event.{Event}
-use Rattle.path_checker.specs.declared.judge_plan.trace.Part.{Part}
-use Rattle.path_checker.specs.Happening.{four_told}
+use Rattle.path_checker.specs.declared.judge_plan.trace.Last.{Last}
+use Rattle.path_checker.specs.declared.judge_plan.trace.Last.TheVariants as lasts
+use Rattle.path_checker.specs.declared.judge_plan.trace.Piece.{Piece}
+use Rattle.path_checker.specs.Happening.{all_told, four_told, piece_told}
 
-abbrev pub parts_from : Option (Bor Part) → List (List Event)
-parts_from None = []
-parts_from (Some part) = four_told part.now.told ∷ part.now.before
+abbrev pub parts_from : Last → List (List Event)
+parts_from lasts.None = []
+parts_from (lasts.Four part) = four_told part.now.told ∷ part.now.before
+parts_from (lasts.Many stretch) = all_told stretch.now.told.now ∷ stretch.now.before
+
+-- the last part, and those before it
+abbrev pub Parted : List (List Event) → Option (Piece × Last) → Type 0
+Parted parts None = parts ≡ []
+Parted parts (Some last) = parts ≡ piece_told last.0 ∷ parts_from last.1

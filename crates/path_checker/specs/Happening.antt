@@ -18,6 +18,8 @@ use Rattle.path_checker.specs.declared.judge_plan.trace.Invoke.{Invoke}
 use Rattle.path_checker.specs.declared.judge_plan.trace.Told.{Told}
 use Rattle.path_checker.specs.declared.judge_plan.trace.Told.TheVariants as told
 use Rattle.path_checker.specs.declared.judge_plan.trace.Four.{Four}
+use Rattle.path_checker.specs.declared.judge_plan.trace.Piece.{Piece}
+use Rattle.path_checker.specs.declared.judge_plan.trace.Piece.TheVariants as pieces
 use Rattle.path_checker.specs.declared.judge_plan.trace.Waiting.{Waiting}
 use Rattle.path_checker.specs.declared.judge_plan.sets.SetsAt.{SetsAt}
 use Rattle.path_checker.specs.declared.judge_plan.sets.Several.{Several}
@@ -75,6 +77,10 @@ all_told (told ∷ rest) = told_by told ++ all_told rest
 
 abbrev pub four_told : Four → List Event
 four_told told = all_told told.first ++ told_by told.last
+
+abbrev pub piece_told : Piece → List Event
+piece_told (pieces.Four four) = four_told four.now
+piece_told (pieces.Many told) = all_told told.now
 
 abbrev pub waiting_told : Waiting → List Event
 waiting_told waiting = all_told (take waiting.count waiting.told)

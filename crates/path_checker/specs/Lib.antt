@@ -3,6 +3,7 @@ pub mod Matches
 pub mod Holding
 pub mod Happening
 pub mod Chains
+pub mod ChainFalls
 pub mod Forking
 pub mod Choosing
 pub mod Exploring
@@ -22,5 +23,6 @@ pub mod Procedures
 pub mod Rests
 pub mod RestViews
 pub mod RestFalls
+pub mod Going
 pub mod Halting
 pub mod PlanVerdicts

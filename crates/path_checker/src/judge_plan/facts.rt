@@ -6,7 +6,8 @@ ghost use Rattle.path_checker.specs.Forking.{Forks, Learnt, TellsOne, learnt_at,
 
 use crate::judge_plan::fingerprint::mixed;
 use crate::judge_plan::known::Known;
-use crate::judge_plan::memory::Memory;
+use crate::judge_plan::made::Made;
+use crate::judge_plan::memory::{Memory, WAYS};
 use std::alloc::{AllocError, Global};
 use std::cell::Cell;
 use std::marker::Model;
@@ -30,12 +31,26 @@ pub(crate) struct Knowledge {
     pub slot: Known<u64>,
 }
 
-/// Knowledge of one component's identity, its fingerprint, and how many values it is not. Copies share it.
+/// Knowledge of one component's identity, its fingerprint, and how many values it is not.
 #[derive(Drop)]
-pub(crate) struct Shared {
-    held: Rc<Knowledge>,
+struct Printed {
+    known: Knowledge,
     print: u64,
     others: u64,
+}
+
+impl Model for Printed {
+    ghost use Rattle.path_checker.specs.declared.judge_plan.facts.Knowledge.{Knowledge};
+
+    ghost Value = { Knowledge };
+
+    ghost view = { λ a. a.known };
+}
+
+/// The same, shared by copies.
+#[derive(Drop)]
+pub(crate) struct Shared {
+    held: Rc<Printed>,
 }
 
 impl Model for Shared {
@@ -174,37 +189,40 @@ impl Knowledge {
     }
 }
 
+impl Printed {
+    fn new(known: Knowledge) -> Printed
+        ensures { result ≡ known }
+    {
+        let print = known.fingerprint();
+        let others = known.others();
+        Printed {
+            known,
+            print,
+            others,
+        }
+    }
+}
+
 impl Shared {
     // Nothing is known.
     fn unknown(alloc: Global) -> Result<Shared, AllocError>
         ensures { IfOk result (λ shared. shared ≡ nothing) }
     {
-        let held = Rc::new(alloc, Knowledge::new(alloc))?;
-        Ok(Shared {
-            held,
-            print: 0,
-            others: 0,
-        })
+        Shared::new(alloc, Printed::new(Knowledge::new(alloc)))
     }
 
-    fn new(alloc: Global, known: Knowledge) -> Result<Shared, AllocError>
-        ensures { IfOk result (λ shared. shared ≡ known) }
+    fn new(alloc: Global, printed: Printed) -> Result<Shared, AllocError>
+        ensures { IfOk result (λ shared. shared ≡ printed) }
     {
-        let print = known.fingerprint();
-        let others = known.others();
-        let held = Rc::new(alloc, known)?;
-        Ok(Shared {
-            held,
-            print,
-            others,
-        })
+        let held = Rc::new(alloc, printed)?;
+        Ok(Shared { held })
     }
 
     /// The knowledge.
     pub(crate) fn known(&self) -> &Knowledge
         ensures { result.now ≡ self.now }
     {
-        &self.held
+        &self.held.known
     }
 
     // The same, shared.
@@ -212,43 +230,80 @@ impl Shared {
         ensures { IfOk result (λ other. other ≡ self.now) }
     {
         let held = self.held.clone()?;
-        Ok(Shared {
-            held,
-            print: self.print,
-            others: self.others,
-        })
+        Ok(Shared { held })
     }
 
     // Whether the same is known.
     fn is_same(&self, other: &Shared) -> bool
         ensures { IsTrue result → self.now ≡ other.now }
     {
-        self.held.is_same(&other.held)
+        self.known().is_same(other.known())
+    }
+
+    // Whether it is the same as one that is not shared. Nearly all others are told by their fingerprint alone.
+    fn is_alike(&self, other: &Printed) -> bool
+        ensures { IsTrue result → self.now ≡ other.now }
+    {
+        self.held.print == other.print && self.known().is_same(&other.known)
     }
 
     // Whether it has this, where that is known.
     fn tells(&self, own: &Own) -> Option<bool>
         ensures { TellsOne self.now own.now result }
     {
-        self.held.tells(own)
+        self.known().tells(own)
+    }
+
+    // One of this knowledge: an equal one of those that were made last, or else one that is kept with them.
+    fn found(alloc: Global, printed: Printed, made: &mut Made<Shared>) -> Result<Shared, AllocError>
+        ensures { IfOk result (λ shared. shared ≡ printed) }
+    {
+        let print = printed.print;
+        for way in 0..WAYS {
+            if let Some(shared) = made.get(print, way) {
+                if shared.is_alike(&printed) {
+                    return shared.copy();
+                }
+            }
+        }
+        let own = Shared::new(alloc, printed)?;
+        made.keep(print, own.copy()?);
+        Ok(own)
+    }
+
+    // One of this knowledge. Where many states are kept, an equal one of those that were made last.
+    fn made(memory: Memory<'_>, printed: Printed) -> Result<Shared, AllocError>
+        ensures { IfOk result (λ shared. shared ≡ printed) }
+    {
+        if !memory.is_crowded() {
+            return Shared::new(memory.alloc, printed);
+        }
+        let mut made = match memory.last.known.replace(None) {
+            Some(made) => made,
+            None => Made::none(memory.alloc)?,
+        };
+        let shared = Shared::found(memory.alloc, printed, &mut made)?;
+        memory.last.known.set(Some(made));
+        Ok(shared)
     }
 
     // One of this knowledge, shared with the one that was made last where that is equal.
     fn shared(
-        alloc: Global,
+        memory: Memory<'_>,
         known: Knowledge,
         last: &Cell<Option<Shared>>,
     ) -> Result<Shared, AllocError>
         ensures { IfOk result (λ shared. shared ≡ known) }
     {
+        let printed = Printed::new(known);
         if let Some(made) = last.replace(None) {
-            if made.held.is_same(&known) {
+            if made.is_alike(&printed) {
                 let same = made.copy()?;
                 last.set(Some(made));
                 return Ok(same);
             }
         }
-        let made = Shared::new(alloc, known)?;
+        let made = Shared::made(memory, printed)?;
         last.set(Some(made.copy()?));
         Ok(made)
     }
@@ -257,8 +312,8 @@ impl Shared {
     fn with(&self, memory: Memory<'_>, component: usize, own: &Own) -> Result<Shared, AllocError>
         ensures { IfOk result (λ other. other ≡ learnt self.now own.now) }
     {
-        let known = self.held.with(memory.alloc, own)?;
-        Shared::shared(memory.alloc, known, memory.having(component)?)
+        let known = self.known().with(memory.alloc, own)?;
+        Shared::shared(memory, known, memory.having(component)?)
     }
 
     // It has this. Others that share the knowledge keep it.
@@ -273,8 +328,8 @@ impl Shared {
     fn without(&self, memory: Memory<'_>, component: usize, own: &Own) -> Result<Shared, AllocError>
         ensures { IfOk result (λ other. other ≡ excluded self.now own.now) }
     {
-        let known = self.held.without(memory.alloc, own)?;
-        Shared::shared(memory.alloc, known, memory.lacking(component)?)
+        let known = self.known().without(memory.alloc, own)?;
+        Shared::shared(memory, known, memory.lacking(component)?)
     }
 }
 
@@ -334,7 +389,7 @@ impl Facts {
     pub(crate) fn fingerprint(&self) -> u64 {
         let mut print = 0;
         for known in self.as_slice() {
-            print = mixed(print, known.print);
+            print = mixed(print, known.held.print);
         }
         print
     }
@@ -343,7 +398,7 @@ impl Facts {
     pub(crate) fn cost(&self) -> u64 {
         let mut cost: u64 = 0;
         for known in self.as_slice() {
-            cost = cost.saturating_add(known.others);
+            cost = cost.saturating_add(known.held.others);
         }
         cost
     }

@@ -92,6 +92,20 @@ impl<'a> History<'a> {
         }
     }
 
+    /// The same. From now on no copy is made, until `end`.
+    pub(crate) fn begin(&mut self)
+        ensures { self.new ≡ self.old }
+    {
+        self.past.begin();
+    }
+
+    /// The same. Copies are made again.
+    pub(crate) fn end(&mut self, memory: Memory<'a>) -> Result<(), AllocError>
+        ensures { self.new ≡ self.old }
+    {
+        self.past.end(memory)
+    }
+
     /// The same, in memory that all states share.
     pub(crate) fn shared(self, memory: Memory<'a>) -> Result<History<'a>, AllocError>
         ensures { IfOk result (λ history. history ≡ self.entry) }

@@ -51,6 +51,14 @@ pub(crate) fn only<'a>(alloc: Global, k: Kept<'a>) -> Result<Vec<Kept<'a>>, Allo
     Ok(one)
 }
 
+/// One state alone, with its events in memory that all states share.
+pub(crate) fn only_shared<'a>(memory: Memory<'a>, k: Kept<'a>) -> Result<Vec<Kept<'a>>, AllocError>
+    ensures { IfOk result (λ v. v.items ≡ k.entry ∷ []) }
+{
+    let k = k.shared(memory)?;
+    only(memory.alloc, k)
+}
+
 /// None of an inner sequence so far. Those with soft failure are kept where something goes on from them.
 pub(crate) fn none_inside<'a>(
     alloc: Global,

@@ -158,6 +158,20 @@ impl<'a> Kept<'a> {
         k
     }
 
+    /// The same. From now on no copy is made, until `end`.
+    pub(crate) fn begin(&mut self)
+        ensures { self.new ≡ self.old }
+    {
+        self.history.begin();
+    }
+
+    /// The same. Copies are made again.
+    pub(crate) fn end(&mut self, memory: Memory<'a>) -> Result<(), AllocError>
+        ensures { self.new ≡ self.old }
+    {
+        self.history.end(memory)
+    }
+
     /// The same, with its events in memory that all states share.
     pub(crate) fn shared(self, memory: Memory<'a>) -> Result<Kept<'a>, AllocError>
         ensures { IfOk result (λ k. k ≡ self.entry) }

@@ -80,8 +80,10 @@ pub(crate) struct Last<'a> {
     /// The parameters after an override, and those of components.
     pub params: Cell<Option<InForce<'a>>>,
     pub rows: Cell<Option<Made<Row<'a>>>>,
-    // The knowledge of components, where any was made.
-    known: Cell<Option<&'a LastKnown>>,
+    /// The knowledge of components, where many states are kept.
+    pub known: Cell<Option<Made<Shared>>>,
+    // That of each component, where any was made.
+    each: Cell<Option<&'a LastKnown>>,
 }
 
 /// The knowledge made last of each component, in any state.
@@ -145,6 +147,7 @@ impl<'a> Last<'a> {
             params: Cell::new(None),
             rows: Cell::new(None),
             known: Cell::new(None),
+            each: Cell::new(None),
         }
     }
 }
@@ -196,7 +199,8 @@ impl<'a> Memory<'a> {
         self.last.matches.set(Held::none());
         self.last.params.set(None);
         self.last.rows.set(None);
-        if let Some(known) = self.last.known.get() {
+        self.last.known.set(None);
+        if let Some(known) = self.last.each.get() {
             known.release();
         }
     }
@@ -354,11 +358,11 @@ impl<'a> Memory<'a> {
 
     // The knowledge made last, in a place that is made when it is first needed.
     fn known(&self) -> Result<&'a LastKnown, AllocError> {
-        if let Some(known) = self.last.known.get() {
+        if let Some(known) = self.last.each.get() {
             return Ok(known);
         }
         let known = self.events.try_alloc(LastKnown::new())?;
-        self.last.known.set(Some(known));
+        self.last.each.set(Some(known));
         Ok(known)
     }
 

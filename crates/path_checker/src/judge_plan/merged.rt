@@ -106,6 +106,15 @@ fn stands_for<T: Standing>(memory: Memory<'_>, kept: &[T], seen: &Seen, print: u
     false
 }
 
+// Frees the memory of those that are gone, once they are as many as are left.
+fn fit<T>(left: &mut Vec<T>)
+    ensures { left.new.items ≡ left.old.items }
+{
+    if left.len() <= left.capacity() / 2 {
+        left.shrink_to_fit();
+    }
+}
+
 // Some of these, which stand for all.
 fn merged<T: Standing>(memory: Memory<'_>, from: Vec<T>) -> Result<Vec<T>, AllocError>
     requires { (one : T) → T.same one one }
@@ -113,7 +122,9 @@ fn merged<T: Standing>(memory: Memory<'_>, from: Vec<T>) -> Result<Vec<T>, Alloc
 {
     let mut seen = Seen::new(memory.alloc, from.len())?;
     let mut kept = Vec::new(memory.alloc);
-    for one in from {
+    let mut left = from;
+    while let Some(one) = left.pop() {
+        fit(&mut left);
         let print = one.fingerprint();
         if stands_for(memory, &kept, &seen, print, &one) {
             continue;

@@ -1,20 +1,23 @@
 //! The parts of a procedure, their commands outside any inner sequence, and those of a last branch there. A failure there ends the
 //! procedure, so none is kept.
 
-ghost use Rattle.std.specs.Prelude.{◌≡◌, ◌<◌, ◌≤◌, [], ◌∷◌, length, get_or, drop, IfSome, OnOk, IfOk, IfErr};
+ghost use Rattle.std.specs.Prelude.{◌≡◌, ◌<◌, ◌≤◌, List, [], ◌∷◌, None, length, get_or, drop, IfSome, OnOk, IfOk, IfErr};
 ghost use Rattle.suit_commands.specs.Plans.{lent_tree};
 ghost use Rattle.suit_commands.specs.View.{command_tree, sequence_tree};
 ghost use Rattle.path_model.specs.Runs.{Does};
 ghost use Rattle.path_checker.specs.Exploring.{Passes};
+ghost use Rattle.path_checker.specs.Going.{GoesOn, GoesLast};
 ghost use Rattle.path_checker.specs.Invoking.{Covers};
 ghost use Rattle.path_checker.specs.RestViews.{tried_branches};
-ghost use Rattle.path_checker.specs.Rests.{RunsRest, RunsThen, TriesAt, TriesThen, IsSmallRest, AreFew, OfTries, of_parts};
+ghost use Rattle.path_checker.specs.Rests.{Later, RunsRest, RunsThen, TriesAt, TriesThen, IsSmallRest, AreFew, OfTries, OfLeave, of_parts};
 ghost use Rattle.path_checker.specs.Small.{AreSmallBranches, IsSmallSequence, IsSmallCommand, IsStraight};
 ghost use Rattle.path_checker.specs.Halting.{Halts};
 
 use crate::judge_plan::failures::Failures;
 use crate::judge_plan::halt::Halt;
-use crate::judge_plan::inner::{enter_all, leave_one, none_inside, only, outer_of, restart};
+use crate::judge_plan::inner::{
+    Outer, enter_all, leave_one, none_inside, only_shared, outer_of, restart,
+};
 use crate::judge_plan::kept::Kept;
 use crate::judge_plan::memory::Memory;
 use crate::judge_plan::rest::{First, Rest};
@@ -238,19 +241,14 @@ fn alone<'a>(
         (λ h. Halts (RunsThen (sequence_tree steps.now) rest.now count) (from.entry ∷ []) h) }
 {
     let mut k = from.set_apart(memory.alloc);
-    let mut at = 0;
-    while let Some(step) = straight_at(steps, at) {
-        let goes_on = straight_in(memory, count, step, &mut k)?;
-        if goes_on {
-            at += 1;
-        } else {
-            return Ok(());
-        }
-    }
+    let done = straight_steps(memory, count, steps, &mut k)?;
+    let Some(at) = done else {
+        return Ok(());
+    };
     if at == steps.len() {
         return follow_alone(memory, count, rest, k);
     }
-    let one = only(memory.alloc, k.shared(memory)?)?;
+    let one = only_shared(memory, k)?;
     commands(memory, count, &steps[at..], rest, one)
 }
 
@@ -341,26 +339,112 @@ fn tries_at<'a>(
         (TriesAt (tried_branches tried.entry) tried.entry.place component behind.now count)
         (k.entry ∷ []) h) }
 {
-    let outer = outer_of(&k)?;
-    let outer = &outer;
-    let mut ended = Failures::none(memory.alloc, false, false);
+    let leave = Rest::leave(memory, &k, behind)?;
     let mut done = Vec::new(memory.alloc);
-    let mut now = only(memory.alloc, k.shared(memory)?)?;
+    let last = until_last(memory, count, tried, component, k, &mut done)?;
+    commands(memory, count, tried.last.as_slice(), leave, last)?;
+    follow(memory, count, behind, done)
+}
+
+// Does a try each at one component, up to its last branch: the states in which that begins. The states that are done are added.
+fn until_last<'a>(
+    memory: Memory<'a>,
+    count: u32,
+    tried: Tried<'a>,
+    component: u32,
+    k: Kept<'a>,
+    done: &mut Vec<Kept<'a>>,
+) -> Result<Vec<Kept<'a>>, Halt<'a>>
+    requires room { component < 8 }
+    requires small { AreSmallBranches count (tried_branches tried) }
+    requires none { done.now.items ≡ [] }
+    ensures ok { IfOk result
+        (λ last. (behind : List Later)
+        → GoesLast (TriesAt (tried_branches tried.entry) tried.entry.place component behind count)
+        (k.entry ∷ [])
+        (RunsThen tried.entry.last.now
+        (OfLeave k.entry.state.selection k.entry.state.soft_failure ∷ behind) count)
+        (RunsRest behind count) last.items done.new.items) }
+    ensures err { IfErr result
+        (λ h. (behind : List Later)
+        → Halts (TriesAt (tried_branches tried.entry) tried.entry.place component behind count)
+        (k.entry ∷ []) h) }
+{
+    let outer = outer_of(&k)?;
+    tried_before(memory, count, tried, component, &outer, k, done)
+}
+
+// The same where the state around it is this one.
+fn tried_before<'a>(
+    memory: Memory<'a>,
+    count: u32,
+    tried: Tried<'a>,
+    component: u32,
+    outer: &Outer<'a>,
+    k: Kept<'a>,
+    done: &mut Vec<Kept<'a>>,
+) -> Result<Vec<Kept<'a>>, Halt<'a>>
+    requires room { component < 8 }
+    requires small { AreSmallBranches count (tried_branches tried) }
+    requires outer { outer.now ≡ k.state }
+    requires none { done.now.items ≡ [] }
+    ensures ok { IfOk result
+        (λ last. (behind : List Later)
+        → GoesLast (TriesAt (tried_branches tried.entry) tried.entry.place component behind count)
+        (k.entry ∷ [])
+        (RunsThen tried.entry.last.now
+        (OfLeave k.entry.state.selection k.entry.state.soft_failure ∷ behind) count)
+        (RunsRest behind count) last.items done.new.items) }
+    ensures err { IfErr result
+        (λ h. (behind : List Later)
+        → Halts (TriesAt (tried_branches tried.entry) tried.entry.place component behind count)
+        (k.entry ∷ []) h) }
+{
+    let mut ended = Failures::none(memory.alloc, false, false);
+    let mut now = only_shared(memory, k)?;
     for branch in tried.before {
         let Some(inner) = branch else {
             done.append(&mut now)?;
-            return follow(memory, count, behind, done);
+            return Ok(now);
         };
         let inside = enter_all(memory.alloc, component, outer, now)?;
         let stops = none_inside(memory.alloc, true, &ended, outer);
-        now = one_branch(
-            memory, count, inner, outer, inside, stops, &mut done, &mut ended,
-        )?;
+        now = one_branch(memory, count, inner, outer, inside, stops, done, &mut ended)?;
     }
-    let inside = enter_all(memory.alloc, component, outer, now)?;
-    let leave = Rest::leave(memory, outer, behind)?;
-    commands(memory, count, tried.last.as_slice(), leave, inside)?;
-    follow(memory, count, behind, done)
+    Ok(enter_all(memory.alloc, component, outer, now)?)
+}
+
+// Does commands one after another, as long as each is a condition or holds none that is met: how many they are, if the procedure
+// goes on.
+fn straight_steps<'a>(
+    memory: Memory<'a>,
+    count: u32,
+    steps: &'a [Step],
+    k: &mut Kept<'a>,
+) -> Result<Option<usize>, Halt<'a>>
+    requires small { IsSmallSequence count (sequence_tree steps.now) }
+    ensures within { IfOk result (λ done. IfSome done (λ at. at ≤ length steps.now)) }
+    ensures on { IfOk result
+        (λ done. IfSome done
+        (λ at. (rest : List Later)
+        → GoesOn (RunsThen (sequence_tree steps.now) rest count) (k.old ∷ [])
+        (RunsThen (sequence_tree (drop at steps.now)) rest count) (k.new ∷ []))) }
+    ensures ended { IfOk result
+        (λ done. done ≡ None → (rest : List Later)
+        → Covers (RunsThen (sequence_tree steps.now) rest count) (k.old ∷ [])) }
+    ensures err { IfErr result
+        (λ h. (rest : List Later)
+        → Halts (RunsThen (sequence_tree steps.now) rest count) (k.old ∷ []) h) }
+{
+    let mut at = 0;
+    while let Some(step) = straight_at(steps, at) {
+        let goes_on = straight_in(memory, count, step, k)?;
+        if !goes_on {
+            return Ok(None);
+        }
+        at += 1;
+    }
+    Ok(Some(at))
 }
 
 // The command at an index, if it is a condition, or holds none that is met.

@@ -9,6 +9,12 @@ use path_model::Events;
 use std::alloc::{AllocError, Global};
 use std::marker::Model;
 
+// As many events of its own as these are shared in one part.
+const LONG: usize = 16;
+
+// With as many, those of its own are shared.
+const FULL: usize = 1_024;
+
 // Events in memory of their own.
 #[derive(Drop)]
 pub(crate) struct Since<'a> {
@@ -72,10 +78,19 @@ impl<'a> Since<'a> {
         ensures { IfOk result (λ all. all ≡ shared.entry ++ self.now) }
     {
         let mut all = shared;
+        if self.told.len() >= LONG {
+            all.add_many(memory.events, self.told.as_slice())?;
+            return Ok(all);
+        }
         for told in self.told.as_slice() {
             all.add(memory.events, *told)?;
         }
         Ok(all)
+    }
+
+    // Whether they are so many that they are shared.
+    fn is_full(&self) -> bool {
+        self.told.len() >= FULL
     }
 
     // Adds them to others, in memory of their own.
@@ -105,10 +120,52 @@ impl<'a> Past<'a> {
         ensures ok { OnOk result (self.new ≡ self.old ++ told_by told.entry) }
         ensures err { OnErr result (self.new ≡ self.old) }
     {
+        self.settle(memory)?;
         match &mut self.since {
             Some(since) => since.add(told),
             None => self.shared.add(memory.events, told),
         }
+    }
+
+    // The same. Where many follow one another since `begin`, the next ones are in memory of its own first, and then shared many at once.
+    fn settle(&mut self, memory: Memory<'a>) -> Result<(), AllocError>
+        ensures { self.new ≡ self.old }
+    {
+        match &mut self.since {
+            Some(since) => {
+                if since.is_full() && self.shared.are_many() {
+                    self.shared.add_many(memory.events, since.told.as_slice())?;
+                    since.told.clear();
+                }
+            }
+            None => {
+                if self.shared.are_many() {
+                    self.since = Some(Since::new(memory.alloc));
+                }
+            }
+        }
+        Ok(())
+    }
+
+    /// The same. From now on no copy is made, until `end`.
+    pub(crate) fn begin(&mut self)
+        ensures { self.new ≡ self.old }
+    {
+        if self.since.is_none() {
+            self.shared.begin();
+        }
+    }
+
+    /// The same. Copies are made again.
+    pub(crate) fn end(&mut self, memory: Memory<'a>) -> Result<(), AllocError>
+        ensures { self.new ≡ self.old }
+    {
+        if self.shared.are_many() {
+            self.shared = self.lent(memory)?;
+            self.since = None;
+        }
+        self.shared.end();
+        Ok(())
     }
 
     /// The same. The next events are in memory of its own.

@@ -4,7 +4,7 @@ ghost use Rattle.std.specs.Prelude.{◌≡◌, ◌∷◌, IfOk};
 ghost use Rattle.path_checker.specs.RestViews.{all_of};
 ghost use Rattle.path_checker.specs.Rests.{OfLeave};
 
-use crate::judge_plan::inner::Outer;
+use crate::judge_plan::kept::Kept;
 use crate::judge_plan::memory::Memory;
 use crate::judge_plan::selected::Selected;
 use crate::judge_plan::wide_try::Tried;
@@ -66,16 +66,17 @@ impl<'a> Rest<'a> {
         Ok(rest)
     }
 
-    /// The end of a branch around which the state was this one, and then others.
+    /// The end of a branch that was entered from this state, and then others.
     pub(crate) fn leave(
         memory: Memory<'a>,
-        outer: &Outer<'a>,
+        k: &Kept<'a>,
         behind: &'a Rest<'a>,
     ) -> Result<&'a Rest<'a>, AllocError>
         ensures { IfOk result
-            (λ rest. rest.now ≡ OfLeave outer.now.selection outer.now.soft_failure ∷ behind.now) }
+            (λ rest. rest.now
+            ≡ OfLeave k.now.state.selection k.now.state.soft_failure ∷ behind.now) }
     {
-        let first = First::Leave(outer.selection.copy(), outer.soft_failure, behind);
+        let first = First::Leave(k.selection.copy(), k.soft_failure, behind);
         let rest = Rest::of(memory, first)?;
         Ok(rest)
     }

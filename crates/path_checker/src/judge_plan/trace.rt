@@ -2,7 +2,8 @@
 
 ghost use Rattle.std.specs.Prelude.{◌≡◌, [], ◌∷◌, ◌++◌, map, IfOk, OnOk, OnErr};
 ghost use Rattle.suit_commands.specs.View.{sequence_tree};
-ghost use Rattle.path_checker.specs.Happening.{event_of, invoke_event, sets_at, sequence_sets, told_by, all_told, four_told, waiting_told};
+ghost use Rattle.path_checker.specs.Happening.{event_of, invoke_event, sets_at, sequence_sets, told_by, all_told, four_told, piece_told, waiting_told};
+ghost use Rattle.path_checker.specs.Chains.{parts_from, Parted};
 ghost use Rattle.path_checker.specs.Overriding.{AreOverrides};
 ghost use Rattle.path_checker.specs.Selecting.{components_of};
 ghost use Rattle.path_checker.specs.Standing.{all_in_order};
@@ -81,6 +82,9 @@ pub(crate) enum Told<'a> {
 // How many events wait at most.
 const FEW: usize = 3;
 
+// How many parts of four, one after another, are many.
+const MANY: u32 = 4;
+
 /// Four of these, in order.
 #[derive(Clone, Copy)]
 struct Four<'a> {
@@ -96,11 +100,28 @@ struct Part<'a> {
     before: Trace<'a>,
 }
 
+// Many events, and those before them.
+#[cycle(trace)]
+#[derive(Drop)]
+struct Stretch<'a> {
+    told: &'a [Told<'a>],
+    before: Trace<'a>,
+}
+
+// The last events of a path.
+#[cycle(trace)]
+#[derive(Clone, Copy)]
+enum Last<'a> {
+    None,
+    Four(&'a Part<'a>),
+    Many(&'a Stretch<'a>),
+}
+
 /// Parts of a path, the last one first. Traces made from one trace share its parts.
 #[cycle(trace)]
 #[derive(Drop)]
 struct Trace<'a> {
-    last: Option<&'a Part<'a>>,
+    last: Last<'a>,
 }
 
 impl<'a> Model for Trace<'a> {
@@ -115,16 +136,25 @@ impl<'a> Model for Trace<'a> {
 
     ghost size = { length };
 
-    ghost use Rattle.std.proofs.Common.{arith};
+    ghost use Rattle.path_checker.specs.ChainFalls.{chain_falls};
 
-    ghost size_decreases = { λ a h. Prim.grind (arith) };
+    ghost size_decreases = { λ a h. chain_falls a.last };
+}
+
+/// A part of a path: four events, or many.
+#[derive(Clone, Copy)]
+enum Piece<'a> {
+    Four(&'a Four<'a>),
+    Many(&'a [Told<'a>]),
 }
 
 /// The last events, which are too few for a part: so many of these.
 #[derive(Clone, Copy)]
 struct Waiting<'a> {
     told: [Told<'a>; FEW],
-    count: usize,
+    count: u32,
+    // Where the state is followed by one alone, one more than the parts of four since then, and otherwise 0.
+    parts: u32,
 }
 
 /// The events of a path, in memory that all states share.
@@ -314,6 +344,18 @@ impl<'a> Four<'a> {
     }
 }
 
+impl<'a> Piece<'a> {
+    // Adds the events, in memory of their own.
+    fn tell(&self, alloc: Global, events: &mut Events) -> Result<(), AllocError>
+        ensures { OnOk result (events.new ≡ events.old ++ piece_told self.now) }
+    {
+        match *self {
+            Piece::Four(four) => four.tell(alloc, events),
+            Piece::Many(told) => tell_all(told, alloc, events),
+        }
+    }
+}
+
 impl<'a> Waiting<'a> {
     // None.
     fn new() -> Waiting<'a>
@@ -322,16 +364,39 @@ impl<'a> Waiting<'a> {
         Waiting {
             told: [Told::Failed { place: 0 }; FEW],
             count: 0,
+            parts: 0,
         }
     }
 
-    // Adds the events, in memory of their own.
+    // The events.
     #[tactic(auto, using(std::proofs::lemmas::List::take_min))]
-    fn tell(&self, alloc: Global, events: &mut Events) -> Result<(), AllocError>
-        ensures { OnOk result (events.new ≡ events.old ++ waiting_told self.now) }
+    fn as_slice(&self) -> &[Told<'a>]
+        ensures { all_told result.now ≡ waiting_told self.now }
     {
         let told = &self.told[..];
-        tell_all(&told[..self.count.min(told.len())], alloc, events)
+        &told[..(self.count as usize).min(told.len())]
+    }
+}
+
+// How many parts are counted after one more, if they are counted.
+fn after_one(parts: u32) -> u32 {
+    if parts == 0 {
+        0
+    } else {
+        parts.saturating_add(1)
+    }
+}
+
+impl<'a> Last<'a> {
+    // The last part and those before it, where there is one.
+    fn parted(self) -> Option<(Piece<'a>, Last<'a>)>
+        ensures { Parted (parts_from self.entry) result }
+    {
+        match self {
+            Last::None => None,
+            Last::Four(part) => Some((Piece::Four(&part.told), part.before.last)),
+            Last::Many(stretch) => Some((Piece::Many(stretch.told), stretch.before.last)),
+        }
     }
 }
 
@@ -340,7 +405,7 @@ impl<'a> Trace<'a> {
     fn new() -> Trace<'a>
         ensures { result ≡ [] }
     {
-        Trace { last: None }
+        Trace { last: Last::None }
     }
 
     // The same events. Takes no memory.
@@ -350,26 +415,42 @@ impl<'a> Trace<'a> {
         Trace { last: self.last }
     }
 
-    // With more events.
+    // With four events more.
     fn with(&self, bump: &'a Bump, told: Four<'a>) -> Result<Trace<'a>, AllocError>
         ensures { IfOk result (λ trace. trace ≡ four_told told.entry ∷ self.now) }
     {
         let before = self.copy();
         match bump.try_alloc(Part { told, before }) {
-            Ok(part) => Ok(Trace { last: Some(part) }),
+            Ok(part) => Ok(Trace {
+                last: Last::Four(part),
+            }),
+            Err(_) => Err(AllocError),
+        }
+    }
+
+    // With many events more.
+    fn with_many(&self, bump: &'a Bump, told: &[Told<'a>]) -> Result<Trace<'a>, AllocError>
+        ensures { IfOk result (λ trace. trace ≡ all_told told.now ∷ self.now) }
+    {
+        let before = self.copy();
+        let told = bump.try_alloc_slice_copy(told)?;
+        match bump.try_alloc(Stretch { told, before }) {
+            Ok(stretch) => Ok(Trace {
+                last: Last::Many(stretch),
+            }),
             Err(_) => Err(AllocError),
         }
     }
 
     // The parts, the last one first.
-    fn parts(&self, alloc: Global) -> Result<Vec<Four<'a>>, AllocError>
-        ensures { IfOk result (λ held. map four_told held.items ≡ self.now) }
+    fn parts(&self, alloc: Global) -> Result<Vec<Piece<'a>>, AllocError>
+        ensures { IfOk result (λ held. map piece_told held.items ≡ self.now) }
     {
         let mut held = Vec::new(alloc);
         let mut at = self.last;
-        while let Some(part) = at {
-            held.push(part.told)?;
-            at = part.before.last;
+        while let Some((piece, before)) = at.parted() {
+            held.push(piece)?;
+            at = before;
         }
         Ok(held)
     }
@@ -408,16 +489,35 @@ impl<'a> SharedEvents<'a> {
         }
     }
 
+    /// From now on no copy is made, until `end`.
+    pub(crate) fn begin(&mut self)
+        ensures { self.new ≡ self.old }
+    {
+        self.waiting.parts = 1;
+    }
+
+    /// Copies are made again.
+    pub(crate) fn end(&mut self)
+        ensures { self.new ≡ self.old }
+    {
+        self.waiting.parts = 0;
+    }
+
+    /// Whether so many were added since `begin` that many more may follow.
+    pub(crate) fn are_many(&self) -> bool {
+        self.waiting.parts > MANY
+    }
+
     /// More events.
     pub(crate) fn add(&mut self, bump: &'a Bump, told: Told<'a>) -> Result<(), AllocError>
         ensures ok { OnOk result (self.new ≡ self.old ++ told_by told.entry) }
         ensures err { OnErr result (self.new ≡ self.old) }
     {
-        let count = self.waiting.count;
+        let count = self.waiting.count as usize;
         let waiting = &mut self.waiting.told[..];
         if count < waiting.len() {
             waiting[count] = told;
-            self.waiting.count = count + 1;
+            self.waiting.count += 1;
             return Ok(());
         }
         let four = Four {
@@ -425,6 +525,22 @@ impl<'a> SharedEvents<'a> {
             last: told,
         };
         self.trace = self.trace.with(bump, four)?;
+        self.waiting.count = 0;
+        self.waiting.parts = after_one(self.waiting.parts);
+        Ok(())
+    }
+
+    /// Many events more.
+    pub(crate) fn add_many(&mut self, bump: &'a Bump, told: &[Told<'a>]) -> Result<(), AllocError>
+        ensures ok { OnOk result (self.new ≡ self.old ++ all_told told.now) }
+        ensures err { OnErr result (self.new ≡ self.old) }
+    {
+        if self.waiting.count == 0 {
+            self.trace = self.trace.with_many(bump, told)?;
+            return Ok(());
+        }
+        let before = self.trace.with_many(bump, self.waiting.as_slice())?;
+        self.trace = before.with_many(bump, told)?;
         self.waiting.count = 0;
         Ok(())
     }
@@ -434,7 +550,7 @@ impl<'a> SharedEvents<'a> {
         ensures { IfOk result (λ events. events ≡ self.now) }
     {
         let mut events = self.trace.told(alloc)?;
-        self.waiting.tell(alloc, &mut events)?;
+        tell_all(self.waiting.as_slice(), alloc, &mut events)?;
         Ok(events)
     }
 }

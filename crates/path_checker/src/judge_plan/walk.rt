@@ -1,11 +1,11 @@
 //! The walk through a command tree, with all states at once.
 
-ghost use Rattle.std.specs.Prelude.{◌<◌, [], ◌∷◌, OnOk, IfOk, IfErr};
+ghost use Rattle.std.specs.Prelude.{◌≡◌, ◌<◌, [], ◌∷◌, OnOk, IfOk, IfErr};
 ghost use Rattle.suit_commands.specs.View.{command_tree};
 ghost use Rattle.path_model.specs.Behaviour.{Each};
 ghost use Rattle.path_model.specs.Runs.{Runs, Does, Tries, RunsInner};
 ghost use Rattle.path_checker.specs.Exploring.{Adds};
-ghost use Rattle.path_checker.specs.Inner.{BranchAdds};
+ghost use Rattle.path_checker.specs.Inner.{BranchAdds, InsideAdds};
 ghost use Rattle.path_checker.specs.Small.{IsSmallSequence, IsSmallCommand, AreSmallBranches};
 ghost use Rattle.path_checker.specs.Steps.{At};
 ghost use Rattle.path_checker.specs.Unconditional.{IsUnconditional};
@@ -121,10 +121,10 @@ fn each<'a>(
     if let Some(component) = k.selection.sole() {
         return one(memory, count, step, component, k, next, failed);
     }
-    let selection = k.selection.listed(memory.alloc)?;
+    let selection = k.selection.copy();
     let mut now = only(memory.alloc, k)?;
-    for component in selection.as_slice() {
-        now = all_at(memory, count, step, *component, now, failed)?;
+    for index in 0..selection.len() {
+        now = all_at(memory, count, step, selection.at(index), now, failed)?;
     }
     next.append(&mut now)?;
     Ok(())
@@ -215,9 +215,30 @@ fn run<'a>(
 {
     let outer = outer_of(&k)?;
     let from = only(memory.alloc, enter(component, false, k))?;
-    let mut stops = none_inside(memory.alloc, true, failed, &outer);
+    run_inside(memory, count, inner, &outer, from, next, failed)
+}
+
+// Runs it from each of the states, which are those in which it begins, and leaves it.
+#[cycle(walk)]
+fn run_inside<'a>(
+    memory: Memory<'a>,
+    count: u32,
+    inner: &'a Sequence,
+    outer: &Outer<'a>,
+    from: Vec<Kept<'a>>,
+    next: &mut Vec<Kept<'a>>,
+    failed: &mut Failures<'a>,
+) -> Result<(), Halt<'a>>
+    requires small { IsSmallSequence count inner.now }
+    ensures ok { OnOk result
+        (InsideAdds (λ identities. Runs inner.now identities count) outer.now from.entry.items
+        next.old.items next.new.items failed.old failed.new) }
+    ensures err { IfErr result
+        (λ h. Halts (λ identities. Runs inner.now identities count) from.entry.items h) }
+{
+    let mut stops = none_inside(memory.alloc, true, failed, outer);
     let done = sequence(memory, count, inner, from, &mut stops)?;
-    Ok(leave(memory, &outer, done, stops, next, failed)?)
+    Ok(leave(memory, outer, done, stops, next, failed)?)
 }
 
 // Tries the branches in order.
@@ -242,7 +263,46 @@ fn try_each<'a>(
         (k.entry ∷ []) h) }
 {
     let outer = outer_of(&k)?;
-    let outer = &outer;
+    let around = Around {
+        place,
+        component,
+        outer,
+    };
+    try_around(memory, count, branches, &around, k, next, failed)
+}
+
+// A try each at a component, with the state around it.
+#[derive(Drop)]
+struct Around<'a> {
+    place: u64,
+    component: u32,
+    outer: Outer<'a>,
+}
+
+// Tries them where this is around them.
+#[cycle(walk)]
+fn try_around<'a>(
+    memory: Memory<'a>,
+    count: u32,
+    branches: &'a Branches,
+    around: &Around<'a>,
+    k: Kept<'a>,
+    next: &mut Vec<Kept<'a>>,
+    failed: &mut Failures<'a>,
+) -> Result<(), Halt<'a>>
+    requires room { around.now.component < 8 }
+    requires small { AreSmallBranches count branches.now }
+    requires outer { around.now.outer ≡ k.state }
+    ensures ok { OnOk result
+        (Adds
+        (λ identities. Tries branches.now identities count around.now.place around.now.component)
+        (k.entry ∷ []) next.old.items next.new.items failed.old failed.new) }
+    ensures err { IfErr result
+        (λ h. Halts
+        (λ identities. Tries branches.now identities count around.now.place around.now.component)
+        (k.entry ∷ []) h) }
+{
+    let (place, outer) = (around.place, &around.outer);
     let mut now = only(memory.alloc, k)?;
     let all = branches.as_slice();
     let mut left = all.len();
@@ -254,7 +314,7 @@ fn try_each<'a>(
                 return Ok(());
             }
             Some(inner) => {
-                let inside = enter_all(memory.alloc, component, outer, now)?;
+                let inside = enter_all(memory.alloc, around.component, outer, now)?;
                 let stops = none_inside(memory.alloc, left > 0, failed, outer);
                 now = one_branch(memory, count, inner, outer, inside, stops, next, failed)?
             }

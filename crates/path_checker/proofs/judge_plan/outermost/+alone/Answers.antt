@@ -1,26 +1,24 @@
-use Rattle.std.proofs.Common.{rules, ◌≡◌, ℕ, ◌<◌, ◌≤◌, ◌+◌, ◌*◌, ◌-◌, [], ◌∷◌, ◌++◌, List, Option, Some, None, length, get_or, take, drop, refl, sym, ap, ◌∙◌, subst, arith, length-drop, take_all}
+use Rattle.std.proofs.Common.{rules, ◌≡◌, ℕ, ◌<◌, ◌≤◌, ◌+◌, ◌*◌, ◌-◌, [], ◌∷◌, List, Option, Some, None, length, get_or, take, drop, refl, sym, ap, ◌∙◌, subst, arith, length-drop, take_all}
 use Rattle.std.proofs.lemmas.List.{drop_all}
 use Rattle.std.proofs.lemmas.Result.{err_from_is_err_and, on_ok_weaker, IfErr-weaker}
-use Rattle.std.specs.Prelude.{OnOk, IfErr}
+use Rattle.std.specs.Prelude.{OnOk, IfErr, IfSome}
 use Rattle.std.specs.Vec.{vec_len}
 use Rattle.suit_commands.specs.declared.command.Step.{Step}
 use Rattle.suit_commands.specs.Tree.{SequenceTree, TryEach}
-use Rattle.suit_commands.specs.View.{sequence_tree, branches_tree, command_tree}
-use Rattle.path_checker.specs.Exploring.{Course, Kept, Passes, kept_if}
+use Rattle.suit_commands.specs.View.{sequence_tree, command_tree}
+use Rattle.path_checker.specs.Exploring.{Kept}
+use Rattle.path_checker.specs.Going.{GoesOn, GoesLast}
 use Rattle.path_checker.specs.Halting.{Halts}
-use Rattle.path_checker.specs.Inner.{AllAt}
 use Rattle.path_checker.specs.Invoking.{Covers}
 use Rattle.path_checker.specs.RestViews.{tried_branches, all_of}
 use Rattle.path_checker.specs.Rests.{Later, OfPart, OfSteps, OfTries, OfLeave, RunsRest, RunsThen, TriesAt, TriesThen, IsSmallRest, AreFew}
-use Rattle.path_checker.specs.Small.{IsSmallSequence, IsSmallCommand, AreSmallBranches}
-use Rattle.path_checker.proofs.Besides.{GoesBoth, GoesBoth-start, GoesBoth-branch, GoesBoth-halts, GoesBoth-null, GoesBoth-last, GoesBoth-stops, before_some, before_none, small_before}
-use Rattle.path_checker.proofs.Branching.{rest_course, at-one}
+use Rattle.path_checker.specs.Small.{IsSmallSequence, IsSmallCommand}
+use Rattle.path_checker.proofs.Besides.{GoesLast-halts, GoesLast-ends, small_last}
 use Rattle.path_checker.proofs.DirectiveLeaves.{never_true}
-use Rattle.path_checker.proofs.Going.{GoesOn, GoesOn-start, GoesOn-halts, GoesOn-step, GoesOn-stops, GoesOn-end, GoesOn-popped, GoesOn-halted, GoesOn-covers, Covers-none, Covers-end}
+use Rattle.path_checker.proofs.Going.{GoesOn-start, GoesOn-halts, GoesOn-step, GoesOn-stops, GoesOn-end, GoesOn-popped, GoesOn-halted, GoesOn-covers, Covers-none, Covers-end}
 use Rattle.path_checker.proofs.Popping.{none_left, not_empty}
-use Rattle.path_checker.proofs.Smallness.{small_step, drop_next}
+use Rattle.path_checker.proofs.Smallness.{small_step, small_after, drop_next}
 use Rattle.path_checker.proofs.Trying.{GoesOn-part, GoesOn-steps, GoesOn-leave, GoesOn-tries, GoesOn-each, GoesOn-first, GoesOn-at_none, few_popped}
-use Rattle.path_checker.proofs.Walking.{does_course, runs_course}
 use Rattle.path_checker.proofs.Weights.{weight, once_weight, rest_weight, branches_weight, step_weight, weight_after, last_weight, few_components, tries_weight}
 use Rattle.path_checker.proofs.judge_plan.outermost.+alone.Goals as goal
 
@@ -137,75 +135,69 @@ each_alone-returns-in_err-alone-clause-err t c =
 pub each_alone-loop-k-preserved : goal.each_alone-loop-k-preserved
 each_alone-loop-k-preserved t c = GoesOn-popped (RunsThen (sequence_tree c.args.steps.now) c.args.rest.now c.args.count) c.args.from.items c.loop-k.now.items c.pop.new.self.items c.in-Some.k c.loop-k.invariant c.in-Some.ensures.items c.in_ok-alone.ensures.ok
 
-pub alone-loop-step-init : goal.alone-loop-step-init
-alone-loop-step-init t c =
+-- what stands where there is one, and where there is none
+at_some : {A : Type 0} (P : A → Type 0) (o : Option A) (x : A) → o ≡ Some x → IfSome o P → P x
+at_some {A} P o x is h = subst (λ (p : Option A). IfSome p P) is h
+
+is_none : {A : Type 0} (o : Option A) → ((x : A) → o ≡ Some x → ⊥) → o ≡ None
+is_none None never = refl
+is_none (Some x) never = absurd (never x refl)
+
+pub alone-returns-in_err-done-clause-err : goal.alone-returns-in_err-done-clause-err
+alone-returns-in_err-done-clause-err t c =
     let whole = RunsThen (sequence_tree c.args.steps.now) c.args.rest.now c.args.count in
-    record {
-      within = search rules;
-      small = c.requires.small;
-      goes = subst (λ (k : Kept). GoesOn whole (c.args.from ∷ []) whole (k ∷ [])) (sym c.set_apart-k.ensures) (GoesOn-start whole (c.args.from ∷ []));
-    }
-
-pub alone-straight_in-requires : goal.alone-straight_in-requires
-alone-straight_in-requires t c = record {
-  small = subst (λ (s : Step). IsSmallCommand c.args.count (command_tree s.command)) (sym c.in-Some.ensures.is) (small_step c.args.count c.args.steps.now c.loop-step.at c.in-Some.step.now c.in-Some.ensures.within c.loop-step.invariant.small).0;
-  straight = c.in-Some.ensures.straight;
-}
-
-pub alone-loop-step-preserved : goal.alone-loop-step-preserved
-alone-loop-step-preserved t c =
-    let passes = subst (λ b. Passes (does_course (command_tree c.in-Some.step.now.command) c.args.count c.in-Some.step.now.place) (c.loop-step.k ∷ []) (kept_if b c.straight_in.new.k)) c.if-goes_on.true c.in_ok-goes_on.ensures.ok in
-    record {
-      within = omega (arith, c.in-Some.ensures.within);
-      small = (small_step c.args.count c.args.steps.now c.loop-step.at c.in-Some.step.now c.in-Some.ensures.within c.loop-step.invariant.small).1;
-      goes = GoesOn-step c.args.steps.now c.loop-step.at c.args.count c.in-Some.step.now c.in-Some.ensures.within c.in-Some.ensures.is (RunsRest c.args.rest.now c.args.count) (RunsThen (sequence_tree c.args.steps.now) c.args.rest.now c.args.count) (c.args.from ∷ []) (c.loop-step.k ∷ []) c.loop-step.invariant.goes (c.straight_in.new.k ∷ []) passes;
-    }
-
-pub alone-returns-in_err-goes_on-clause-err : goal.alone-returns-in_err-goes_on-clause-err
-alone-returns-in_err-goes_on-clause-err t c =
     let p = err_from_is_err_and c.from_residual.result c.from_residual.ensures.1 in
-    rw (p.1, p.2) (GoesOn-stops c.args.steps.now c.loop-step.at c.args.count c.in-Some.step.now c.in-Some.ensures.within c.in-Some.ensures.is (RunsRest c.args.rest.now c.args.count) (RunsThen (sequence_tree c.args.steps.now) c.args.rest.now c.args.count) (c.args.from ∷ []) (c.loop-step.k ∷ []) c.loop-step.invariant.goes c.in_err-goes_on.field-0.0 c.in_err-goes_on.ensures.err)
+    rw (p.1, p.2) (subst (λ (k : Kept). Halts whole (k ∷ []) c.in_err-done.field-0.0) c.set_apart-k.ensures (c.in_err-done.ensures.err c.args.rest.now))
 
-pub alone-returns-else-goes_on-clause-ok : goal.alone-returns-else-goes_on-clause-ok
-alone-returns-else-goes_on-clause-ok t c =
-    let passes = subst (λ b. Passes (does_course (command_tree c.in-Some.step.now.command) c.args.count c.in-Some.step.now.place) (c.loop-step.k ∷ []) (kept_if b c.straight_in.new.k)) c.if-goes_on.false c.in_ok-goes_on.ensures.ok in
-    let goes = GoesOn-step c.args.steps.now c.loop-step.at c.args.count c.in-Some.step.now c.in-Some.ensures.within c.in-Some.ensures.is (RunsRest c.args.rest.now c.args.count) (RunsThen (sequence_tree c.args.steps.now) c.args.rest.now c.args.count) (c.args.from ∷ []) (c.loop-step.k ∷ []) c.loop-step.invariant.goes [] passes in
-    goes.covers (Covers-none _)
+pub alone-returns-in_default-clause-ok : goal.alone-returns-in_default-clause-ok
+alone-returns-in_default-clause-ok t c =
+    let whole = RunsThen (sequence_tree c.args.steps.now) c.args.rest.now c.args.count in
+    subst (λ (k : Kept). Covers whole (k ∷ [])) c.set_apart-k.ensures (c.in_ok-done.ensures.ended (is_none c.in_ok-done.done c.in_default.not-Some) c.args.rest.now)
 
 pub alone-follow_alone-requires : goal.alone-follow_alone-requires
 alone-follow_alone-requires t c = (omega (arith, c.decreases), c.requires.rest)
 
+-- the commands that are left, in the state after the others
+alone_goes : (steps : List Step) (at count : ℕ) (rest : List Later) (from apart k : Kept) (done : Option ℕ) → done ≡ Some at
+    → IfSome done (λ (n : ℕ). (r : List Later) → GoesOn (RunsThen (sequence_tree steps) r count) (apart ∷ []) (RunsThen (sequence_tree (drop n steps)) r count) (k ∷ []))
+    → apart ≡ from → GoesOn (RunsThen (sequence_tree steps) rest count) (from ∷ []) (RunsThen (sequence_tree (drop at steps)) rest count) (k ∷ [])
+alone_goes steps at count rest from apart k done is on same =
+    subst (λ (x : Kept). GoesOn (RunsThen (sequence_tree steps) rest count) (x ∷ []) (RunsThen (sequence_tree (drop at steps)) rest count) (k ∷ [])) same (at_some (λ (n : ℕ). (r : List Later) → GoesOn (RunsThen (sequence_tree steps) r count) (apart ∷ []) (RunsThen (sequence_tree (drop n steps)) r count) (k ∷ [])) done at is on rest)
+
 pub alone-returns-then-at-steps-clause-ok : goal.alone-returns-then-at-steps-clause-ok
 alone-returns-then-at-steps-clause-ok t c =
-    let goes = GoesOn-end c.args.steps.now c.loop-step.at c.args.count (RunsRest c.args.rest.now c.args.count) (RunsThen (sequence_tree c.args.steps.now) c.args.rest.now c.args.count) (c.args.from ∷ []) (c.loop-step.k ∷ []) (drop_all c.loop-step.at c.args.steps.now (omega (arith, c.if-at-steps.true))) c.loop-step.invariant.goes in
+    let on = alone_goes c.args.steps.now c.in-Some.at c.args.count c.args.rest.now c.args.from c.set_apart-k.result c.straight_steps.new.k c.in_ok-done.done c.in-Some.is c.in_ok-done.ensures.on c.set_apart-k.ensures in
+    let goes = GoesOn-end c.args.steps.now c.in-Some.at c.args.count (RunsRest c.args.rest.now c.args.count) (RunsThen (sequence_tree c.args.steps.now) c.args.rest.now c.args.count) (c.args.from ∷ []) (c.straight_steps.new.k ∷ []) (drop_all c.in-Some.at c.args.steps.now (omega (arith, c.if-at-steps.true))) on in
     on_ok_weaker c.follow_alone.result goes.covers c.follow_alone.ensures.ok
 
 pub alone-returns-then-at-steps-clause-err : goal.alone-returns-then-at-steps-clause-err
 alone-returns-then-at-steps-clause-err t c =
-    let goes = GoesOn-end c.args.steps.now c.loop-step.at c.args.count (RunsRest c.args.rest.now c.args.count) (RunsThen (sequence_tree c.args.steps.now) c.args.rest.now c.args.count) (c.args.from ∷ []) (c.loop-step.k ∷ []) (drop_all c.loop-step.at c.args.steps.now (omega (arith, c.if-at-steps.true))) c.loop-step.invariant.goes in
-    IfErr-weaker c.follow_alone.result (λ h. Halts (RunsRest c.args.rest.now c.args.count) (c.loop-step.k ∷ []) h) (λ h. Halts (RunsThen (sequence_tree c.args.steps.now) c.args.rest.now c.args.count) (c.args.from ∷ []) h)
-    (λ h u. GoesOn-halts (RunsThen (sequence_tree c.args.steps.now) c.args.rest.now c.args.count) (RunsRest c.args.rest.now c.args.count) (c.args.from ∷ []) (c.loop-step.k ∷ []) goes h u) c.follow_alone.ensures.err
+    let on = alone_goes c.args.steps.now c.in-Some.at c.args.count c.args.rest.now c.args.from c.set_apart-k.result c.straight_steps.new.k c.in_ok-done.done c.in-Some.is c.in_ok-done.ensures.on c.set_apart-k.ensures in
+    let goes = GoesOn-end c.args.steps.now c.in-Some.at c.args.count (RunsRest c.args.rest.now c.args.count) (RunsThen (sequence_tree c.args.steps.now) c.args.rest.now c.args.count) (c.args.from ∷ []) (c.straight_steps.new.k ∷ []) (drop_all c.in-Some.at c.args.steps.now (omega (arith, c.if-at-steps.true))) on in
+    IfErr-weaker c.follow_alone.result (λ h. Halts (RunsRest c.args.rest.now c.args.count) (c.straight_steps.new.k ∷ []) h) (λ h. Halts (RunsThen (sequence_tree c.args.steps.now) c.args.rest.now c.args.count) (c.args.from ∷ []) h)
+    (λ h u. GoesOn-halts (RunsThen (sequence_tree c.args.steps.now) c.args.rest.now c.args.count) (RunsRest c.args.rest.now c.args.count) (c.args.from ∷ []) (c.straight_steps.new.k ∷ []) goes h u) c.follow_alone.ensures.err
 
 pub alone-commands-requires : goal.alone-commands-requires
 alone-commands-requires t c =
-    let same = same_rest c.args.steps.now c.loop-step.at in (
-      omega (arith, c.decreases, weight_after c.args.steps.now c.loop-step.at, ap (λ (s : List Step). weight (sequence_tree s)) same),
-      (subst (λ (s : List Step). IsSmallSequence c.args.count (sequence_tree s)) (sym same) c.loop-step.invariant.small, c.requires.rest),
+    let same = same_rest c.args.steps.now c.in-Some.at in (
+      omega (arith, c.decreases, weight_after c.args.steps.now c.in-Some.at, ap (λ (s : List Step). weight (sequence_tree s)) same),
+      (subst (λ (s : List Step). IsSmallSequence c.args.count (sequence_tree s)) (sym same) (small_after c.args.count c.args.steps.now c.in-Some.at c.requires.small), c.requires.rest),
     )
 
 pub alone-returns-clause-ok : goal.alone-returns-clause-ok
 alone-returns-clause-ok t c =
-    let one : c.in_ok-one.one.items ≡ c.loop-step.k ∷ [] = c.in_ok-one.ensures ∙ ap (λ (x : Kept). x ∷ []) c.in_ok-shared.ensures in
-    on_ok_weaker c.commands.result c.loop-step.invariant.goes.covers
-    (subst (λ (ks : List Kept). OnOk c.commands.result (Covers (RunsThen (sequence_tree (drop c.loop-step.at c.args.steps.now)) c.args.rest.now c.args.count) ks)) one (subst (λ (s : List Step). OnOk c.commands.result (Covers (RunsThen (sequence_tree s) c.args.rest.now c.args.count) c.in_ok-one.one.items)) (same_rest c.args.steps.now c.loop-step.at) c.commands.ensures.ok))
+    let on = alone_goes c.args.steps.now c.in-Some.at c.args.count c.args.rest.now c.args.from c.set_apart-k.result c.straight_steps.new.k c.in_ok-done.done c.in-Some.is c.in_ok-done.ensures.on c.set_apart-k.ensures in
+    let rest = RunsThen (sequence_tree (drop c.in-Some.at c.args.steps.now)) c.args.rest.now c.args.count in
+    on_ok_weaker c.commands.result on.covers
+    (subst (λ (ks : List Kept). OnOk c.commands.result (Covers rest ks)) c.in_ok-one.ensures (subst (λ (s : List Step). OnOk c.commands.result (Covers (RunsThen (sequence_tree s) c.args.rest.now c.args.count) c.in_ok-one.one.items)) (same_rest c.args.steps.now c.in-Some.at) c.commands.ensures.ok))
 
 pub alone-returns-clause-err : goal.alone-returns-clause-err
 alone-returns-clause-err t c =
-    let rest = RunsThen (sequence_tree (drop c.loop-step.at c.args.steps.now)) c.args.rest.now c.args.count in
-    let one : c.in_ok-one.one.items ≡ c.loop-step.k ∷ [] = c.in_ok-one.ensures ∙ ap (λ (x : Kept). x ∷ []) c.in_ok-shared.ensures in
-    IfErr-weaker c.commands.result (λ h. Halts rest (c.loop-step.k ∷ []) h) (λ h. Halts (RunsThen (sequence_tree c.args.steps.now) c.args.rest.now c.args.count) (c.args.from ∷ []) h)
-    (λ h u. GoesOn-halts (RunsThen (sequence_tree c.args.steps.now) c.args.rest.now c.args.count) rest (c.args.from ∷ []) (c.loop-step.k ∷ []) c.loop-step.invariant.goes h u)
-    (subst (λ (ks : List Kept). IfErr c.commands.result (λ h. Halts rest ks h)) one (subst (λ (s : List Step). IfErr c.commands.result (λ h. Halts (RunsThen (sequence_tree s) c.args.rest.now c.args.count) c.in_ok-one.one.items h)) (same_rest c.args.steps.now c.loop-step.at) c.commands.ensures.err))
+    let on = alone_goes c.args.steps.now c.in-Some.at c.args.count c.args.rest.now c.args.from c.set_apart-k.result c.straight_steps.new.k c.in_ok-done.done c.in-Some.is c.in_ok-done.ensures.on c.set_apart-k.ensures in
+    let rest = RunsThen (sequence_tree (drop c.in-Some.at c.args.steps.now)) c.args.rest.now c.args.count in
+    IfErr-weaker c.commands.result (λ h. Halts rest (c.straight_steps.new.k ∷ []) h) (λ h. Halts (RunsThen (sequence_tree c.args.steps.now) c.args.rest.now c.args.count) (c.args.from ∷ []) h)
+    (λ h u. GoesOn-halts (RunsThen (sequence_tree c.args.steps.now) c.args.rest.now c.args.count) rest (c.args.from ∷ []) (c.straight_steps.new.k ∷ []) on h u)
+    (subst (λ (ks : List Kept). IfErr c.commands.result (λ h. Halts rest ks h)) c.in_ok-one.ensures (subst (λ (s : List Step). IfErr c.commands.result (λ h. Halts (RunsThen (sequence_tree s) c.args.rest.now c.args.count) c.in_ok-one.one.items h)) (same_rest c.args.steps.now c.in-Some.at) c.commands.ensures.err))
 
 -- ---- what follows
 
@@ -394,115 +386,40 @@ tries-returns-clause-err t c =
 
 -- ---- at one component
 
--- what is no sequence is null
-none_there : (branch : Option SequenceTree) → ((inner : SequenceTree) → branch ≡ Some inner → ⊥) → branch ≡ None
-none_there None never = refl
-none_there (Some inner) never = absurd (never inner refl)
+pub tries_at-returns-in_err-last-clause-err : goal.tries_at-returns-in_err-last-clause-err
+tries_at-returns-in_err-last-clause-err t c =
+    let p = err_from_is_err_and c.from_residual-in_err-last.result c.from_residual-in_err-last.ensures.1 in rw (p.1, p.2) (c.in_err-last.ensures.err c.args.behind.now)
 
-pub tries_at-loop-branch-init : goal.tries_at-loop-branch-init
-tries_at-loop-branch-init t c =
-    let one : c.in_ok-now.now.items ≡ c.args.k ∷ [] = c.in_ok-now.ensures ∙ ap (λ (x : Kept). x ∷ []) c.in_ok-shared.ensures in
-    record {
-      small = c.requires.small;
-      at = subst (AllAt c.in_ok-outer.outer) (sym one) (at-one c.args.k c.in_ok-outer.outer c.in_ok-outer.ensures);
-      both = GoesBoth-start (rest_course (tried_branches c.args.tried) c.args.count c.args.tried.place c.args.component) (RunsRest c.args.behind.now c.args.count) (c.args.k ∷ []) c.in_ok-now.now.items c.new-done.result.items one c.new-done.ensures.items;
-    }
+pub tries_at-commands-requires : goal.tries_at-commands-requires
+tries_at-commands-requires t c = (
+  omega (arith, c.decreases, last_weight c.args.tried.before.now c.args.tried.last.now, ap rest_weight c.in_ok-leave.ensures, ap weight c.as_slice.ensures),
+  (subst (IsSmallSequence c.args.count) (sym c.as_slice.ensures) (small_last c.args.tried.before.now c.args.tried.last.now c.args.count c.requires.small), subst (IsSmallRest c.args.count) (sym c.in_ok-leave.ensures) (tt, c.requires.behind)),
+)
 
-pub tries_at-loop-branch-preserved : goal.tries_at-loop-branch-preserved
-tries_at-loop-branch-preserved t c =
-    let tail : List (Option SequenceTree) = Some c.args.tried.last.now ∷ [] in
-    let bs = c.args.tried.before.now in
-    let is = sym c.branch-item.is ∙ c.in-Some.is in
-    let whole = TriesAt (tried_branches c.args.tried) c.args.tried.place c.args.component c.args.behind.now c.args.count in
-    let both = subst (λ (r : Course). GoesBoth whole (c.args.k ∷ []) r (RunsRest c.args.behind.now c.args.count) c.loop-branch.now.items c.loop-branch.done.items) (before_some bs tail c.loop-branch.branch-index c.branch-item.result c.loop-branch-test.true c.in-Some.inner c.args.count c.args.tried.place c.args.component is) c.loop-branch.invariant.both in
-    let next = GoesBoth-branch whole (runs_course c.in-Some.inner c.args.count) (rest_course (branches_tree (drop (c.loop-branch.branch-index + 1) bs ++ tail)) c.args.count c.args.tried.place) (RunsRest c.args.behind.now c.args.count) c.in_ok-outer.outer c.args.component (c.args.k ∷ []) c.loop-branch.now.items c.loop-branch.done.items c.loop-branch.invariant.at both
-    c.in_ok-inside.inside.items c.in_ok-now-2.now.items c.one_branch.new.next.items c.none_inside-stops.result c.loop-branch.ended c.one_branch.new.failed c.in_ok-inside.ensures c.none_inside-stops.ensures c.in_ok-now-2.ensures.ok in
-    record {
-      small = (small_before bs tail c.loop-branch.branch-index c.branch-item.result c.loop-branch-test.true c.in-Some.inner c.args.count is c.loop-branch.invariant.small).1;
-      at = next.1;
-      both = next.0;
-    }
-
-pub tries_at-one_branch-requires : goal.tries_at-one_branch-requires
-tries_at-one_branch-requires t c = record {
-  small = (small_before c.args.tried.before.now (Some c.args.tried.last.now ∷ []) c.loop-branch.branch-index c.branch-item.result c.loop-branch-test.true c.in-Some.inner c.args.count (sym c.branch-item.is ∙ c.in-Some.is) c.loop-branch.invariant.small).0;
-}
-
-pub tries_at-returns-in_err-now-2-clause-err : goal.tries_at-returns-in_err-now-2-clause-err
-tries_at-returns-in_err-now-2-clause-err t c =
-    let tail : List (Option SequenceTree) = Some c.args.tried.last.now ∷ [] in
-    let bs = c.args.tried.before.now in
-    let is = sym c.branch-item.is ∙ c.in-Some.is in
-    let whole = TriesAt (tried_branches c.args.tried) c.args.tried.place c.args.component c.args.behind.now c.args.count in
-    let both = subst (λ (r : Course). GoesBoth whole (c.args.k ∷ []) r (RunsRest c.args.behind.now c.args.count) c.loop-branch.now.items c.loop-branch.done.items) (before_some bs tail c.loop-branch.branch-index c.branch-item.result c.loop-branch-test.true c.in-Some.inner c.args.count c.args.tried.place c.args.component is) c.loop-branch.invariant.both in
-    let p = err_from_is_err_and c.from_residual-in_err-now-2.result c.from_residual-in_err-now-2.ensures.1 in
-    rw (p.1, p.2) (GoesBoth-halts whole (runs_course c.in-Some.inner c.args.count) (rest_course (branches_tree (drop (c.loop-branch.branch-index + 1) bs ++ tail)) c.args.count c.args.tried.place) (RunsRest c.args.behind.now c.args.count) c.in_ok-outer.outer c.args.component (c.args.k ∷ []) c.loop-branch.now.items c.loop-branch.done.items c.loop-branch.invariant.at both
-    c.in_ok-inside.inside.items c.in_ok-inside.ensures c.in_err-now-2.field-0.0 c.in_err-now-2.ensures.err)
-
--- null
+pub tries_at-returns-in_err-commands-clause-err : goal.tries_at-returns-in_err-commands-clause-err
+tries_at-returns-in_err-commands-clause-err t c =
+    let after = RunsRest c.args.behind.now c.args.count in
+    let through = RunsThen c.args.tried.last.now c.in_ok-leave.leave.now c.args.count in
+    let goes = subst (λ (r : List Later). GoesLast (TriesAt (tried_branches c.args.tried) c.args.tried.place c.args.component c.args.behind.now c.args.count) (c.args.k ∷ []) (RunsThen c.args.tried.last.now r c.args.count) after c.in_ok-last.last.items c.until_last.new.done.items) (sym c.in_ok-leave.ensures) (c.in_ok-last.ensures.ok c.args.behind.now) in
+    let halts = subst (λ (s : SequenceTree). Halts (RunsThen s c.in_ok-leave.leave.now c.args.count) c.in_ok-last.last.items c.in_err-commands.field-0.0) c.as_slice.ensures c.in_err-commands.ensures.err in
+    let p = err_from_is_err_and c.from_residual-in_err-commands.result c.from_residual-in_err-commands.ensures.1 in
+    rw (p.1, p.2) (GoesLast-halts (TriesAt (tried_branches c.args.tried) c.args.tried.place c.args.component c.args.behind.now c.args.count) through after (c.args.k ∷ []) c.in_ok-last.last.items c.until_last.new.done.items goes c.in_err-commands.field-0.0 halts)
 
 pub tries_at-follow-requires : goal.tries_at-follow-requires
 tries_at-follow-requires t c = (omega (arith, c.decreases), c.requires.behind)
 
-pub tries_at-returns-in_default-clause-ok : goal.tries_at-returns-in_default-clause-ok
-tries_at-returns-in_default-clause-ok t c =
-    let whole = TriesAt (tried_branches c.args.tried) c.args.tried.place c.args.component c.args.behind.now c.args.count in
-    let both = subst (λ (r : Course). GoesBoth whole (c.args.k ∷ []) r (RunsRest c.args.behind.now c.args.count) c.loop-branch.now.items c.loop-branch.done.items) (before_none c.args.tried.before.now (Some c.args.tried.last.now ∷ []) c.loop-branch.branch-index c.branch-item.result c.loop-branch-test.true c.args.count c.args.tried.place c.args.component (sym c.branch-item.is ∙ none_there c.branch-item.result c.in_default.not-Some)) c.loop-branch.invariant.both in
-    let goes = GoesBoth-null whole (RunsRest c.args.behind.now c.args.count) (c.args.k ∷ []) c.loop-branch.now.items c.loop-branch.done.items c.append.new.self.items both c.in_ok-append.ensures.items in
-    on_ok_weaker c.follow.result goes.covers c.follow.ensures.ok
-
-pub tries_at-returns-in_default-clause-err : goal.tries_at-returns-in_default-clause-err
-tries_at-returns-in_default-clause-err t c =
-    let whole = TriesAt (tried_branches c.args.tried) c.args.tried.place c.args.component c.args.behind.now c.args.count in
-    let both = subst (λ (r : Course). GoesBoth whole (c.args.k ∷ []) r (RunsRest c.args.behind.now c.args.count) c.loop-branch.now.items c.loop-branch.done.items) (before_none c.args.tried.before.now (Some c.args.tried.last.now ∷ []) c.loop-branch.branch-index c.branch-item.result c.loop-branch-test.true c.args.count c.args.tried.place c.args.component (sym c.branch-item.is ∙ none_there c.branch-item.result c.in_default.not-Some)) c.loop-branch.invariant.both in
-    let goes = GoesBoth-null whole (RunsRest c.args.behind.now c.args.count) (c.args.k ∷ []) c.loop-branch.now.items c.loop-branch.done.items c.append.new.self.items both c.in_ok-append.ensures.items in
-    IfErr-weaker c.follow.result (λ h. Halts (RunsRest c.args.behind.now c.args.count) c.append.new.self.items h) (λ h. Halts whole (c.args.k ∷ []) h) (λ h u. GoesOn-halts whole (RunsRest c.args.behind.now c.args.count) (c.args.k ∷ []) c.append.new.self.items goes h u) c.follow.ensures.err
-
--- the last branch
-
-pub tries_at-commands-requires : goal.tries_at-commands-requires
-tries_at-commands-requires t c =
-    let none : drop c.loop-branch.branch-index c.args.tried.before.now ≡ [] = drop_all c.loop-branch.branch-index c.args.tried.before.now c.loop-branch-test.false in
-    let small = subst (λ (bs : List (Option SequenceTree)). AreSmallBranches c.args.count (branches_tree (bs ++ Some c.args.tried.last.now ∷ []))) none c.loop-branch.invariant.small in (
-      omega (arith, c.decreases, last_weight c.args.tried.before.now c.args.tried.last.now, ap rest_weight c.in_ok-leave.ensures, ap weight c.as_slice.ensures),
-      (subst (IsSmallSequence c.args.count) (sym c.as_slice.ensures) small.0, subst (IsSmallRest c.args.count) (sym c.in_ok-leave.ensures) (tt, c.requires.behind)),
-    )
-
-pub tries_at-follow-requires-2 : goal.tries_at-follow-requires-2
-tries_at-follow-requires-2 t c = (omega (arith, c.decreases), c.requires.behind)
-
-pub tries_at-returns-in_err-commands-clause-err : goal.tries_at-returns-in_err-commands-clause-err
-tries_at-returns-in_err-commands-clause-err t c =
-    let none : drop c.loop-branch.branch-index c.args.tried.before.now ≡ [] = drop_all c.loop-branch.branch-index c.args.tried.before.now c.loop-branch-test.false in
-    let whole = TriesAt (tried_branches c.args.tried) c.args.tried.place c.args.component c.args.behind.now c.args.count in
-    let after = RunsRest c.args.behind.now c.args.count in
-    let both = subst (λ (bs : List (Option SequenceTree)). GoesBoth whole (c.args.k ∷ []) (rest_course (branches_tree (bs ++ Some c.args.tried.last.now ∷ [])) c.args.count c.args.tried.place c.args.component) after c.loop-branch.now.items c.loop-branch.done.items) none c.loop-branch.invariant.both in
-    let leave = c.in_ok-leave.ensures in
-    let stopped = subst (λ (s : SequenceTree). Halts (RunsThen s (OfLeave c.in_ok-outer.outer.selection c.in_ok-outer.outer.soft_failure ∷ c.args.behind.now) c.args.count) c.in_ok-inside-2.inside.items c.in_err-commands.field-0.0) c.as_slice.ensures
-    (subst (λ (r : List Later). Halts (RunsThen (sequence_tree c.as_slice.result.now) r c.args.count) c.in_ok-inside-2.inside.items c.in_err-commands.field-0.0) leave c.in_err-commands.ensures.err) in
-    let p = err_from_is_err_and c.from_residual-in_err-commands.result c.from_residual-in_err-commands.ensures.1 in
-    rw (p.1, p.2) (GoesBoth-stops whole (runs_course c.args.tried.last.now c.args.count) after c.in_ok-outer.outer c.args.component c.args.tried.place (c.args.k ∷ []) c.loop-branch.now.items c.in_ok-inside-2.inside.items c.loop-branch.done.items c.loop-branch.invariant.at both c.in_ok-inside-2.ensures c.in_err-commands.field-0.0 stopped)
-
 pub tries_at-returns-clause-ok : goal.tries_at-returns-clause-ok
 tries_at-returns-clause-ok t c =
-    let none : drop c.loop-branch.branch-index c.args.tried.before.now ≡ [] = drop_all c.loop-branch.branch-index c.args.tried.before.now c.loop-branch-test.false in
-    let whole = TriesAt (tried_branches c.args.tried) c.args.tried.place c.args.component c.args.behind.now c.args.count in
     let after = RunsRest c.args.behind.now c.args.count in
-    let both = subst (λ (bs : List (Option SequenceTree)). GoesBoth whole (c.args.k ∷ []) (rest_course (branches_tree (bs ++ Some c.args.tried.last.now ∷ [])) c.args.count c.args.tried.place c.args.component) after c.loop-branch.now.items c.loop-branch.done.items) none c.loop-branch.invariant.both in
-    let leave = c.in_ok-leave.ensures in
-    let covered = subst (λ (s : SequenceTree). Covers (RunsThen s (OfLeave c.in_ok-outer.outer.selection c.in_ok-outer.outer.soft_failure ∷ c.args.behind.now) c.args.count) c.in_ok-inside-2.inside.items) c.as_slice.ensures
-    (subst (λ (r : List Later). Covers (RunsThen (sequence_tree c.as_slice.result.now) r c.args.count) c.in_ok-inside-2.inside.items) leave c.in_ok-commands.ensures.ok) in
-    let goes = GoesBoth-last whole (runs_course c.args.tried.last.now c.args.count) after c.in_ok-outer.outer c.args.component c.args.tried.place (c.args.k ∷ []) c.loop-branch.now.items c.in_ok-inside-2.inside.items c.loop-branch.done.items c.loop-branch.invariant.at both c.in_ok-inside-2.ensures covered in
-    on_ok_weaker c.follow-2.result goes.covers c.follow-2.ensures.ok
+    let through = RunsThen c.args.tried.last.now c.in_ok-leave.leave.now c.args.count in
+    let goes = subst (λ (r : List Later). GoesLast (TriesAt (tried_branches c.args.tried) c.args.tried.place c.args.component c.args.behind.now c.args.count) (c.args.k ∷ []) (RunsThen c.args.tried.last.now r c.args.count) after c.in_ok-last.last.items c.until_last.new.done.items) (sym c.in_ok-leave.ensures) (c.in_ok-last.ensures.ok c.args.behind.now) in
+    let covers = subst (λ (s : SequenceTree). Covers (RunsThen s c.in_ok-leave.leave.now c.args.count) c.in_ok-last.last.items) c.as_slice.ensures c.in_ok-commands.ensures.ok in
+    on_ok_weaker c.follow.result (goes.covers covers) c.follow.ensures.ok
 
 pub tries_at-returns-clause-err : goal.tries_at-returns-clause-err
 tries_at-returns-clause-err t c =
-    let none : drop c.loop-branch.branch-index c.args.tried.before.now ≡ [] = drop_all c.loop-branch.branch-index c.args.tried.before.now c.loop-branch-test.false in
-    let whole = TriesAt (tried_branches c.args.tried) c.args.tried.place c.args.component c.args.behind.now c.args.count in
     let after = RunsRest c.args.behind.now c.args.count in
-    let both = subst (λ (bs : List (Option SequenceTree)). GoesBoth whole (c.args.k ∷ []) (rest_course (branches_tree (bs ++ Some c.args.tried.last.now ∷ [])) c.args.count c.args.tried.place c.args.component) after c.loop-branch.now.items c.loop-branch.done.items) none c.loop-branch.invariant.both in
-    let leave = c.in_ok-leave.ensures in
-    let covered = subst (λ (s : SequenceTree). Covers (RunsThen s (OfLeave c.in_ok-outer.outer.selection c.in_ok-outer.outer.soft_failure ∷ c.args.behind.now) c.args.count) c.in_ok-inside-2.inside.items) c.as_slice.ensures
-    (subst (λ (r : List Later). Covers (RunsThen (sequence_tree c.as_slice.result.now) r c.args.count) c.in_ok-inside-2.inside.items) leave c.in_ok-commands.ensures.ok) in
-    let goes = GoesBoth-last whole (runs_course c.args.tried.last.now c.args.count) after c.in_ok-outer.outer c.args.component c.args.tried.place (c.args.k ∷ []) c.loop-branch.now.items c.in_ok-inside-2.inside.items c.loop-branch.done.items c.loop-branch.invariant.at both c.in_ok-inside-2.ensures covered in
-    IfErr-weaker c.follow-2.result (λ h. Halts after c.loop-branch.done.items h) (λ h. Halts whole (c.args.k ∷ []) h) (λ h u. GoesOn-halts whole after (c.args.k ∷ []) c.loop-branch.done.items goes h u) c.follow-2.ensures.err
+    let through = RunsThen c.args.tried.last.now c.in_ok-leave.leave.now c.args.count in
+    let goes = subst (λ (r : List Later). GoesLast (TriesAt (tried_branches c.args.tried) c.args.tried.place c.args.component c.args.behind.now c.args.count) (c.args.k ∷ []) (RunsThen c.args.tried.last.now r c.args.count) after c.in_ok-last.last.items c.until_last.new.done.items) (sym c.in_ok-leave.ensures) (c.in_ok-last.ensures.ok c.args.behind.now) in
+    IfErr-weaker c.follow.result (λ h. Halts after c.until_last.new.done.items h) (λ h. Halts (TriesAt (tried_branches c.args.tried) c.args.tried.place c.args.component c.args.behind.now c.args.count) (c.args.k ∷ []) h)
+    (λ h u. GoesLast-ends (TriesAt (tried_branches c.args.tried) c.args.tried.place c.args.component c.args.behind.now c.args.count) through after (c.args.k ∷ []) c.in_ok-last.last.items c.until_last.new.done.items goes h u) c.follow.ensures.err

@@ -1,12 +1,9 @@
-use Rattle.std.proofs.Common.{◌-◌, ◌*◌, ◌+◌, ◌≤◌, [], ◌∷◌, ◌++◌, Some, drop, length}
-use Rattle.suit_commands.specs.View.{sequence_tree, branches_tree}
-use Rattle.path_checker.specs.Rests.{RunsRest, RunsThen, TriesAt, TriesThen, AreFew}
-use Rattle.path_checker.specs.Inner.{AllAt}
+use Rattle.std.proofs.Common.{◌-◌, ◌*◌, ◌+◌, drop, length}
+use Rattle.suit_commands.specs.View.{sequence_tree}
+use Rattle.path_checker.specs.Rests.{RunsRest, RunsThen, TriesThen, AreFew}
 use Rattle.path_checker.specs.RestViews.{tried_branches}
-use Rattle.path_checker.specs.Small.{IsSmallSequence, AreSmallBranches}
-use Rattle.path_checker.proofs.Besides.{GoesBoth}
-use Rattle.path_checker.proofs.Branching.{rest_course}
-use Rattle.path_checker.proofs.Going.{GoesOn}
+use Rattle.path_checker.specs.Small.{IsSmallSequence}
+use Rattle.path_checker.specs.Going.{GoesOn}
 use Rattle.path_checker.proofs.Weights.{weight, branches_weight, rest_weight}
 use Rattle.path_checker.proofs.judge_plan.outermost.+alone.Given as goal
 
@@ -55,16 +52,6 @@ invariant-each_alone-loop-k l = GoesOn (RunsThen (sequence_tree l.steps) l.rest 
 abbrev pub decreases-each_alone-loop-k : goal.decreases-each_alone-loop-k
 decreases-each_alone-loop-k l = length l.now.items
 
-abbrev pub invariant-alone-loop-step : goal.invariant-alone-loop-step
-invariant-alone-loop-step l = record {
-  within : l.at ≤ length l.steps;
-  small : IsSmallSequence l.count (sequence_tree (drop l.at l.steps));
-  goes : GoesOn (RunsThen (sequence_tree l.steps) l.rest l.count) (l.fn.from ∷ []) (RunsThen (sequence_tree (drop l.at l.steps)) l.rest l.count) (l.k ∷ []);
-}
-
-abbrev pub decreases-alone-loop-step : goal.decreases-alone-loop-step
-decreases-alone-loop-step l = length l.steps - l.at
-
 abbrev pub invariant-each_tried-loop-k : goal.invariant-each_tried-loop-k
 invariant-each_tried-loop-k l = record {
   few : AreFew l.now.items;
@@ -73,11 +60,3 @@ invariant-each_tried-loop-k l = record {
 
 abbrev pub decreases-each_tried-loop-k : goal.decreases-each_tried-loop-k
 decreases-each_tried-loop-k l = length l.now.items
-
--- the branches that are left
-abbrev pub invariant-tries_at-loop-branch : goal.invariant-tries_at-loop-branch
-invariant-tries_at-loop-branch l = record {
-  small : AreSmallBranches l.count (branches_tree (drop l.branch-index l.tried.before.now ++ Some l.tried.last.now ∷ []));
-  at : AllAt l.outer l.now.items;
-  both : GoesBoth (TriesAt (tried_branches l.tried) l.tried.place l.component l.behind l.count) (l.fn.k ∷ []) (rest_course (branches_tree (drop l.branch-index l.tried.before.now ++ Some l.tried.last.now ∷ [])) l.count l.tried.place l.component) (RunsRest l.behind l.count) l.now.items l.done.items;
-}

@@ -1,4 +1,4 @@
-use Rattle.std.proofs.Common.{rules, refl, true, false, ◌≡◌, ◌<◌, ◌≤◌, ◌+◌, ◌-◌, ltb, [], ◌∷◌, ◌++◌, length, drop, sym, ap, ◌∙◌, subst, arith}
+use Rattle.std.proofs.Common.{rules, true, false, ◌≡◌, ◌<◌, ◌≤◌, ◌+◌, ◌-◌, ltb, [], ◌∷◌, length, drop, sym, ap, ◌∙◌, subst, arith}
 use Rattle.std.proofs.lemmas.Bool.{lt-ltb}
 use Rattle.std.proofs.lemmas.List.{drop_all}
 use Rattle.std.proofs.lemmas.Result.{err_from_is_err_and, on_ok_weaker, IfErr-weaker}
@@ -14,15 +14,15 @@ use Rattle.suit_commands.specs.Smaller.{step_smaller, branch_smaller}
 use Rattle.path_checker.specs.Exploring.{Course, Failures, Adds}
 use Rattle.path_checker.specs.Steps.{At}
 use Rattle.path_checker.specs.Halting.{Halts}
-use Rattle.path_checker.specs.Small.{IsSmallSequence, IsSmallCommand, AreSmallBranches, AreSmall, AreInPlace}
+use Rattle.path_checker.specs.Small.{IsSmallSequence, IsSmallCommand, AreSmallBranches, AreInPlace}
 use Rattle.path_checker.proofs.DirectiveLeaves.{never_true}
-use Rattle.path_checker.specs.Inner.{all_left, left}
+use Rattle.path_checker.proofs.InnerSequences.{inner_course}
 use Rattle.path_checker.proofs.Overriding.{Walks-steps, Walks-halted, small_part, small_steps}
 use Rattle.path_checker.proofs.Unconditional.{in_place_straight, in_place_unconditional, conditional_each, conditional_holds, conditional_next}
-use Rattle.path_checker.proofs.Smallness.{small_step, small_index, small_branch}
+use Rattle.path_checker.proofs.Smallness.{small_step, small_branch}
 use Rattle.path_checker.proofs.Walking.{Walks, Walks-start, Walks-step, Walks-stops, Walks-end, runs_course, does_course}
 use Rattle.path_checker.proofs.Popping.{Pops-start, Pops-step, Pops-halt, Pops-moved, Pops-end, none_left, each_course, each_sole, does_each, Adds-same, Halts-same, Each-step, Each-stops}
-use Rattle.path_checker.proofs.Branching.{Trying, Trying-start, Trying-branch, Trying-halt, Trying-null, Trying-end, rest_course, at_some, at_none, Adds-run, Halts-run, Adds-branch, Adds-appended}
+use Rattle.path_checker.proofs.Branching.{Trying, Trying-start, Trying-branch, Trying-halt, Trying-null, Trying-end, rest_course, at_some, at_none, Adds-inside, Adds-run, Halts-run, Adds-branch, Adds-appended}
 use Rattle.path_checker.proofs.Merging.{Adds-states, Adds-behind, Walks-settled}
 use Rattle.path_checker.proofs.Keeping.{none_of, after_unkept}
 use Rattle.path_checker.proofs.judge_plan.walk.+walk.Goals as goal
@@ -61,31 +61,24 @@ each-returns-in-Some-clause-err t c =
     let sole = sym (ap (λ k. k.state.selection) c.k.view_is) ∙ c.in-Some.ensures.sole in
     IfErr-weaker c.one.result (λ h. Halts (At (command_tree c.args.step.now.command) c.args.count c.args.step.now.place c.in-Some.component) (c.args.k ∷ []) h) (λ h. Halts (each_course (command_tree c.args.step.now.command) c.args.count c.args.step.now.place c.args.k.state.selection) (c.args.k ∷ []) h) (λ h u. Halts-same c.args.k (At (command_tree c.args.step.now.command) c.args.count c.args.step.now.place c.in-Some.component) (each_course (command_tree c.args.step.now.command) c.args.count c.args.step.now.place c.args.k.state.selection) (each_sole (command_tree c.args.step.now.command) c.args.count c.args.step.now.place c.in-Some.component c.args.k sole) h u) c.one.ensures.err
 
-pub each-loop-component-init : goal.each-loop-component-init
-each-loop-component-init t c =
-    let whole : c.as_slice-component-items.result.now ≡ c.args.k.state.selection = c.as_slice-component-items.ensures.value ∙ c.in_ok-selection.ensures.value ∙ ap (λ k. k.state.selection) c.k.view_is in
+pub each-loop-index-init : goal.each-loop-index-init
+each-loop-index-init t c =
+    let same : c.copy-selection.result ≡ c.args.k.state.selection = c.copy-selection.ensures ∙ ap (λ k. k.state.selection) c.k.view_is in
     let one : c.in_ok-now.now.items ≡ c.args.k ∷ [] = c.in_ok-now.ensures in
-    record {
-      whole = whole;
-      small = subst AreSmall (sym c.as_slice-component-items.ensures.value) c.in_ok-selection.ensures.small;
-      walks = subst (λ cs. Walks (each_course (command_tree c.args.step.now.command) c.args.count c.args.step.now.place c.args.k.state.selection) (c.args.k ∷ []) c.args.failed.now (each_course (command_tree c.args.step.now.command) c.args.count c.args.step.now.place cs) c.in_ok-now.now.items c.args.failed.now) (sym whole) (subst (λ n. Walks (each_course (command_tree c.args.step.now.command) c.args.count c.args.step.now.place c.args.k.state.selection) (c.args.k ∷ []) c.args.failed.now (each_course (command_tree c.args.step.now.command) c.args.count c.args.step.now.place c.args.k.state.selection) n c.args.failed.now) (sym one) (Walks-start (each_course (command_tree c.args.step.now.command) c.args.count c.args.step.now.place c.args.k.state.selection) (c.args.k ∷ []) c.args.failed.now));
-    }
+    subst (λ cs. Walks (each_course (command_tree c.args.step.now.command) c.args.count c.args.step.now.place c.args.k.state.selection) (c.args.k ∷ []) c.args.failed.now (each_course (command_tree c.args.step.now.command) c.args.count c.args.step.now.place cs) c.in_ok-now.now.items c.args.failed.now) (sym same) (subst (λ n. Walks (each_course (command_tree c.args.step.now.command) c.args.count c.args.step.now.place c.args.k.state.selection) (c.args.k ∷ []) c.args.failed.now (each_course (command_tree c.args.step.now.command) c.args.count c.args.step.now.place c.args.k.state.selection) n c.args.failed.now) (sym one) (Walks-start (each_course (command_tree c.args.step.now.command) c.args.count c.args.step.now.place c.args.k.state.selection) (c.args.k ∷ []) c.args.failed.now))
 
 pub each-returns-in_err-now-2-clause-err : goal.each-returns-in_err-now-2-clause-err
 each-returns-in_err-now-2-clause-err t c =
-    let p = err_from_is_err_and c.from_residual-in_err-now-2.result c.from_residual-in_err-now-2.ensures.1 in rw (p.1, p.2) (Each-stops (command_tree c.args.step.now.command) c.args.count c.args.step.now.place c.as_slice-component-items.result.now c.loop-component.component-index _ c.loop-component-test.true (each_course (command_tree c.args.step.now.command) c.args.count c.args.step.now.place c.args.k.state.selection) (c.args.k ∷ []) c.loop-component.now.items c.args.failed.now c.loop-component.failed c.loop-component.invariant.walks c.in_err-now-2.field-0.0 c.in_err-now-2.ensures.err)
+    let p = err_from_is_err_and c.from_residual-in_err-now-2.result c.from_residual-in_err-now-2.ensures.1 in
+    rw (p.1, p.2) (Each-stops (command_tree c.args.step.now.command) c.args.count c.args.step.now.place c.copy-selection.result c.loop-index.index c.at.result (omega (arith, c.loop-index-test.true, c.len-index-end.ensures)) c.at.ensures.value (each_course (command_tree c.args.step.now.command) c.args.count c.args.step.now.place c.args.k.state.selection) (c.args.k ∷ []) c.loop-index.now.items c.args.failed.now c.loop-index.failed c.loop-index.invariant c.in_err-now-2.field-0.0 c.in_err-now-2.ensures.err)
 
-pub each-loop-component-preserved : goal.each-loop-component-preserved
-each-loop-component-preserved t c = record {
-  whole = c.loop-component.invariant.whole;
-  small = (small_index c.as_slice-component-items.result.now c.loop-component.component-index 0 c.loop-component-test.true c.loop-component.invariant.small).1;
-  walks = Each-step (command_tree c.args.step.now.command) c.args.count c.args.step.now.place c.as_slice-component-items.result.now c.loop-component.component-index _ c.loop-component-test.true (each_course (command_tree c.args.step.now.command) c.args.count c.args.step.now.place c.args.k.state.selection) (c.args.k ∷ []) c.loop-component.now.items c.args.failed.now c.loop-component.failed c.loop-component.invariant.walks c.in_ok-now-2.now.items c.all_at.new.failed c.in_ok-now-2.ensures.ok;
-}
+pub each-loop-index-preserved : goal.each-loop-index-preserved
+each-loop-index-preserved t c = Each-step (command_tree c.args.step.now.command) c.args.count c.args.step.now.place c.copy-selection.result c.loop-index.index c.at.result (omega (arith, c.loop-index-test.true, c.len-index-end.ensures)) c.at.ensures.value (each_course (command_tree c.args.step.now.command) c.args.count c.args.step.now.place c.args.k.state.selection) (c.args.k ∷ []) c.loop-index.now.items c.args.failed.now c.loop-index.failed c.loop-index.invariant c.in_ok-now-2.now.items c.all_at.new.failed c.in_ok-now-2.ensures.ok
 
 pub each-returns-clause-ok : goal.each-returns-clause-ok
 each-returns-clause-ok t c =
-    let none : drop c.loop-component.component-index c.as_slice-component-items.result.now ≡ [] = drop_all c.loop-component.component-index c.as_slice-component-items.result.now c.loop-component-test.false in
-    Adds-appended (each_course (command_tree c.args.step.now.command) c.args.count c.args.step.now.place c.args.k.state.selection) (c.args.k ∷ []) c.args.next.now.items c.append.new.self.items c.loop-component.now.items c.args.failed.now c.loop-component.failed (Walks-end (each_course (command_tree c.args.step.now.command) c.args.count c.args.step.now.place c.args.k.state.selection) (c.args.k ∷ []) c.loop-component.now.items c.args.failed.now c.loop-component.failed (subst (λ cs. Walks (each_course (command_tree c.args.step.now.command) c.args.count c.args.step.now.place c.args.k.state.selection) (c.args.k ∷ []) c.args.failed.now (each_course (command_tree c.args.step.now.command) c.args.count c.args.step.now.place cs) c.loop-component.now.items c.loop-component.failed) none c.loop-component.invariant.walks)) c.in_ok-append.ensures.items
+    let none : drop c.loop-index.index c.copy-selection.result ≡ [] = drop_all c.loop-index.index c.copy-selection.result (omega (arith, c.loop-index-test.false, c.len-index-end.ensures)) in
+    Adds-appended (each_course (command_tree c.args.step.now.command) c.args.count c.args.step.now.place c.args.k.state.selection) (c.args.k ∷ []) c.args.next.now.items c.append.new.self.items c.loop-index.now.items c.args.failed.now c.loop-index.failed (Walks-end (each_course (command_tree c.args.step.now.command) c.args.count c.args.step.now.place c.args.k.state.selection) (c.args.k ∷ []) c.loop-index.now.items c.args.failed.now c.loop-index.failed (subst (λ cs. Walks (each_course (command_tree c.args.step.now.command) c.args.count c.args.step.now.place c.args.k.state.selection) (c.args.k ∷ []) c.args.failed.now (each_course (command_tree c.args.step.now.command) c.args.count c.args.step.now.place cs) c.loop-index.now.items c.loop-index.failed) none c.loop-index.invariant)) c.in_ok-append.ensures.items
 
 pub one-returns-in_ok-test-in-Test-clause-ok : goal.one-returns-in_ok-test-in-Test-clause-ok
 one-returns-in_ok-test-in-Test-clause-ok t c = subst (λ (m : Command). Adds (At (command_tree m) c.args.count c.args.step.now.place c.args.component) (c.args.k ∷ []) c.args.next.now.items c.test.new.next.items c.args.failed.now c.test.new.failed) (sym c.in-Test.is) c.in_ok-test-in-Test.ensures
@@ -105,13 +98,20 @@ one-returns-in-Run-clause-ok t c = subst (λ (m : Command). OnOk c.run.result (A
 pub one-returns-in-Run-clause-err : goal.one-returns-in-Run-clause-err
 one-returns-in-Run-clause-err t c = subst (λ (m : Command). IfErr c.run.result (λ h. Halts (At (command_tree m) c.args.count c.args.step.now.place c.args.component) (c.args.k ∷ []) h)) (sym c.in-Run.is) c.run.ensures.err
 
-pub run-returns-in_err-done-clause-err : goal.run-returns-in_err-done-clause-err
-run-returns-in_err-done-clause-err t c =
-    let p = err_from_is_err_and c.from_residual-in_err-done.result c.from_residual-in_err-done.ensures.1 in rw (p.1, p.2) (Halts-run (runs_course c.args.inner.now c.args.count) c.in_ok-outer.outer c.args.component c.args.k c.enter.result c.in_ok-from.from.items c.in_ok-outer.ensures c.enter.ensures c.in_ok-from.ensures c.in_err-done.field-0.0 c.in_err-done.ensures.err)
-
 pub run-returns-clause-ok : goal.run-returns-clause-ok
-run-returns-clause-ok t c =
-    Adds-run (runs_course c.args.inner.now c.args.count) c.in_ok-outer.outer c.args.component c.args.k c.enter.result c.in_ok-from.from.items c.in_ok-done.done.items c.args.next.now.items (c.args.next.now.items ++ all_left c.in_ok-outer.outer c.in_ok-done.done.items) c.leave.new.next.items c.sequence.new.failed c.args.failed.now c.leave.new.failed c.none_inside-stops.result c.in_ok-outer.ensures c.enter.ensures c.in_ok-from.ensures c.none_inside-stops.ensures c.in_ok-done.ensures.ok refl c.in_ok-leave.ensures.on c.in_ok-leave.ensures.hard
+run-returns-clause-ok t c = on_ok_weaker c.run_inside.result (λ a. Adds-run (runs_course c.args.inner.now c.args.count) c.in_ok-outer.outer c.args.component c.args.k c.enter.result c.in_ok-from.from.items c.args.next.now.items c.run_inside.new.next.items c.args.failed.now c.run_inside.new.failed c.in_ok-outer.ensures c.enter.ensures c.in_ok-from.ensures a) c.run_inside.ensures.ok
+
+pub run-returns-clause-err : goal.run-returns-clause-err
+run-returns-clause-err t c =
+    let body = runs_course c.args.inner.now c.args.count in
+    IfErr-weaker c.run_inside.result (λ h. Halts body c.in_ok-from.from.items h) (λ h. Halts (inner_course body c.args.component) (c.args.k ∷ []) h) (λ h u. Halts-run body c.in_ok-outer.outer c.args.component c.args.k c.enter.result c.in_ok-from.from.items c.in_ok-outer.ensures c.enter.ensures c.in_ok-from.ensures h u) c.run_inside.ensures.err
+
+pub run_inside-returns-clause-ok : goal.run_inside-returns-clause-ok
+run_inside-returns-clause-ok t c = Adds-inside (runs_course c.args.inner.now c.args.count) c.args.outer.now c.args.from.items c.in_ok-done.done.items c.args.next.now.items c.leave.new.next.items c.none_inside-stops.result c.sequence.new.failed c.args.failed.now c.leave.new.failed c.in_ok-done.ensures.ok c.none_inside-stops.ensures c.in_ok-leave.ensures.on c.in_ok-leave.ensures.hard
+
+pub run_inside-returns-in_err-done-clause-err : goal.run_inside-returns-in_err-done-clause-err
+run_inside-returns-in_err-done-clause-err t c =
+    let p = err_from_is_err_and c.from_residual.result c.from_residual.ensures.1 in rw (p.1, p.2) c.in_err-done.ensures.err
 
 pub sequence-loop-at-init : goal.sequence-loop-at-init
 sequence-loop-at-init t c = record {
@@ -167,39 +167,39 @@ sequence-returns-clause-ok t c =
     Adds-behind (runs_course c.args.sequence.now c.args.count) c.args.from.items c.loop-at.now.items c.args.failed.now c.join.new.self c.loop-at.stops
     (Walks-end (runs_course c.args.sequence.now c.args.count) c.args.from.items c.loop-at.now.items (none_of c.args.failed.now) c.loop-at.stops (subst (λ xs. Walks (runs_course c.args.sequence.now c.args.count) c.args.from.items (none_of c.args.failed.now) (runs_course (sequence_tree xs) c.args.count) c.loop-at.now.items c.loop-at.stops) none c.loop-at.invariant.walks)) c.in_ok-join.ensures
 
-pub try_each-loop-branch-init : goal.try_each-loop-branch-init
-try_each-loop-branch-init t c =
+pub try_around-loop-branch-init : goal.try_around-loop-branch-init
+try_around-loop-branch-init t c =
     let one : c.in_ok-now.now.items ≡ c.args.k ∷ [] = c.in_ok-now.ensures in
     record {
       whole = c.as_slice-all.ensures;
       left = omega arith;
       small = subst (λ (b : BranchesTree). AreSmallBranches c.args.count b) (sym c.as_slice-all.ensures) c.requires.small;
-      trying = subst (λ b. Trying (rest_course c.args.branches.now c.args.count c.args.place c.args.component) c.args.k c.in_ok-outer.outer c.args.next.now.items c.args.next.now.items c.args.failed.now c.args.failed.now (rest_course b c.args.count c.args.place c.args.component) c.in_ok-now.now.items (0 < length c.as_slice-all.result.now)) (sym c.as_slice-all.ensures) (Trying-start (rest_course c.args.branches.now c.args.count c.args.place c.args.component) c.args.k c.in_ok-outer.outer c.args.next.now.items c.args.failed.now c.in_ok-now.now.items (0 < length c.as_slice-all.result.now) c.in_ok-outer.ensures one);
+      trying = subst (λ b. Trying (rest_course c.args.branches.now c.args.count c.args.around.now.place c.args.around.now.component) c.args.k c.args.around.now.outer c.args.next.now.items c.args.next.now.items c.args.failed.now c.args.failed.now (rest_course b c.args.count c.args.around.now.place c.args.around.now.component) c.in_ok-now.now.items (0 < length c.as_slice-all.result.now)) (sym c.as_slice-all.ensures) (Trying-start (rest_course c.args.branches.now c.args.count c.args.around.now.place c.args.around.now.component) c.args.k c.args.around.now.outer c.args.next.now.items c.args.failed.now c.in_ok-now.now.items (0 < length c.as_slice-all.result.now) c.requires.outer one);
     }
 
-pub try_each-returns-in-None-clause-ok : goal.try_each-returns-in-None-clause-ok
-try_each-returns-in-None-clause-ok t c = Trying-null (rest_course c.args.branches.now c.args.count c.args.place c.args.component) c.args.k c.in_ok-outer.outer c.args.next.now.items c.loop-branch.next.items c.append.new.self.items c.args.failed.now c.loop-branch.failed c.loop-branch.now.items (c.loop-branch.branch-index < length c.as_slice-all.result.now) (subst (λ (r : Course). Trying (rest_course c.args.branches.now c.args.count c.args.place c.args.component) c.args.k c.in_ok-outer.outer c.args.next.now.items c.loop-branch.next.items c.args.failed.now c.loop-branch.failed r c.loop-branch.now.items (c.loop-branch.branch-index < length c.as_slice-all.result.now)) (at_none c.as_slice-all.result.now c.loop-branch.branch-index c.args.count c.args.place c.args.component c.branch-item.result c.loop-branch-test.true (sym c.branch-item.is ∙ c.in-None.is)) c.loop-branch.invariant.trying) c.loop-branch-test.true c.in_ok-append-in-None.ensures.items
+pub try_around-returns-in-None-clause-ok : goal.try_around-returns-in-None-clause-ok
+try_around-returns-in-None-clause-ok t c = Trying-null (rest_course c.args.branches.now c.args.count c.args.around.now.place c.args.around.now.component) c.args.k c.args.around.now.outer c.args.next.now.items c.loop-branch.next.items c.append.new.self.items c.args.failed.now c.loop-branch.failed c.loop-branch.now.items (c.loop-branch.branch-index < length c.as_slice-all.result.now) (subst (λ (r : Course). Trying (rest_course c.args.branches.now c.args.count c.args.around.now.place c.args.around.now.component) c.args.k c.args.around.now.outer c.args.next.now.items c.loop-branch.next.items c.args.failed.now c.loop-branch.failed r c.loop-branch.now.items (c.loop-branch.branch-index < length c.as_slice-all.result.now)) (at_none c.as_slice-all.result.now c.loop-branch.branch-index c.args.count c.args.around.now.place c.args.around.now.component c.branch-item.result c.loop-branch-test.true (sym c.branch-item.is ∙ c.in-None.is)) c.loop-branch.invariant.trying) c.loop-branch-test.true c.in_ok-append-in-None.ensures.items
 
-pub try_each-returns-in_err-now-in-Some-clause-err : goal.try_each-returns-in_err-now-in-Some-clause-err
-try_each-returns-in_err-now-in-Some-clause-err t c =
+pub try_around-returns-in_err-now-in-Some-clause-err : goal.try_around-returns-in_err-now-in-Some-clause-err
+try_around-returns-in_err-now-in-Some-clause-err t c =
     let p = err_from_is_err_and c.from_residual-in_err-now-in-Some.result c.from_residual-in_err-now-in-Some.ensures.1 in
-    rw (p.1, p.2) (Trying-halt (rest_course c.args.branches.now c.args.count c.args.place c.args.component) (runs_course c.in-Some.inner c.args.count) (rest_course (branches_tree (drop (c.loop-branch.branch-index + 1) c.as_slice-all.result.now)) c.args.count c.args.place) c.args.k c.in_ok-outer.outer c.args.component c.args.next.now.items c.loop-branch.next.items c.args.failed.now c.loop-branch.failed c.loop-branch.now.items c.in_ok-inside-in-Some.inside.items (c.loop-branch.branch-index < length c.as_slice-all.result.now) (subst (λ (r : Course). Trying (rest_course c.args.branches.now c.args.count c.args.place c.args.component) c.args.k c.in_ok-outer.outer c.args.next.now.items c.loop-branch.next.items c.args.failed.now c.loop-branch.failed r c.loop-branch.now.items (c.loop-branch.branch-index < length c.as_slice-all.result.now)) (at_some c.as_slice-all.result.now c.loop-branch.branch-index c.args.count c.args.place c.args.component c.branch-item.result c.in-Some.inner c.loop-branch-test.true (sym c.branch-item.is ∙ c.in-Some.is)) c.loop-branch.invariant.trying) c.loop-branch-test.true c.in_ok-inside-in-Some.ensures c.in_err-now-in-Some.field-0.0 c.in_err-now-in-Some.ensures.err)
+    rw (p.1, p.2) (Trying-halt (rest_course c.args.branches.now c.args.count c.args.around.now.place c.args.around.now.component) (runs_course c.in-Some.inner c.args.count) (rest_course (branches_tree (drop (c.loop-branch.branch-index + 1) c.as_slice-all.result.now)) c.args.count c.args.around.now.place) c.args.k c.args.around.now.outer c.args.around.now.component c.args.next.now.items c.loop-branch.next.items c.args.failed.now c.loop-branch.failed c.loop-branch.now.items c.in_ok-inside-in-Some.inside.items (c.loop-branch.branch-index < length c.as_slice-all.result.now) (subst (λ (r : Course). Trying (rest_course c.args.branches.now c.args.count c.args.around.now.place c.args.around.now.component) c.args.k c.args.around.now.outer c.args.next.now.items c.loop-branch.next.items c.args.failed.now c.loop-branch.failed r c.loop-branch.now.items (c.loop-branch.branch-index < length c.as_slice-all.result.now)) (at_some c.as_slice-all.result.now c.loop-branch.branch-index c.args.count c.args.around.now.place c.args.around.now.component c.branch-item.result c.in-Some.inner c.loop-branch-test.true (sym c.branch-item.is ∙ c.in-Some.is)) c.loop-branch.invariant.trying) c.loop-branch-test.true c.in_ok-inside-in-Some.ensures c.in_err-now-in-Some.field-0.0 c.in_err-now-in-Some.ensures.err)
 
-pub try_each-loop-branch-preserved : goal.try_each-loop-branch-preserved
-try_each-loop-branch-preserved t c = record {
+pub try_around-loop-branch-preserved : goal.try_around-loop-branch-preserved
+try_around-loop-branch-preserved t c = record {
   whole = c.loop-branch.invariant.whole;
   left = omega (arith, c.loop-branch.invariant.left, c.loop-branch-test.true);
   small = (small_branch c.args.count c.as_slice-all.result.now c.loop-branch.branch-index c.branch-item.result c.in-Some.inner c.loop-branch-test.true (sym c.branch-item.is ∙ c.in-Some.is) c.loop-branch.invariant.small).1;
-  trying = Trying-branch (rest_course c.args.branches.now c.args.count c.args.place c.args.component) (runs_course c.in-Some.inner c.args.count) (rest_course (branches_tree (drop (c.loop-branch.branch-index + 1) c.as_slice-all.result.now)) c.args.count c.args.place) c.args.k c.in_ok-outer.outer c.args.component c.args.next.now.items c.loop-branch.next.items c.one_branch.new.next.items c.args.failed.now c.loop-branch.failed c.one_branch.new.failed c.none_inside-stops.result c.loop-branch.now.items c.in_ok-inside-in-Some.inside.items c.in_ok-now-in-Some.now.items (c.loop-branch.branch-index < length c.as_slice-all.result.now) (c.loop-branch.branch-index + 1 < length c.as_slice-all.result.now) (ltb 0 (c.loop-branch.left - 1)) (subst (λ (r : Course). Trying (rest_course c.args.branches.now c.args.count c.args.place c.args.component) c.args.k c.in_ok-outer.outer c.args.next.now.items c.loop-branch.next.items c.args.failed.now c.loop-branch.failed r c.loop-branch.now.items (c.loop-branch.branch-index < length c.as_slice-all.result.now)) (at_some c.as_slice-all.result.now c.loop-branch.branch-index c.args.count c.args.place c.args.component c.branch-item.result c.in-Some.inner c.loop-branch-test.true (sym c.branch-item.is ∙ c.in-Some.is)) c.loop-branch.invariant.trying) c.loop-branch-test.true (λ goes. lt-ltb 0 (c.loop-branch.left - 1) (omega (arith, c.loop-branch.invariant.left, goes))) c.in_ok-inside-in-Some.ensures c.none_inside-stops.ensures c.in_ok-now-in-Some.ensures.ok;
+  trying = Trying-branch (rest_course c.args.branches.now c.args.count c.args.around.now.place c.args.around.now.component) (runs_course c.in-Some.inner c.args.count) (rest_course (branches_tree (drop (c.loop-branch.branch-index + 1) c.as_slice-all.result.now)) c.args.count c.args.around.now.place) c.args.k c.args.around.now.outer c.args.around.now.component c.args.next.now.items c.loop-branch.next.items c.one_branch.new.next.items c.args.failed.now c.loop-branch.failed c.one_branch.new.failed c.none_inside-stops.result c.loop-branch.now.items c.in_ok-inside-in-Some.inside.items c.in_ok-now-in-Some.now.items (c.loop-branch.branch-index < length c.as_slice-all.result.now) (c.loop-branch.branch-index + 1 < length c.as_slice-all.result.now) (ltb 0 (c.loop-branch.left - 1)) (subst (λ (r : Course). Trying (rest_course c.args.branches.now c.args.count c.args.around.now.place c.args.around.now.component) c.args.k c.args.around.now.outer c.args.next.now.items c.loop-branch.next.items c.args.failed.now c.loop-branch.failed r c.loop-branch.now.items (c.loop-branch.branch-index < length c.as_slice-all.result.now)) (at_some c.as_slice-all.result.now c.loop-branch.branch-index c.args.count c.args.around.now.place c.args.around.now.component c.branch-item.result c.in-Some.inner c.loop-branch-test.true (sym c.branch-item.is ∙ c.in-Some.is)) c.loop-branch.invariant.trying) c.loop-branch-test.true (λ goes. lt-ltb 0 (c.loop-branch.left - 1) (omega (arith, c.loop-branch.invariant.left, goes))) c.in_ok-inside-in-Some.ensures c.none_inside-stops.ensures c.in_ok-now-in-Some.ensures.ok;
 }
 
-pub try_each-returns-clause-ok : goal.try_each-returns-clause-ok
-try_each-returns-clause-ok t c =
+pub try_around-returns-clause-ok : goal.try_around-returns-clause-ok
+try_around-returns-clause-ok t c =
     let none : drop c.loop-branch.branch-index c.as_slice-all.result.now ≡ [] = drop_all c.loop-branch.branch-index c.as_slice-all.result.now c.loop-branch-test.false in
-    Trying-end (rest_course c.args.branches.now c.args.count c.args.place c.args.component) c.args.k c.in_ok-outer.outer c.args.place c.args.next.now.items c.loop-branch.next.items c.args.failed.now c.loop-branch.failed c.exhaust.new.failed c.loop-branch.now.items (c.loop-branch.branch-index < length c.as_slice-all.result.now) (subst (λ bs. Trying (rest_course c.args.branches.now c.args.count c.args.place c.args.component) c.args.k c.in_ok-outer.outer c.args.next.now.items c.loop-branch.next.items c.args.failed.now c.loop-branch.failed (rest_course (branches_tree bs) c.args.count c.args.place c.args.component) c.loop-branch.now.items (c.loop-branch.branch-index < length c.as_slice-all.result.now)) none c.loop-branch.invariant.trying) c.in_ok-exhaust.ensures
+    Trying-end (rest_course c.args.branches.now c.args.count c.args.around.now.place c.args.around.now.component) c.args.k c.args.around.now.outer c.args.around.now.place c.args.next.now.items c.loop-branch.next.items c.args.failed.now c.loop-branch.failed c.exhaust.new.failed c.loop-branch.now.items (c.loop-branch.branch-index < length c.as_slice-all.result.now) (subst (λ bs. Trying (rest_course c.args.branches.now c.args.count c.args.around.now.place c.args.around.now.component) c.args.k c.args.around.now.outer c.args.next.now.items c.loop-branch.next.items c.args.failed.now c.loop-branch.failed (rest_course (branches_tree bs) c.args.count c.args.around.now.place c.args.around.now.component) c.loop-branch.now.items (c.loop-branch.branch-index < length c.as_slice-all.result.now)) none c.loop-branch.invariant.trying) c.in_ok-exhaust.ensures
 
-pub try_each-one_branch-requires : goal.try_each-one_branch-requires
-try_each-one_branch-requires t c =
+pub try_around-one_branch-requires : goal.try_around-one_branch-requires
+try_around-one_branch-requires t c =
     let e : sequence_size c.in-Some.inner + 1 ≤ branches_size (branches_tree c.as_slice-all.result.now) = branch_smaller c.as_slice-all.result.now c.loop-branch.branch-index c.branch-item.result c.in-Some.inner c.loop-branch-test.true (sym c.branch-item.is ∙ c.in-Some.is) in
     let w : branches_size (branches_tree c.as_slice-all.result.now) ≡ branches_size c.args.branches.now = ap branches_size c.loop-branch.invariant.whole in
     let small : IsSmallSequence c.args.count c.in-Some.inner = (small_branch c.args.count c.as_slice-all.result.now c.loop-branch.branch-index c.branch-item.result c.in-Some.inner c.loop-branch-test.true (sym c.branch-item.is ∙ c.in-Some.is) c.loop-branch.invariant.small).0 in

@@ -1,6 +1,6 @@
 use Rattle.std.proofs.Common.{◌≡◌, ◌<◌, ◌≤◌, ◌+◌, ◌-◌, [], ◌∷◌, drop, length}
 use Rattle.suit_commands.specs.View.{sequence_tree, branches_tree, command_tree}
-use Rattle.path_checker.specs.Small.{AreSmall, IsSmallSequence, AreSmallBranches}
+use Rattle.path_checker.specs.Small.{IsSmallSequence, AreSmallBranches}
 use Rattle.path_checker.specs.Steps.{At}
 use Rattle.path_checker.proofs.Walking.{Walks, runs_course, does_course}
 use Rattle.path_checker.proofs.Popping.{Pops, each_course}
@@ -31,17 +31,13 @@ invariant-sequence-loop-at l = record {
 abbrev pub decreases-sequence-loop-at : goal.decreases-sequence-loop-at
 decreases-sequence-loop-at l = length l.steps - l.at
 
-abbrev pub invariant-each-loop-component : goal.invariant-each-loop-component
-invariant-each-loop-component l = record {
-  whole : l.component-items ≡ l.fn.k.state.selection;
-  small : AreSmall (drop l.component-index l.component-items);
-  walks : Walks (each_course (command_tree l.step.command) l.count l.step.place l.fn.k.state.selection) (l.fn.k ∷ []) l.initial.failed (each_course (command_tree l.step.command) l.count l.step.place (drop l.component-index l.component-items)) l.now.items l.failed;
-}
+abbrev pub invariant-each-loop-index : goal.invariant-each-loop-index
+invariant-each-loop-index l = Walks (each_course (command_tree l.step.command) l.count l.step.place l.fn.k.state.selection) (l.fn.k ∷ []) l.initial.failed (each_course (command_tree l.step.command) l.count l.step.place (drop l.index l.selection)) l.now.items l.failed
 
-abbrev pub invariant-try_each-loop-branch : goal.invariant-try_each-loop-branch
-invariant-try_each-loop-branch l = record {
+abbrev pub invariant-try_around-loop-branch : goal.invariant-try_around-loop-branch
+invariant-try_around-loop-branch l = record {
   whole : branches_tree l.all ≡ l.branches;
   left : l.left + l.branch-index ≡ length l.all;
   small : AreSmallBranches l.count (branches_tree (drop l.branch-index l.all));
-  trying : Trying (rest_course l.branches l.count l.place l.component) l.fn.k l.outer l.initial.next.items l.next.items l.initial.failed l.failed (rest_course (branches_tree (drop l.branch-index l.all)) l.count l.place l.component) l.now.items (l.branch-index < length l.all);
+  trying : Trying (rest_course l.branches l.count l.around.place l.around.component) l.fn.k l.around.outer l.initial.next.items l.next.items l.initial.failed l.failed (rest_course (branches_tree (drop l.branch-index l.all)) l.count l.around.place l.around.component) l.now.items (l.branch-index < length l.all);
 }
