@@ -10,7 +10,7 @@ use Rattle.flash_layout.specs.Frames.{head_of}
 use Rattle.suit_envelope.specs.Members.{string_like}
 use Rattle.suit_params.specs.declared.digest.Digest.{Digest}
 use Rattle.rollback_record.specs.HeadRecord.{RecordOf}
-use Rattle.rollback_record.specs.Migrating.{HoldsAlike, IsSameRecord, NoRecord, OneRecord, TellsAlike}
+use Rattle.rollback_record.specs.Migrating.{HoldsAlike, IsSameRecord, NoRecord, OneRecord, IsSameInstallation}
 use Rattle.rollback_record.specs.SoundFlash.{Follows, FollowsOn, IsInstalled, IsNoEarlier, Sound, SoundBlank, SoundEmpty, SoundInstalled, recorded_bank}
 use Rattle.rollback_record.proofs.OneAnswers.{one_answer}
 
@@ -60,7 +60,7 @@ module _ (law : OneAnswer) (a : List ℕ) (layout : List Entry) (key : Key) (fra
       let by_key = subst (λ (m : Key). IsInstalled layout m (recorded_bank frame (head_of frame a) s) s) keys by_layout in
       subst (λ (t : Record). IsInstalled layout key (recorded_bank frame (head_of frame a) t) t) records by_key
 
-module _ (law : OneAnswer) (a b : List ℕ) (alike : TellsAlike a b) (sound : Sound a) where
+module _ (law : OneAnswer) (a b : List ℕ) (alike : IsSameInstallation a b) (sound : Sound a) where
   sound_by : HoldsAlike alike.frame (head_of alike.frame a) alike.there (head_of alike.there b) → Sound b
   sound_by (NoRecord none none_there) = SoundEmpty alike.layout alike.key alike.there alike.is none_there
   sound_by (OneRecord r s held held_there same bank) =
@@ -75,7 +75,7 @@ module _ (law : OneAnswer) (a b : List ℕ) (alike : TellsAlike a b) (sound : So
 no_earlier : (r s : Record) → IsSameRecord r s → IsNoEarlier r s
 no_earlier r s same = record { number = omega (arith, same.sequence); same = λ e. sym same.digest }
 
-module _ (a b : List ℕ) (alike : TellsAlike a b) where
+module _ (a b : List ℕ) (alike : IsSameInstallation a b) where
   later : HoldsAlike alike.frame (head_of alike.frame a) alike.there (head_of alike.there b)
       → (r : Record) → RecordOf alike.frame (head_of alike.frame a) (Some r) → (s : Record) × RecordOf alike.there (head_of alike.there b) (Some s) × IsNoEarlier r s
   later (NoRecord none none_there) r held = absurd (no_none r (one_answer alike.frame (head_of alike.frame a) (Some r) None held none))

@@ -1,5 +1,5 @@
 -- What stands at a base once all was written there, one piece after another.
-use Rattle.std.proofs.Common.{◌≡◌, ⊎_elim, inl, inr, ◌≤◌, ◌<◌, ◌+◌, ℕ, List, length, get_or, Option, Some, None, sym, ap, subst, ◌∙◌, arith}
+use Rattle.std.proofs.Common.{◌≡◌, ⊎_elim, inl, inr, ◌≤◌, ◌<◌, ◌+◌, ℕ, List, length, get_or, Option, Some, None, ap, subst, ◌∙◌, arith}
 use Rattle.std.specs.List.{slice_range}
 use Rattle.suit_edge.specs.Flash.{Flash, Keeps}
 use Rattle.suit_edge.specs.RangeLaws.{same_range, written_range}
@@ -9,9 +9,9 @@ use Rattle.flash_layout.specs.declared.key.Key.{Key}
 use Rattle.flash_layout.specs.declared.layout.Entry.{Entry}
 use Rattle.flash_layout.specs.Formats.{IsWorkClosed, OutsideWorkGates}
 use Rattle.flash_layout.specs.FrameFacts.{FrameFacts, by_second, facts}
-use Rattle.flash_layout.specs.Frames.{IsFrame, bank_place, bank_size, frame_size, head_size, page_bytes, record_place}
+use Rattle.flash_layout.specs.Frames.{IsFrame, bank_place, frame_size, head_size, page_bytes, record_place}
 use Rattle.rollback_record.specs.declared.moved.Installed.{Installed}
-use Rattle.rollback_record.specs.Moved.{HasEnvelope, HasFirstPage, HasPage, HasRecords, HasRoom, IsFilled, OutsideBank, OutsideFirstPage, OutsideFrame, OutsidePage, OutsideRecords}
+use Rattle.rollback_record.specs.Moved.{HasEnvelope, HasFirstPage, HasPage, HasRecords, HasRoom, IsFilled, OutsideBank, OutsideFrame, OutsidePage, OutsideRecords}
 use Rattle.rollback_record.specs.RecordPage.{record_length}
 use Rattle.rollback_record.proofs.Widths.{most_few}
 

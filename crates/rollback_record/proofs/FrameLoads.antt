@@ -1,5 +1,5 @@
 -- What is read of a flash with that frame, and by its frame.
-use Rattle.std.proofs.Common.{◌≡◌, ◌<◌, ◌≤◌, ℕ, ◌+◌, List, length, length-drop, length-take, drop, Option, None, sym, ◌∙◌, ap, subst, arith}
+use Rattle.std.proofs.Common.{◌≡◌, ◌<◌, ℕ, ◌+◌, List, length, length-drop, length-take, drop, Option, None, sym, ◌∙◌, ap, subst, arith}
 use Rattle.std.specs.Prelude.{◌-◌}
 use Rattle.std.specs.List.{slice_range}
 use Rattle.flash_layout.specs.declared.frame.Frame.{Frame}

@@ -1,10 +1,10 @@
 -- Which places of a flash lie apart from its head, and from what tells its frame.
-use Rattle.std.proofs.Common.{◌≡◌, inl, inr, ⊎_elim, ◌<◌, ◌≤◌, ℕ, ◌+◌, sym, subst, arith}
+use Rattle.std.proofs.Common.{inl, inr, ⊎_elim, ◌≤◌, ℕ, ◌+◌, sym, subst, arith}
 use Rattle.std.proofs.lemmas.Bool.{cases_lt}
 use Rattle.suit_edge.specs.Ranges.{Outside}
 use Rattle.flash_layout.specs.declared.frame.Frame.{Frame}
 use Rattle.flash_layout.specs.FrameFacts.{FrameFacts, behind_pages}
-use Rattle.flash_layout.specs.Frames.{head_size, record_place}
+use Rattle.flash_layout.specs.Frames.{record_place}
 use Rattle.flash_layout.specs.Layouts.{IsBehindHead}
 use Rattle.rollback_record.specs.Committing.{InHead}
 use Rattle.rollback_record.specs.SoundLaws.{TellsFrame}

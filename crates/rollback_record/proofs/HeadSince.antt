@@ -15,7 +15,7 @@ use Rattle.flash_layout.specs.Roots.{frame_told}
 use Rattle.flash_layout.specs.ToldFrames.{HasSameHead, same_config}
 use Rattle.rollback_record.specs.Committing.{InHead}
 use Rattle.rollback_record.specs.HeadRecord.{RecordOf}
-use Rattle.rollback_record.specs.SettledLaws.{head_is_firm}
+use Rattle.rollback_record.proofs.SettledLaws.{head_is_firm}
 use Rattle.rollback_record.specs.SoundFlash.{Follows, FollowsBlank, FollowsOn, GoesOn, Settled, Sound}
 use Rattle.rollback_record.specs.SoundLaws.{SoundLaws}
 

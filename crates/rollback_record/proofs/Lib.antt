@@ -1,5 +1,6 @@
 pub mod Answered
 pub mod Widths
+pub mod SettledLaws
 pub mod Fields
 pub mod ConfigSlots
 pub mod SlotCounts

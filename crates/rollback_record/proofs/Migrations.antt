@@ -1,5 +1,5 @@
 -- The answers of a migration.
-use Rattle.std.proofs.Common.{◌≡◌, ◌≤◌, ◌+◌, ℕ, List, length, get_or, Option, None, Some, refl, sym, ap, subst, ◌∙◌, arith}
+use Rattle.std.proofs.Common.{◌≡◌, ◌≤◌, ◌+◌, ℕ, List, length, get_or, Option, None, Some, sym, ap, subst, ◌∙◌, arith}
 use Rattle.suit_edge.specs.Flash.{Flash, IsFlash, IsSame, IsSettled, Keeps, Now, Passes}
 use Rattle.suit_edge.specs.FlashLaws.{each_now, joined, keeps_same, keeps_then, starts, weakens}
 use Rattle.suit_edge.specs.Ranges.{SameOn}
@@ -10,27 +10,24 @@ use Rattle.flash_layout.specs.declared.layout.Entry.{Entry}
 use Rattle.flash_layout.specs.ConfigLaws.{OneAnswer}
 use Rattle.flash_layout.specs.Configs.{ConfigOf, Configured}
 use Rattle.flash_layout.specs.FirstFrame.{is_first}
-use Rattle.flash_layout.specs.Formats.{HasNoWork}
-use Rattle.flash_layout.specs.FrameFacts.{facts}
 use Rattle.flash_layout.specs.Frames.{First, IsFrame, Second, bank_size, head_of}
 use Rattle.flash_layout.specs.Moving.{IsMoved}
-use Rattle.flash_layout.specs.Roots.{second_frame}
 use Rattle.rollback_record.specs.declared.moved.Installed.{Installed}
 use Rattle.rollback_record.specs.declared.migrating.Migrated.{Migrated}
 use Rattle.rollback_record.specs.declared.migrating.Migrated.TheVariants as answers
-use Rattle.rollback_record.specs.Migrating.{IfLeft, IfMigrated, IsMigrated, IsReady, OutsideMigration, TellsAlike}
+use Rattle.rollback_record.specs.Migrating.{IfLeft, IfMigrated, IsMigrated, IsReady, OutsideMigration, IsSameInstallation}
 use Rattle.rollback_record.specs.Moved.{HasRoom, IsHeldRead, IsMovedTo, IsMoving, IsRootShut, OutsideMoved}
-use Rattle.rollback_record.specs.SettledLaws.{settled_still, settles}
+use Rattle.rollback_record.proofs.SettledLaws.{settled_still, settles}
 use Rattle.rollback_record.proofs.AlikeSound.{alike_sound}
 use Rattle.rollback_record.proofs.MovedFirst.{resting}
 use Rattle.rollback_record.proofs.MovingFlash.{moved_alike, shut_start, tells_all}
 
 -- nothing was called, or nothing but reads
-pub at_rest : (f : Flash) → IsReady f → Passes f f (TellsAlike f.reads)
-at_rest f ready = starts f (TellsAlike f.reads) (resting f ready)
+pub at_rest : (f : Flash) → IsReady f → Passes f f (IsSameInstallation f.reads)
+at_rest f ready = starts f (IsSameInstallation f.reads) (resting f ready)
 
-pub after_reads : (a b : Flash) → IsSame a b → IsReady a → Passes a b (TellsAlike a.reads)
-after_reads a b same ready = weakens a b (Now a) (TellsAlike a.reads) (resting a ready) same.images
+pub after_reads : (a b : Flash) → IsSame a b → IsReady a → Passes a b (IsSameInstallation a.reads)
+after_reads a b same ready = weakens a b (Now a) (IsSameInstallation a.reads) (resting a ready) same.images
 
 -- what fits into a bank of version 1 fits into one of version 2
 pub room_there : (frame : Frame) → 16384 ≤ bank_size frame → (o : Option Installed) → HasRoom VERSION_1 o → HasRoom frame o
@@ -50,7 +47,7 @@ module _ (base size : ℕ) (layout : List Entry) (key : Key) (frame : Frame) (mo
     pub shut_then : IsReady a → IsRootShut b
     shut_then ready image now = shut_start size frame moved.placed two layout key installed room moved.allowed a b c law law_b same ready config read image (each_now a b size (Now a) law_b same.images image now)
 
-    pub all_alike : IsReady a → Passes b c (IsMoving frame layout key installed b) → Passes a c (TellsAlike a.reads)
+    pub all_alike : IsReady a → Passes b c (IsMoving frame layout key installed b) → Passes a c (IsSameInstallation a.reads)
     all_alike ready run = tells_all size frame moved.placed two layout key installed room moved.allowed a b c law law_b same ready config read run
 
     pub migrated : Keeps (OutsideMoved frame) b c → IsMovedTo frame layout key installed c.reads → IsMigrated base a.reads c.reads
@@ -81,10 +78,10 @@ ready_still a b size law same ready = record {
   config = subst (λ (l : List ℕ). ConfigOf (length l) l (Configured ready.layout ready.key ready.frame)) (sym same.reads) ready.config;
 }
 
-pub alike_then : (a b c : Flash) (size : ℕ) → IsFlash b size → IsSame a b → IsReady a → (IsReady b → Passes b c (TellsAlike b.reads)) → Passes a c (TellsAlike a.reads)
+pub alike_then : (a b c : Flash) (size : ℕ) → IsFlash b size → IsSame a b → IsReady a → (IsReady b → Passes b c (IsSameInstallation b.reads)) → Passes a c (IsSameInstallation a.reads)
 alike_then a b c size law same ready run =
-    joined a b c (TellsAlike a.reads) (after_reads a b same ready)
-    (weakens b c (TellsAlike b.reads) (TellsAlike a.reads) (λ image alike. subst (λ (l : List ℕ). TellsAlike l image) same.reads alike) (run (ready_still a b size law same ready)))
+    joined a b c (IsSameInstallation a.reads) (after_reads a b same ready)
+    (weakens b c (IsSameInstallation b.reads) (IsSameInstallation a.reads) (λ image alike. subst (λ (l : List ℕ). IsSameInstallation l image) same.reads alike) (run (ready_still a b size law same ready)))
 
 -- a settled flash is settled once it is migrated
 pub ready_then : OneAnswer → (base : ℕ) (a b : Flash) → IsReady a → IsMigrated base a.reads b.reads → IsSettled b → IsReady b

@@ -11,13 +11,13 @@ use Rattle.flash_layout.specs.declared.layout.Entry.{Entry}
 use Rattle.flash_layout.specs.declared.slot.Record.{Record}
 use Rattle.flash_layout.specs.ConfigPage.{IsConfigPage}
 use Rattle.flash_layout.specs.Configs.{ConfigOf, Configured}
-use Rattle.flash_layout.specs.FrameFacts.{FrameFacts, bank_high, bank_there, facts, page_there}
+use Rattle.flash_layout.specs.FrameFacts.{FrameFacts, bank_there, facts, page_there}
 use Rattle.flash_layout.specs.Frames.{IsFrame, bank_place, config_page_of, head_of, record_place}
 use Rattle.flash_layout.specs.RootLaws.{told_closed}
 use Rattle.flash_layout.specs.Slots.{layout_slots, slot_content}
 use Rattle.flash_layout.specs.ToldFrames.{same_config}
 use Rattle.rollback_record.specs.HeadRecord.{Counts, RecordOf, record_bytes}
-use Rattle.rollback_record.specs.Migrating.{HoldsAlike, IsReady, IsSameRecord, NoRecord, OneRecord, TellsAlike}
+use Rattle.rollback_record.specs.Migrating.{HoldsAlike, IsReady, IsSameRecord, NoRecord, OneRecord, IsSameInstallation}
 use Rattle.rollback_record.specs.SoundFlash.{recorded_bank}
 use Rattle.rollback_record.proofs.Pages.{bytes_in, counts_of}
 use Rattle.rollback_record.proofs.SomeAnswers.{some_answer}
@@ -31,7 +31,7 @@ alike_by frame head other same None none = NoRecord none (subst (λ (h : List �
 alike_by frame head other same (Some r) is = OneRecord r r is (subst (λ (h : List ℕ). RecordOf frame h (Some r)) (sym same) is) (same_record r) (ap (λ (h : List ℕ). recorded_bank frame h r) same)
 
 -- each image that a power loss leaves of a settled flash tells what it reads
-pub resting : (f : Flash) → IsReady f → (image : List ℕ) → Now f image → TellsAlike f.reads image
+pub resting : (f : Flash) → IsReady f → (image : List ℕ) → Now f image → IsSameInstallation f.reads image
 resting f ready image now =
     let same = ready.settled.sure image now in
     let head = same.head.head ready.frame ready.config.told in
@@ -102,7 +102,7 @@ module _ (a image : List ℕ) (layout : List Entry) (key : Key) (long : length i
   alike None none = NoRecord none (recorded None none)
   alike (Some r) is = OneRecord r r is (recorded (Some r) is) (same_record r) (banked r is.counts.page.fields.bank is.counts.page.fields.size)
 
-  pub tells_first : All (λ slot. slot_content slot image ≡ slot_content slot a) (layout_slots layout) → TellsAlike a image
+  pub tells_first : All (λ slot. slot_content slot image ≡ slot_content slot a) (layout_slots layout) → IsSameInstallation a image
   tells_first slots =
       let held = some_answer VERSION_1 (head_of VERSION_1 a) in
       record { layout = layout; key = key; frame = VERSION_1; there = VERSION_1; was = config; is = first_config; held = alike held.0 held.1; slots = slots }

@@ -8,18 +8,17 @@ use Rattle.flash_layout.specs.declared.key.Key.{Key}
 use Rattle.flash_layout.specs.declared.layout.Entry.{Entry}
 use Rattle.flash_layout.specs.declared.layout.Memory.TheVariants as memory
 use Rattle.flash_layout.specs.declared.slot.Record.{Record}
-use Rattle.flash_layout.specs.ConfigPage.{IsConfigPage}
 use Rattle.flash_layout.specs.Configs.{ConfigOf, Configured}
 use Rattle.flash_layout.specs.FrameFacts.{FrameFacts, bank_there, by_second, byte_there, facts, page_there}
-use Rattle.flash_layout.specs.Frames.{IsFrame, bank_place, bank_size, config_page_of, head_of, head_size, most, record_from, record_place}
+use Rattle.flash_layout.specs.Frames.{IsFrame, bank_place, config_page_of, head_of, head_size, record_from, record_place}
 use Rattle.flash_layout.specs.Layouts.{IsLayout}
 use Rattle.flash_layout.specs.Roots.{frame_told}
 use Rattle.flash_layout.specs.Slots.{layout_slots, slot_content}
 use Rattle.rollback_record.specs.declared.moved.Installed.{Installed}
-use Rattle.rollback_record.specs.HeadRecord.{Counts, HoldsRecord, RecordOf}
-use Rattle.rollback_record.specs.Migrating.{HoldsAlike, IsSameRecord, NoRecord, OneRecord, TellsAlike}
-use Rattle.rollback_record.specs.Moved.{AreRead, IsFilled, IsReadFrom}
-use Rattle.rollback_record.specs.RecordPage.{HasSecondSlot, IsActiveSlot, IsInRange, IsRecordPage, IsTypedRecord, record_body, record_length}
+use Rattle.rollback_record.specs.HeadRecord.{RecordOf}
+use Rattle.rollback_record.specs.Migrating.{HoldsAlike, NoRecord, OneRecord, IsSameInstallation}
+use Rattle.rollback_record.specs.Moved.{AreRead, IsFilled}
+use Rattle.rollback_record.specs.RecordPage.{IsActiveSlot, IsInRange, IsTypedRecord, record_body, record_length}
 use Rattle.rollback_record.specs.SoundFlash.{recorded_bank}
 use Rattle.rollback_record.proofs.ConfigSlots.{has_two, second_slot}
 use Rattle.rollback_record.proofs.Pages.{bytes_in, gate_open, head_long}
@@ -120,6 +119,6 @@ module _ (layout : List Entry) (key : Key) (a image : List ℕ) (frame : Frame) 
           (record { generation = refl; sequence = refl; size = refl; digest = refl; active = refl })
           (bank_same r i.envelope.items fields.bank fields.size read.envelope filled.envelope)
 
-  pub tells_second : (o : Option Record) → RecordOf VERSION_1 (head_of VERSION_1 a) o → AreRead VERSION_1 (head_of VERSION_1 a) o installed → All (λ slot. slot_content slot image ≡ slot_content slot a) (layout_slots layout) → TellsAlike a image
+  pub tells_second : (o : Option Record) → RecordOf VERSION_1 (head_of VERSION_1 a) o → AreRead VERSION_1 (head_of VERSION_1 a) o installed → All (λ slot. slot_content slot image ≡ slot_content slot a) (layout_slots layout) → IsSameInstallation a image
   tells_second o is read slots =
       record { layout = layout; key = key; frame = VERSION_1; there = frame; was = config; is = second_config; held = alike o is read; slots = slots }

@@ -1,5 +1,5 @@
 -- Slots of a layout stay as they are while nothing is written where slots may be.
-use Rattle.std.proofs.Common.{◌≡◌, ⊎_elim, inl, inr, ◌≤◌, ◌<◌, ◌+◌, ℕ, List, [], ◌∷◌, length, get_or, take, refl, sym, ap, subst, arith}
+use Rattle.std.proofs.Common.{◌≡◌, ⊎_elim, inl, inr, ◌≤◌, ◌+◌, ℕ, List, [], ◌∷◌, length, get_or, take, refl, sym, ap, subst, arith}
 use Rattle.std.specs.List.{All}
 use Rattle.std.proofs.lemmas.Bool.{cases_lt}
 use Rattle.std.proofs.lemmas.List.Elements.{All-append, All-head, All-map, All-nil, All-tail, All-weaker}
@@ -11,7 +11,7 @@ use Rattle.flash_layout.specs.declared.layout.Memory.{Memory}
 use Rattle.flash_layout.specs.declared.layout.Memory.TheVariants as memory
 use Rattle.flash_layout.specs.declared.slot.Slot.{Slot}
 use Rattle.flash_layout.specs.Frames.{frame_size}
-use Rattle.flash_layout.specs.Layouts.{IsBehindHead, IsEntry, IsLayout, IsOfMemory, slot_size, slot_starts, starts_in}
+use Rattle.flash_layout.specs.Layouts.{IsBehindHead, IsEntry, IsOfMemory, slot_size, slot_starts, starts_in}
 use Rattle.flash_layout.specs.Slots.{content_of, layout_slots, slot_at, slot_content, slots_of}
 
 -- each slot lies behind the first bytes, within the flash, and apart from what stands at the base

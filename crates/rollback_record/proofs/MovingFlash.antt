@@ -1,25 +1,25 @@
 -- The moments of a flash that is migrated.
-use Rattle.std.proofs.Common.{◌≡◌, ⊎_elim, inl, inr, ◌≤◌, ◌<◌, ◌+◌, ℕ, List, length, get_or, Option, Some, None, refl, sym, ap, subst, ◌∙◌, arith}
+use Rattle.std.proofs.Common.{◌≡◌, ⊎_elim, inl, inr, ◌≤◌, ◌<◌, ◌+◌, ℕ, List, length, get_or, Option, Some, None, refl, sym, subst, ◌∙◌, arith}
 use Rattle.std.specs.List.{All, slice_range}
 use Rattle.suit_edge.specs.Flash.{Flash, ImageOn, IsFlash, IsSame, Keeps, Now, Passes}
 use Rattle.suit_edge.specs.FlashLaws.{each_now, image_fewer, joined, weakens}
 use Rattle.suit_edge.specs.RangeLaws.{same_range}
-use Rattle.suit_edge.specs.Ranges.{Outside, SameOn}
+use Rattle.suit_edge.specs.Ranges.{SameOn}
 use Rattle.flash_layout.specs.declared.frame.Frame.{Frame}
 use Rattle.flash_layout.specs.declared.frame.TheConstants.{ROOT_GATE, VERSION_1}
 use Rattle.flash_layout.specs.declared.key.Key.{Key}
 use Rattle.flash_layout.specs.declared.layout.Entry.{Entry}
 use Rattle.flash_layout.specs.Configs.{ConfigOf, Configured}
 use Rattle.flash_layout.specs.FirstFrame.{second_base}
-use Rattle.flash_layout.specs.FrameFacts.{FrameFacts, by_second, facts}
-use Rattle.flash_layout.specs.Frames.{IsFrame, bank_place, bank_size, frame_size, head_of, page_bytes, record_place}
+use Rattle.flash_layout.specs.FrameFacts.{FrameFacts, facts}
+use Rattle.flash_layout.specs.Frames.{IsFrame, bank_place, head_of, page_bytes, record_place}
 use Rattle.flash_layout.specs.Layouts.{IsLayout}
 use Rattle.flash_layout.specs.RootLaws.{first_closed}
 use Rattle.flash_layout.specs.Slots.{layout_slots, slot_content}
 use Rattle.flash_layout.specs.ToldFrames.{front_there}
 use Rattle.rollback_record.specs.declared.moved.Installed.{Installed}
-use Rattle.rollback_record.specs.Migrating.{IsReady, TellsAlike}
-use Rattle.rollback_record.specs.Moved.{HasEnvelope, HasFirstPage, HasRoom, IsFilled, IsHeldRead, IsMovedTo, IsMoving, IsRootClosed, IsRootShut, IsRooted, IsRooting, OutsideFrame, OutsideMoved, OutsideRoot}
+use Rattle.rollback_record.specs.Migrating.{IsReady, IsSameInstallation}
+use Rattle.rollback_record.specs.Moved.{HasEnvelope, HasFirstPage, HasRoom, IsFilled, IsHeldRead, IsMovedTo, IsMoving, IsRootClosed, IsRootShut, IsRooting, OutsideFrame, OutsideMoved, OutsideRoot}
 use Rattle.rollback_record.specs.RecordPage.{record_length}
 use Rattle.rollback_record.specs.SoundFlash.{HoldsSame}
 use Rattle.rollback_record.proofs.MovedFirst.{resting, tells_first}
@@ -105,7 +105,7 @@ module _ (size : ℕ) (frame : Frame) (is : IsFrame size frame) (two : frame.ver
   -- ---- what is told once it has moved
 
   pub moved_alike : IsLayout frame size layout → (a image : List ℕ) → length a ≡ size → ConfigOf size a (Configured layout key VERSION_1) → IsHeldRead VERSION_1 (head_of VERSION_1 a) installed → SameOn (OutsideMoved frame) a image
-      → IsMovedTo frame layout key installed image → TellsAlike a image
+      → IsMovedTo frame layout key installed image → IsSameInstallation a image
   moved_alike allowed a image sized config read same moved =
       tells_second layout key a image frame (subst (λ (n : ℕ). ConfigOf n a (Configured layout key VERSION_1)) (sym sized) config) (subst (λ (n : ℕ). IsFrame n frame) (sym sized) is)
       (subst (λ (n : ℕ). IsLayout frame n layout) (sym sized) allowed) two same.size moved.told installed moved.filled read.held read.is read.read
@@ -142,15 +142,15 @@ module _ (size : ℕ) (frame : Frame) (is : IsFrame size frame) (two : frame.ver
           same_slots frame size image on.from on.same.size (law.sized start.clock on.from (omega arith) on.was) (λ i low out. on.same.same i (out, inr (omega (arith, low)))) layout allowed.each k d lt
           ∙ holds.slots layout key VERSION_1 config_here k d lt
 
-      tells : IsRootClosed image → TellsAlike a image
+      tells : IsRootClosed image → IsSameInstallation a image
       tells closed = tells_first a image layout key long config_here front closed slots
 
-      tells_moved : IsMovedTo frame layout key installed image → TellsAlike a image
+      tells_moved : IsMovedTo frame layout key installed image → IsSameInstallation a image
       tells_moved moved =
           tells_second layout key a image frame config_here (subst (λ (n : ℕ). IsFrame n frame) (sym law.fits) is) (subst (λ (n : ℕ). IsLayout frame n layout) (sym law.fits) allowed) two long moved.told installed moved.filled
           read.held read.is read.read slots
 
-    by_moving : (image : List ℕ) → IsMoving frame layout key installed start image → TellsAlike a image
+    by_moving : (image : List ℕ) → IsMoving frame layout key installed start image → IsSameInstallation a image
     by_moving image m = ⊎_elim (tells image m.on) (tells_moved image m.on) m.root
 
     -- seen from the start
@@ -160,7 +160,7 @@ module _ (size : ℕ) (frame : Frame) (is : IsFrame size frame) (two : frame.ver
       root = m.root;
     }
 
-    pub tells_all : Passes b c (IsMoving frame layout key installed b) → Passes start c (TellsAlike a)
-    tells_all run = joined start b c (TellsAlike a)
-        (weakens start b (Now start) (TellsAlike a) (resting start ready) same.images)
-        (weakens b c (IsMoving frame layout key installed b) (TellsAlike a) (λ image m. by_moving image (from_start image m)) run)
+    pub tells_all : Passes b c (IsMoving frame layout key installed b) → Passes start c (IsSameInstallation a)
+    tells_all run = joined start b c (IsSameInstallation a)
+        (weakens start b (Now start) (IsSameInstallation a) (resting start ready) same.images)
+        (weakens b c (IsMoving frame layout key installed b) (IsSameInstallation a) (λ image m. by_moving image (from_start image m)) run)

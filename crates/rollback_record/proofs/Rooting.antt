@@ -4,12 +4,12 @@ use Rattle.std.specs.List.{slice_range}
 use Rattle.std.proofs.lemmas.Bool.{cases_eq}
 use Rattle.std.proofs.lemmas.List.{ext_get_or, get_or-drop}
 use Rattle.std.proofs.lemmas.List.Edits.{get_or-between, length-between}
-use Rattle.suit_edge.specs.Flash.{Flash, ImageOn, IsFlash, IsSame, Now, Passes}
+use Rattle.suit_edge.specs.Flash.{Flash, IsFlash, IsSame, Now, Passes}
 use Rattle.suit_edge.specs.FlashLaws.{each_now, image_on, joined, weakens}
 use Rattle.suit_edge.specs.Gate.{IsNewPage, IsOpening, page_at}
-use Rattle.suit_edge.specs.Ranges.{Outside, OutsideEach, SameOn}
+use Rattle.suit_edge.specs.Ranges.{OutsideEach}
 use Rattle.flash_layout.specs.declared.frame.Frame.{Frame}
-use Rattle.flash_layout.specs.declared.frame.TheConstants.{ROOT_BYTES, ROOT_GATE}
+use Rattle.flash_layout.specs.declared.frame.TheConstants.{ROOT_GATE}
 use Rattle.flash_layout.specs.Roots.{frame_by}
 use Rattle.rollback_record.specs.Moved.{IsRootShut, IsRooted, IsRooting, OutsideRoot}
 

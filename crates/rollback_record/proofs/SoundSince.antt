@@ -1,5 +1,5 @@
 -- Each image since a commit began is sound, and goes on from what stood before it.
-use Rattle.std.proofs.Common.{◌<◌, ℕ, List, length, Option, Some, None, IfSome, sym, ◌∙◌, subst, arith}
+use Rattle.std.proofs.Common.{◌<◌, ℕ, List, Option, Some, None, IfSome, sym, ◌∙◌, subst, arith}
 use Rattle.suit_edge.specs.Flash.{Flash, Passes, ImageOn, IsFirmOn, IsFlash}
 use Rattle.suit_edge.specs.FlashLaws.{weakens}
 use Rattle.suit_edge.specs.Ranges.{Outside}
@@ -10,7 +10,7 @@ use Rattle.flash_layout.specs.ToldFrames.{IsTold}
 use Rattle.rollback_record.specs.HeadRecord.{RecordOf}
 use Rattle.rollback_record.specs.RecordPage.{record_length}
 use Rattle.rollback_record.specs.Committing.{HasHeldOrNew, InHead, IsSpare, KeepsBesideSpare}
-use Rattle.rollback_record.specs.SettledLaws.{both}
+use Rattle.rollback_record.proofs.SettledLaws.{both}
 use Rattle.rollback_record.specs.SoundFlash.{Follows, IsNoEarlier, Sound}
 use Rattle.rollback_record.specs.SoundLaws.{HasFrame, HasNewInRange, IsCommitted, IsInstalledFor}
 use Rattle.rollback_record.proofs.Sounds.{committed, follows}

@@ -6,7 +6,6 @@ pub mod RecordPlaces
 pub mod RecordLaws
 pub mod SoundFlash
 pub mod SoundLaws
-pub mod SettledLaws
 pub mod Moved
 pub mod Migrating
 pub mod MigrationLaws

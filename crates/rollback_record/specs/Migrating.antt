@@ -1,5 +1,5 @@
 -- Migration: a flash of layout version 1 becomes one of version 2, and tells the same.
-use Rattle.std.specs.Prelude.{◌≡◌, ◌⊎◌, ℕ, List, All, length, Option, Some, None}
+use Rattle.std.specs.Prelude.{◌≡◌, ℕ, List, All, length, Some, None}
 use Rattle.suit_edge.specs.Faults.{Faulted}
 use Rattle.suit_edge.specs.Flash.{Flash}
 use Rattle.suit_edge.specs.Ranges.{Outside}
@@ -39,7 +39,7 @@ pub data HoldsAlike (frame : Frame) (head : List ℕ) (there : Frame) (other : L
       → HoldsAlike frame head there other
 
 -- the other image has the same layout, key, record and recorded bytes, and the same content in each slot
-pub record TellsAlike (image other : List ℕ) : Type 0 where
+pub record IsSameInstallation (image other : List ℕ) : Type 0 where
   pub layout : List Entry
   pub key : Key
   pub frame : Frame
@@ -53,7 +53,7 @@ pub record TellsAlike (image other : List ℕ) : Type 0 where
 
 -- it has version 2 with that base, tells what it told, and neither a journal nor a checkpoint is begun
 pub record IsMigrated (base : ℕ) (before image : List ℕ) : Type 0 where
-  pub alike : TellsAlike before image
+  pub alike : IsSameInstallation before image
   pub told : frame_told image ≡ Some (second_frame base)
   pub no_work : HasNoWork (second_frame base) image
 

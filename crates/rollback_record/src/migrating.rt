@@ -8,7 +8,7 @@ ghost use Rattle.flash_layout.specs.declared.key.Key.{Key};
 ghost use Rattle.flash_layout.specs.Configs.{ConfigOf, Configured, IsAllowed};
 ghost use Rattle.flash_layout.specs.Frames.{IsFrame, head_of};
 ghost use Rattle.flash_layout.specs.Layouts.{IsLayout};
-ghost use Rattle.rollback_record.specs.Migrating.{HasFirst, IfLeft, IfMigrated, IsMigrated, IsReady, MigrateCounts, MigratesExactly, OutsideMigration, TellsAlike};
+ghost use Rattle.rollback_record.specs.Migrating.{HasFirst, IfLeft, IfMigrated, IsMigrated, IsReady, MigrateCounts, MigratesExactly, OutsideMigration, IsSameInstallation};
 ghost use Rattle.rollback_record.specs.Moved.{HasRoom, IsHeldRead, IsMovedTo, IsMoving, IsRootShut, IsRooted, IsRooting, OutsideMoved, OutsideRoot, StopCounts};
 
 use crate::load::load_record_by;
@@ -153,7 +153,7 @@ fn migrate_first<D: Disk>(
         (IsMigrated base (D.flash disk.old).reads (D.flash disk.new).reads) }
     ensures settled { IsTrue D.told → IfMigrated result (IsSettled (D.flash disk.new)) }
     ensures any_moment { IsTrue D.told → IsReady (D.flash disk.old)
-        → Passes (D.flash disk.old) (D.flash disk.new) (TellsAlike (D.flash disk.old).reads) }
+        → Passes (D.flash disk.old) (D.flash disk.new) (IsSameInstallation (D.flash disk.old).reads) }
     ensures keeps { IsTrue D.told
         → Keeps (OutsideMigration base) (D.flash disk.old) (D.flash disk.new) }
     ensures grows { IsTrue D.told → Grows (D.flash disk.old) (D.flash disk.new) }
@@ -193,7 +193,7 @@ pub fn migrate<D: Disk>(alloc: Global, disk: &mut D, base: u64) -> Migrated
     ensures ready { IsTrue D.told → IsReady (D.flash disk.old)
         → IfMigrated result (IsReady (D.flash disk.new)) }
     ensures any_moment { IsTrue D.told → IsReady (D.flash disk.old)
-        → Passes (D.flash disk.old) (D.flash disk.new) (TellsAlike (D.flash disk.old).reads) }
+        → Passes (D.flash disk.old) (D.flash disk.new) (IsSameInstallation (D.flash disk.old).reads) }
     ensures keeps { IsTrue D.told
         → Keeps (OutsideMigration base) (D.flash disk.old) (D.flash disk.new) }
     ensures grows { IsTrue D.told → Grows (D.flash disk.old) (D.flash disk.new) }

@@ -11,7 +11,7 @@ ghost use Rattle.rollback_record.specs.Moved.{HasEnvelope, HasFirstPage, HasPage
 
 use crate::page::spell;
 use flash_layout::{Frame, Key, Layout, Record, bank, close_work, record_page, write_page};
-use std::alloc::{AllocError, Global};
+use std::alloc::Global;
 use suit_edge::{CLOSED, Disk, Edge};
 
 /// Why the flash was not read.

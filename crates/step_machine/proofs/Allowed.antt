@@ -1,10 +1,8 @@
 -- A part's permissions extend to its own parts.
-use Rattle.std.proofs.Common.{◌≡◌, ℕ, ◌+◌, ◌<◌, ◌≤◌, List, [], ◌∷◌, Option, Some, length, get_or, drop, map, refl, sym, ap, ◌∙◌, subst, arith, inl, inr, suc, zero, add-one}
-use Rattle.std.proofs.Math.Seq.{drop-cons}
+use Rattle.std.proofs.Common.{◌≡◌, ℕ, ◌+◌, ◌<◌, ◌≤◌, List, [], ◌∷◌, length, get_or, map, refl, sym, ap, ◌∙◌, subst, arith, inl, inr, suc, zero}
 use Rattle.std.specs.List.{AllByRecursion, range_with_len}
 use Rattle.flash_slots.specs.RamContents.{Held}
 use Rattle.suit_commands.specs.declared.selection.Selection.TheVariants.{One, All, Listed}
-use Rattle.suit_commands.specs.declared.kinds.ActKind.TheVariants as acts
 use Rattle.suit_commands.specs.Indexed.{IsIndexed}
 use Rattle.suit_commands.specs.Selections.{Among, selected_after}
 use Rattle.suit_commands.specs.Targets.{CommandWrites}

@@ -1,5 +1,5 @@
 -- A step of a procedure, from a moment to a later one: what stays, and what the host is asked for.
-use Rattle.std.proofs.Common.{◌≡◌, inl, inr, ⊎_elim, ℕ, List, [], ◌++◌, Result, Ok, Err, length, refl, sym, ap, subst, ◌∙◌}
+use Rattle.std.proofs.Common.{◌≡◌, inl, inr, ⊎_elim, ℕ, List, [], ◌++◌, Result, length, refl, sym, ap, subst, ◌∙◌}
 use Rattle.std.specs.Prelude.{IsTrue}
 use Rattle.std.proofs.lemmas.List.{append-nil}
 use Rattle.suit_edge.specs.Flash.{IsFlash}
@@ -7,12 +7,13 @@ use Rattle.suit_edge.specs.FlashLaws.{keeps_start, keeps_then, grows_start, grow
 use Rattle.step_machine.specs.Programs.{program_tree}
 use Rattle.path_model.specs.Behaviour.{State}
 use Rattle.path_model.specs.Settings.{Setting}
+use Rattle.suit_edge.specs.declared.launch.Launch.{Launch}
 use Rattle.path_model.specs.DevicePlays.{Device, Launched}
 use Rattle.step_machine.specs.declared.stop.Stop.{Stop}
 use Rattle.step_machine.specs.declared.machine.Machine.{Machine}
 use Rattle.step_machine.specs.Comes.{Comes}
 use Rattle.step_machine.specs.Fetching.{AreGiven, AreRequests, Request, names_of}
-use Rattle.step_machine.specs.Running.{Moment, OutsideWritten, Past, Stays, StaysOn, StopCounts, Fits, Part, RunsPart, AreFilesKnown, AreSources, counts_at, device_at, followed, gained}
+use Rattle.step_machine.specs.Running.{Moment, OutsideWritten, Past, Stays, StaysOn, StopCounts, Fits, Part, RunsPart, AreFilesKnown, AreSources, Gained, counts_at, device_at, followed}
 use Rattle.step_machine.proofs.Asking.{asks_none, asks_then, unrequested}
 
 -- ---- what stays
@@ -59,6 +60,9 @@ stays_then Left machine a b c law first second = record {
 -- the names are those before
 pub no_requests : (machine : Machine) (m n : Moment) → n.host.asked.names ≡ m.host.asked.names → AreRequests m.host.told machine.uris.now m.host.files m.host.asked.names n.host.asked.names []
 no_requests machine m n same = unrequested m.host.told machine.uris.now m.host.files m.host.asked.names n.host.asked.names same
+
+abbrev pub gained : List Launch → List Request → Gained
+gained launches requests = record { launches = launches; requests = requests }
 
 -- after them nothing was launched, and these were asked for
 pub followed_asking : (past : Past) (requests : List Request) → followed past (gained [] requests) ≡ record { launches = past.launches; asked = past.asked ++ names_of requests }

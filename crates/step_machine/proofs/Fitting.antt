@@ -2,7 +2,7 @@
 use Rattle.std.proofs.Common.{◌≡◌, ◌≢◌, ◌≤◌, ◌<◌, ◌+◌, ℕ, zero, suc, List, [], ◌∷◌, None, get_or, length, replicate, take, refl, sym, ap, subst, ◌∙◌, arith, ⊎_elim, length-take-le}
 use Rattle.std.proofs.lemmas.Bool.{cases_lt}
 use Rattle.std.proofs.lemmas.List.{get_or-map, length-map, places}
-use Rattle.std.specs.Prelude.{slice_index}
+use Rattle.std.specs.Prelude.{◌==◌, ◌&&◌, if◌then◌else◌, slice_index}
 use Rattle.flash_layout.specs.declared.frame.Frame.{Frame}
 use Rattle.flash_layout.specs.declared.layout.Entry.{Entry}
 use Rattle.flash_layout.specs.declared.layout.Memory.{Memory}
@@ -27,12 +27,16 @@ pub few_entries : (frame : Frame) (size : ℕ) (layout : List Entry) → IsLayou
 few_entries frame size layout is = omega (arith, is.few, most_few frame)
 
 -- a component has one or two slots
-slots_few : (frame : Frame) (size : ℕ) (e : Entry) (kind : Memory) → IsOfMemory frame size e kind → (1 ≤ e.slots) × (e.slots ≤ 2)
-slots_few frame size e memory.Flash held = (held.0, held.1)
-slots_few frame size e memory.Ram held = (omega (arith, held.0), omega (arith, held.0))
+few_slots_in : (frame : Frame) (size : ℕ) (e : Entry) (kind : Memory) → IsOfMemory frame size e kind → (1 ≤ e.slots) × (e.slots ≤ 2)
+few_slots_in frame size e memory.Flash held = (held.0, held.1)
+few_slots_in frame size e memory.Ram held = (omega (arith, held.0), omega (arith, held.0))
 
 pub few_slots : (frame : Frame) (size : ℕ) (layout : List Entry) → IsLayout frame size layout → (i : ℕ) (e : Entry) → i < length layout → (1 ≤ (get_or layout i e).slots) × ((get_or layout i e).slots ≤ 2)
-few_slots frame size layout is i e inside = let at = get_or layout i e in slots_few frame size at at.memory (is.each i e inside).held
+few_slots frame size layout is i e inside = let at = get_or layout i e in few_slots_in frame size at at.memory (is.each i e inside).held
+
+-- and the one in use is one of them
+pub some_slot : (slots number : ℕ) → 1 ≤ slots → (if (number == 1) && (slots == 2) then 1 else 0) < slots
+some_slot slots number some = grind (arith, some)
 
 -- no place of zeros is set
 pub zero_at : (n i : ℕ) → get_or (replicate {A = ℕ} n 0) i 0 ≡ 0

@@ -1,24 +1,24 @@
 -- A procedure that has come so far, and goes on or stops there. The outcomes of its free steps are recalled and kept.
-use Rattle.std.proofs.Common.{◌≡◌, ◌<◌, ◌+◌, inl, ℕ, suc, Bool, List, [], ◌∷◌, ◌++◌, Option, Result, Ok, Err, length, map, refl, sym, ap, subst, ◌∙◌, append_assoc, arith}
+use Rattle.std.proofs.Common.{◌≡◌, ◌+◌, inl, ℕ, suc, Bool, List, [], ◌∷◌, ◌++◌, Option, Result, Ok, Err, length, map, refl, sym, ap, subst, ◌∙◌, append_assoc, arith}
 use Rattle.std.specs.Prelude.{IsTrue, not}
 use Rattle.std.specs.List.{AllByRecursion}
 use Rattle.std.proofs.lemmas.List.{append-nil, length-append}
 use Rattle.suit_edge.specs.declared.launch.Launch.{Launch}
-use Rattle.suit_edge.specs.Ranges.{OutsideEach, Range}
+use Rattle.suit_edge.specs.Ranges.{Range}
 use Rattle.path_model.specs.Behaviour.{State}
 use Rattle.path_model.specs.DevicePlays.{Launched}
+use Rattle.path_model.specs.Plays.{in_turn}
 use Rattle.path_model.specs.RecalledPlays.{Recalling}
 use Rattle.step_machine.specs.declared.stop.Stop.{Stop}
-use Rattle.step_machine.specs.declared.stop.Stop.TheVariants as stops
 use Rattle.step_machine.specs.declared.machine.Machine.{Machine}
 use Rattle.step_machine.specs.Comes.{Comes}
 use Rattle.step_machine.specs.Fetching.{AreGiven, AreRequests, Request, names_of}
 use Rattle.step_machine.specs.Invoking.{launched_as}
 use Rattle.step_machine.specs.PlanRuns.{Counts}
-use Rattle.step_machine.specs.Running.{Moment, Past, StaysOn, StopCounts, Gained, AreSources, followed, gained}
-use Rattle.step_machine.specs.Parts.{nothing_part, then_part}
+use Rattle.step_machine.specs.Running.{Moment, Past, StaysOn, StopCounts, Gained, AreSources, followed}
+use Rattle.step_machine.specs.Parts.{nothing_part}
 use Rattle.step_machine.specs.Stages.{FitsKept, GoesKept, IfGoesOn, IsTrailed, KeptPart, OutsideKept, RunsKept, Stage, StaysKept, Terms, counts_in, world_at}
-use Rattle.step_machine.proofs.Beginning.{Obeys, followed_quietly, no_requests, stays_start, stays_then}
+use Rattle.step_machine.proofs.Beginning.{Obeys, followed_quietly, gained, no_requests, stays_start, stays_then}
 use Rattle.step_machine.proofs.Composing.{then_comes, first_stops}
 
 -- ---- what stays
@@ -232,6 +232,9 @@ begun_after machine whole first rest second s0 m0 s m law b z r t y n one counts
       led_then machine whole rest s0 m0 s m b.stays (b.leads disk launcher) first second z y r t n
       (one.goes (subst IsTrue (sym b.stays.outside.disk) disk) (subst IsTrue (sym b.stays.outside.launcher) launcher)) comes;
 }
+
+abbrev pub then_part : KeptPart → KeptPart → KeptPart
+then_part first second terms = in_turn Recalling (first terms) (second terms)
 
 module _ (machine : Machine) (whole first second : KeptPart) (s0 : State) (m0 : Stage) (s : State) (m : Stage) (law : ObeysAt m) (b : Begun machine whole (then_part first second) s0 m0 s m) where
   -- the first is stopped, and so is the whole

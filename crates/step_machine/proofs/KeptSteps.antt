@@ -7,14 +7,13 @@ use Rattle.suit_edge.specs.declared.edge.Edge.{Edge}
 use Rattle.suit_edge.specs.declared.edge.Edge.TheVariants as edge
 use Rattle.suit_edge.specs.Edge.{IfDone}
 use Rattle.suit_edge.specs.Faults.{EdgeCounts}
-use Rattle.suit_edge.specs.Flash.{Flash, Grows, IsFlash, Keeps, Now}
+use Rattle.suit_edge.specs.Flash.{Flash, Grows, IsFlash, Keeps}
 use Rattle.suit_edge.specs.FlashLaws.{keeps_fewer}
 use Rattle.suit_edge.specs.Ranges.{InSome, Outside, OutsideEach, Range, SameOn}
-use Rattle.path_model.specs.declared.cause.Cause.{Cause}
 use Rattle.path_model.specs.declared.cause.Cause.TheVariants as causes
 use Rattle.path_model.specs.Behaviour.{State}
 use Rattle.path_model.specs.DevicePlays.{Device}
-use Rattle.path_model.specs.RecalledPlays.{Recalling, recalling}
+use Rattle.path_model.specs.RecalledPlays.{recalling}
 use Rattle.flash_layout.specs.Trails.{HoldsNow, IsTaken, LieWithin, list_after, list_with}
 use Rattle.flash_layout.specs.Slots.{extent_of}
 use Rattle.flash_slots.specs.RamContents.{Held}
@@ -23,10 +22,10 @@ use Rattle.step_machine.specs.declared.stop.Stop.{Stop}
 use Rattle.step_machine.specs.declared.stop.Stop.TheVariants as stops
 use Rattle.step_machine.specs.Comes.{Comes}
 use Rattle.step_machine.specs.Devices.{contents_of}
-use Rattle.step_machine.specs.Fetching.{AreRequests, Request}
+use Rattle.step_machine.specs.Fetching.{AreRequests}
 use Rattle.step_machine.specs.Keeping.{IsOutcomeKept, KeptEnd, KeptSo, outcome_of}
 use Rattle.step_machine.specs.PlanRuns.{Counts, CountsFor, counts_of}
-use Rattle.step_machine.specs.Running.{AreSources, Fits, Gained, Goes, HostAt, IsReady, LauncherAt, Moment, OutsideWritten, Part, Past, RunsPart, Stays, StaysOn, StopCounts, counts_at, device_at, followed, gained, moment}
+use Rattle.step_machine.specs.Running.{AreSources, HostAt, IsReady, LauncherAt, Moment, OutsideWritten, Part, Past, RunsPart, Stays, StopCounts, counts_at, device_at, followed, moment}
 use Rattle.step_machine.specs.Stages.{FitsKept, GoesKept, IfGoesOn, IsTrailed, KeptPart, OutsideKept, OutsideStandings, RunsKept, Stage, StaysKept, Terms, TrailAt, counts_in, stage, world_at}
 use Rattle.step_machine.specs.Steps.{DiskAt}
 use Rattle.step_machine.specs.Spots.{IsSpot, OutsideSpot, content_of}
@@ -37,7 +36,7 @@ use Rattle.step_machine.specs.declared.spot.Spot.TheVariants as spots
 use Rattle.step_machine.specs.declared.spot.Standing.{Standing}
 use Rattle.step_machine.proofs.Asking.{asks_none}
 use Rattle.step_machine.proofs.Lifting.{kept_slot, map_same}
-use Rattle.step_machine.proofs.Beginning.{Obeys, no_requests, followed_quietly, stays_start}
+use Rattle.step_machine.proofs.Beginning.{Obeys, gained, no_requests, followed_quietly, stays_start}
 use Rattle.step_machine.proofs.Going.{kept_then, kept_start}
 use Rattle.step_machine.proofs.Recalling.{IsFree, IsUnfree}
 

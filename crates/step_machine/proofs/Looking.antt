@@ -29,11 +29,11 @@ use Rattle.step_machine.specs.Devices.{contents_of}
 use Rattle.step_machine.specs.Directives.{StopsSo}
 use Rattle.step_machine.specs.Invoking.{InvokesAs, InvokeCounts, launched_as}
 use Rattle.step_machine.specs.PlanRuns.{counts_of, OutsideTargets}
-use Rattle.step_machine.specs.Running.{AreFilesKnown, Moment, Past, Stays, StopCounts, Fits, Goes, RunsPart, AreSources, counts_at, device_at, gained, stopped}
+use Rattle.step_machine.specs.Running.{AreFilesKnown, Moment, Past, Stays, StopCounts, Fits, Goes, RunsPart, AreSources, counts_at, device_at, stopped}
 use Rattle.step_machine.specs.Parts.{test_part, act_part}
 use Rattle.step_machine.specs.Spots.{content_of}
 use Rattle.step_machine.proofs.Asking.{asks_same}
-use Rattle.step_machine.proofs.Beginning.{followed_quietly, no_requests, runs_quietly}
+use Rattle.step_machine.proofs.Beginning.{followed_quietly, gained, no_requests, runs_quietly}
 use Rattle.step_machine.proofs.Leaves.{content_here}
 
 -- ---- how a condition ends

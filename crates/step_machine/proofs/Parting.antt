@@ -1,6 +1,6 @@
 -- Sequences, selections and the sequences of a try each, by their first and the rest.
-use Rattle.std.proofs.Common.{◌≡◌, ℕ, ◌+◌, ◌<◌, add-one, Bool, true, false, List, ◌∷◌, Option, Some, None, Result, Ok, Err, length, get_or, drop, refl, sym, ap, ◌∙◌, subst, suc}
-use Rattle.suit_commands.specs.Tree.{CommandTree, Index, Override, SequenceTree, NoBranches}
+use Rattle.std.proofs.Common.{◌≡◌, ℕ, Bool, true, false, List, Some, None, Result, Ok, Err, refl, sym, ap, subst}
+use Rattle.suit_commands.specs.Tree.{CommandTree, Index, Override, NoBranches}
 use Rattle.suit_commands.specs.Selections.{selected_by}
 use Rattle.suit_commands.specs.declared.selection.Selection.{Selection}
 use Rattle.suit_params.specs.declared.param.Param.{Param}
@@ -18,7 +18,7 @@ use Rattle.step_machine.specs.Directives.{Stops, IsCutSo}
 use Rattle.step_machine.specs.PlanRuns.{Counts}
 use Rattle.step_machine.specs.Running.{StopCounts, AreSources}
 use Rattle.step_machine.specs.Stages.{IfGoesOn, IsTrailed, KeptPart, RunsKept, Stage, counts_in}
-use Rattle.step_machine.specs.Parts.{nothing_part, then_part, sequence_part, command_part, branches_part, at_part, each_part, passed_on}
+use Rattle.step_machine.specs.Parts.{nothing_part, command_part, branches_part, at_part, each_part, passed_on}
 use Rattle.step_machine.proofs.Going.{ObeysAt, Begun, begun_after, runs_as, runs_at_once}
 use Rattle.step_machine.proofs.Composing.{comes_by, stops_as}
 use Rattle.step_machine.proofs.Inner.{run_completes, run_fails_softly, run_passes_on, try_completes, try_passes_on, others_come}

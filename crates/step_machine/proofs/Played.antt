@@ -1,6 +1,6 @@
 -- What a procedure comes to, in terms of the program that it was given.
-use Rattle.std.proofs.Common.{◌≡◌, ◌∙◌, ℕ, Bool, true, false, List, [], ◌∷◌, ◌++◌, Option, Result, Ok, Err, refl, sym, ap, subst, map}
-use Rattle.std.specs.Prelude.{IsTrue, not}
+use Rattle.std.proofs.Common.{◌≡◌, ◌∙◌, ℕ, Bool, true, false, List, [], ◌∷◌, ◌++◌, Option, Result, Ok, Err, refl, sym, ap, subst}
+use Rattle.std.specs.Prelude.{IsTrue}
 use Rattle.suit_edge.specs.Flash.{Flash, Keeps}
 use Rattle.suit_edge.specs.FlashLaws.{keeps_fewer}
 use Rattle.suit_edge.specs.Ranges.{OutsideEach, Range}
@@ -8,7 +8,7 @@ use Rattle.suit_edge.specs.declared.launch.Launch.{Launch}
 use Rattle.suit_commands.specs.Tree.{PlanTree}
 use Rattle.path_model.specs.declared.cause.Cause.{Cause}
 use Rattle.path_model.specs.declared.cause.Cause.TheVariants as causes
-use Rattle.path_model.specs.Behaviour.{State, Ending}
+use Rattle.path_model.specs.Behaviour.{State}
 use Rattle.path_model.specs.Path.{first_state}
 use Rattle.path_model.specs.Settings.{Setting}
 use Rattle.path_model.specs.Plays.{Outcome}
@@ -24,10 +24,8 @@ use Rattle.step_machine.specs.declared.spot.Standing.{Standing}
 use Rattle.step_machine.specs.declared.stop.Stop.{Stop}
 use Rattle.step_machine.specs.declared.stop.Stop.TheVariants as stops
 use Rattle.flash_layout.specs.Trails.{HoldsNow}
-use Rattle.step_machine.specs.Devices.{contents_of}
 use Rattle.step_machine.specs.Directives.{IsCutSo, Stops, StopsSo}
 use Rattle.step_machine.specs.Fetching.{ArePayloads, AsksAmong}
-use Rattle.step_machine.specs.Invoking.{launched_as}
 use Rattle.step_machine.specs.KeptRuns.{IfNoFault, KeptAt, OutsideWrites, PlaysKept, kept_at, terms_of}
 use Rattle.step_machine.specs.Parts.{plan_part}
 use Rattle.step_machine.specs.PlanRuns.{GivesAs, OutsideTargets, PlaysPlan, end_of, setting_of}

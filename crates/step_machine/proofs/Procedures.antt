@@ -15,7 +15,7 @@ use Rattle.suit_commands.specs.Tree.{PlanTree, SequenceTree, NoSteps}
 use Rattle.suit_commands.proofs.IndexedSteps.{member_indexed, shared_indexed}
 use Rattle.path_model.specs.Behaviour.{State}
 use Rattle.path_model.specs.Path.{start_state, first_state}
-use Rattle.path_model.specs.Settings.{Setting, steady}
+use Rattle.path_model.specs.Settings.{steady}
 use Rattle.step_machine.specs.declared.machine.Machine.{Machine}
 use Rattle.step_machine.specs.declared.program.Program.{Program}
 use Rattle.step_machine.specs.declared.plan_end.PlanEnd.{PlanEnd}
@@ -26,12 +26,12 @@ use Rattle.step_machine.specs.Allowing.{AllowsSequence}
 use Rattle.step_machine.specs.UrisSet.{Sets}
 use Rattle.step_machine.specs.Devices.{contents_of}
 use Rattle.step_machine.specs.Fetching.{AreGiven, AreRequests, Request, names_of}
-use Rattle.step_machine.specs.Parts.{sequence_part, starting_part, then_part, plan_part}
+use Rattle.step_machine.specs.Parts.{sequence_part, starting_part, plan_part}
 use Rattle.step_machine.specs.PlanRuns.{Counts, EndCounts, GivesAs, end_of}
 use Rattle.step_machine.specs.KeptRuns.{KeptAt, PlaysKept, kept_at}
 use Rattle.step_machine.specs.Running.{Past, StopCounts, AreSources}
 use Rattle.step_machine.specs.Stages.{FitsKept, GoesKept, IsTrailed, KeptPart, RunsKept, Stage, Terms}
-use Rattle.step_machine.proofs.Going.{Begun, begun, runs_as, runs_at_once}
+use Rattle.step_machine.proofs.Going.{Begun, begun, runs_as, runs_at_once, then_part}
 use Rattle.step_machine.proofs.Parting.{comes_same}
 
 -- ---- the permissions of its sequences

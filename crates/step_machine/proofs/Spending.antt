@@ -4,11 +4,10 @@ use Rattle.std.specs.Prelude.{IfSome, IsTrue}
 use Rattle.std.proofs.lemmas.List.{length-append}
 use Rattle.suit_commands.specs.Numbers.{branches_work, command_work, count_after, work_of, work_number}
 use Rattle.suit_commands.specs.Selections.{selected_after}
-use Rattle.suit_commands.specs.Tree.{CommandTree, Test, Act, Index, Override, TryEach, RunSequence, SequenceTree, NoSteps, StepThen, BranchesTree, BranchThen, NullThen, PlanTree}
+use Rattle.suit_commands.specs.Tree.{CommandTree, Test, Act, Index, Override, TryEach, RunSequence, SequenceTree, StepThen, BranchesTree, BranchThen, PlanTree}
 use Rattle.suit_cursor.specs.declared.command.LentCommand.{LentCommand}
 use Rattle.suit_cursor.specs.Lending.{command_of}
 use Rattle.path_model.proofs.EventBounds.{length_after}
-use Rattle.flash_layout.specs.Trails.{list_with}
 use Rattle.step_machine.specs.declared.stop.Stop.{Stop}
 use Rattle.step_machine.specs.declared.stop.Stop.TheVariants as stops
 use Rattle.step_machine.specs.declared.progress.Selected.{Selected}

@@ -18,11 +18,11 @@ use Rattle.step_machine.specs.declared.progress.Selected.{Selected}
 use Rattle.step_machine.specs.declared.stop.Stop.{Stop}
 use Rattle.step_machine.specs.declared.stop.Stop.TheVariants as stops
 use Rattle.step_machine.specs.Allowing.{AllowsCommand, AllowsSequence}
-use Rattle.step_machine.specs.Parts.{at_part, branches_part, command_part, each_part, passed_on, sequence_part, then_part}
+use Rattle.step_machine.specs.Parts.{at_part, branches_part, command_part, each_part, passed_on, sequence_part}
 use Rattle.step_machine.specs.Running.{AreSources, selected_list, state_of}
 use Rattle.step_machine.specs.Stages.{IsTrailed, KeptPart, RunsKept, Stage}
 use Rattle.step_machine.proofs.Allowed.{first_step, later_steps, below_after}
-use Rattle.step_machine.proofs.Going.{ObeysAt, Begun, begun, begun_then, runs_done, runs_last, runs_stopped}
+use Rattle.step_machine.proofs.Going.{ObeysAt, Begun, begun, begun_then, runs_done, runs_last, runs_stopped, then_part}
 use Rattle.step_machine.proofs.Parting.{IsEach, runs_command, runs_exhausted, inner_part, trying_part, branch_done, branch_stops, begun_tried, inner_done, inner_soft, inner_stops}
 
 abbrev with_params : State → Parameters → State

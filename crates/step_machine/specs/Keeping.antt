@@ -1,5 +1,5 @@
 -- Which steps are free, and how the outcome of one is kept.
-use Rattle.std.specs.Prelude.{◌≡◌, ◌⊎◌, ℕ, Bool, true, false, not, IsTrue, is_some, List, [], ◌∷◌, ◌++◌, Option, Some, None, Result, Ok, Err}
+use Rattle.std.specs.Prelude.{◌≡◌, ◌⊎◌, ℕ, Bool, true, false, not, IsTrue, is_some, [], ◌∷◌, ◌++◌, Option, Some, None, Result, Ok, Err}
 use Rattle.suit_params.specs.declared.param.ParamKey.TheVariants as keys
 use Rattle.suit_params.specs.InForce.{Parameters, bytes_of, digest_in, in_force, number_of}
 use Rattle.suit_commands.specs.declared.kinds.TestKind.{TestKind}

@@ -1,20 +1,16 @@
 -- How a procedure ends that recalls and keeps the outcomes of its free steps, by its play.
-use Rattle.std.specs.Prelude.{◌≡◌, ◌⊎◌, ℕ, Bool, not, List, [], ◌∷◌, ◌++◌, map}
+use Rattle.std.specs.Prelude.{◌≡◌, ℕ, Bool, not, List, [], ◌∷◌, ◌++◌, map}
 use Rattle.suit_edge.specs.declared.launch.Launch.{Launch}
 use Rattle.suit_edge.specs.Ranges.{OutsideEach, Range}
 use Rattle.suit_commands.specs.Tree.{PlanTree}
-use Rattle.path_model.specs.Behaviour.{State, Done, Condition}
-use Rattle.path_model.specs.Path.{first_state}
 use Rattle.path_model.specs.Settings.{Setting}
-use Rattle.path_model.specs.Plays.{Outcome}
-use Rattle.path_model.specs.RecalledPlays.{Recalling, recalling}
+use Rattle.path_model.specs.RecalledPlays.{recalling}
 use Rattle.path_model.specs.KeepingPlays.{first_recalling, keeping_play}
 use Rattle.step_machine.specs.declared.plan_end.PlanEnd.{PlanEnd}
 use Rattle.step_machine.specs.declared.plan_end.PlanEnd.TheVariants as ends
 use Rattle.step_machine.specs.declared.spot.Standing.{Standing}
-use Rattle.step_machine.specs.Directives.{StopsSo}
 use Rattle.step_machine.specs.Invoking.{launched_as}
-use Rattle.step_machine.specs.PlanRuns.{OutsideTargets}
+use Rattle.step_machine.specs.PlanRuns.{EndsAs, OutsideTargets}
 use Rattle.step_machine.specs.Stages.{Terms}
 
 -- a setting, with a trail that is silent or is not
@@ -29,24 +25,6 @@ pub record KeptAt : Type 0 where
 abbrev pub kept_at : List (List ℕ) → List Bool → KeptAt
 kept_at contents left = record { contents = contents; left = left }
 
-abbrev pub kept_played : PlanTree → Terms → KeptAt → Outcome Recalling
-kept_played plan terms before =
-    (keeping_play terms.may_fail plan terms.setting).comes first_state (first_recalling before.left before.contents)
-
--- Without a fault it ends as its play does, and leaves what that leaves. With a fault it ends as some play does that the
--- fault cut short.
-abbrev pub KeptEndsAs : PlanTree → Terms → KeptAt → PlanEnd → Recalling → Type 0
-KeptEndsAs plan terms before ends.Done after =
-    (next : State) × ((kept_played plan terms before).ending ≡ Done next)
-    × ((kept_played plan terms before).world ≡ after)
-KeptEndsAs plan terms before (ends.ConditionFailed place) after =
-    (soft_failure : Bool)
-    × ((kept_played plan terms before).ending ≡ Condition place soft_failure)
-    × ((kept_played plan terms before).world ≡ after)
-KeptEndsAs plan terms before (ends.DirectiveFailed place cause) after =
-    StopsSo (keeping_play terms.may_fail plan terms.setting) place first_state
-    (first_recalling before.left before.contents) cause after
-
 -- the launches that were gained and the names that were asked for are the play's, and so are the outcomes that were
 -- recalled or kept
 pub record PlaysKept (plan : PlanTree) (terms : Terms) (end : PlanEnd) (before after : KeptAt)
@@ -56,7 +34,8 @@ pub record PlaysKept (plan : PlanTree) (terms : Terms) (end : PlanEnd) (before a
   pub asks : List (List ℕ)
   pub noted : List Bool
   pub ends :
-      KeptEndsAs plan terms before end
+      EndsAs (keeping_play terms.may_fail plan terms.setting)
+      (first_recalling before.left before.contents) end
       (recalling after.left noted
       (record { contents = after.contents; launches = map launched_as gained; asked = asks }))
 

@@ -3,7 +3,7 @@ use Rattle.std.specs.Prelude.{ℕ, Bool, true, false, List, Option, Some, None}
 use Rattle.suit_commands.specs.Tree.{CommandTree, Test, Act, Index, Override, TryEach, RunSequence, SequenceTree, BranchesTree, PlanTree}
 use Rattle.suit_commands.specs.declared.kinds.TestKind.{TestKind}
 use Rattle.suit_commands.specs.declared.kinds.ActKind.{ActKind}
-use Rattle.path_model.specs.Plays.{Play, nothing, in_turn, each, overriding, running_inner, sequence_play, command_play, branches_play, starting}
+use Rattle.path_model.specs.Plays.{Play, nothing, each, overriding, running_inner, sequence_play, command_play, branches_play, starting}
 use Rattle.path_model.specs.DevicePlays.{condition_play, directive_play}
 use Rattle.path_model.specs.RecalledPlays.{Recalling}
 use Rattle.path_model.specs.KeepingPlays.{keeping_condition, keeping_directive, keeping_play}
@@ -30,9 +30,6 @@ keeping_acts terms = keeping_directive terms.may_fail terms.setting
 
 abbrev pub nothing_part : KeptPart
 nothing_part terms = nothing Recalling
-
-abbrev pub then_part : KeptPart → KeptPart → KeptPart
-then_part first second terms = in_turn Recalling (first terms) (second terms)
 
 abbrev pub sequence_part : SequenceTree → ℕ → KeptPart
 sequence_part sequence count terms =

@@ -9,7 +9,8 @@ use Rattle.path_model.specs.declared.cause.Cause.TheVariants as causes
 use Rattle.path_model.specs.Behaviour.{State, Done, Condition}
 use Rattle.path_model.specs.Path.{first_state}
 use Rattle.path_model.specs.Settings.{Setting, steady}
-use Rattle.path_model.specs.DevicePlays.{Device, first_device, plan_play, played}
+use Rattle.path_model.specs.DevicePlays.{first_device, plan_play}
+use Rattle.path_model.specs.Plays.{Play}
 use Rattle.step_machine.specs.declared.plan_end.PlanEnd.{PlanEnd}
 use Rattle.step_machine.specs.declared.plan_end.PlanEnd.TheVariants as ends
 use Rattle.step_machine.specs.declared.spot.Standing.{Standing}
@@ -32,17 +33,22 @@ setting_of standings payloads words files = record {
 
 -- ---- by its play
 
--- Without a fault it ends as its play does, and leaves what that leaves. With a fault it ends as some play does that the
--- fault cut short.
-abbrev pub EndsAs : PlanTree → Setting → List (List ℕ) → PlanEnd → Device → Type 0
-EndsAs plan setting contents ends.Done after =
-    (next : State) × ((played plan setting contents).ending ≡ Done next)
-    × ((played plan setting contents).world ≡ after)
-EndsAs plan setting contents (ends.ConditionFailed place) after =
-    (soft_failure : Bool) × ((played plan setting contents).ending ≡ Condition place soft_failure)
-    × ((played plan setting contents).world ≡ after)
-EndsAs plan setting contents (ends.DirectiveFailed place cause) after =
-    StopsSo (plan_play plan setting) place first_state (first_device contents) cause after
+-- Without a fault it ends as its play does from this world, and leaves what that leaves. With a fault it ends as some play
+-- does that the fault cut short.
+abbrev pub EndsAs : {World : Type 0} → Play World → World → PlanEnd → World → Type 0
+EndsAs play before ends.Done after =
+    (next : State) × ((play.comes first_state before).ending ≡ Done next)
+    × ((play.comes first_state before).world ≡ after)
+EndsAs play before (ends.ConditionFailed place) after =
+    (soft_failure : Bool) × ((play.comes first_state before).ending ≡ Condition place soft_failure)
+    × ((play.comes first_state before).world ≡ after)
+EndsAs play before (ends.DirectiveFailed place cause) after =
+    StopsSo play place first_state before cause after
+
+-- no directive of the procedure was stopped by a fault of the flash
+abbrev pub IsUnfaulted : PlanEnd → Type 0
+IsUnfaulted (ends.DirectiveFailed place causes.FlashFault) = ⊥
+IsUnfaulted _ = Unit {0}
 
 -- what each request is given: by a host that tells, its files each time, and so where no URI names one
 abbrev pub GivesAs : Bool → List (List ℕ × List ℕ) → (List ℕ → Option (List ℕ))
@@ -57,7 +63,7 @@ pub record PlaysPlan (plan : PlanTree) (setting : Setting) (end : PlanEnd)
   pub added : now ≡ launched ++ gained
   pub asks : List (List ℕ)
   pub ends :
-      EndsAs plan setting before end
+      EndsAs (plan_play plan setting) (first_device before) end
       (record { contents = after; launches = map launched_as gained; asked = asks })
 
 -- how a procedure ends of which a sequence ended so

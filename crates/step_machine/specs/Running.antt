@@ -73,9 +73,6 @@ pub record Gained : Type 0 where
   pub launches : List Launch
   pub requests : List Request
 
-abbrev pub gained : List Launch → List Request → Gained
-gained launches requests = record { launches = launches; requests = requests }
-
 abbrev pub followed : Past → Gained → Past
 followed past more = record {
   launches = past.launches ++ map launched_as more.launches;

@@ -1,7 +1,7 @@
 //! Changing contents in place.
 
 ghost use Rattle.flash_slots.specs.Contents.{ResultCounts};
-ghost use Rattle.std.specs.Prelude.{◌≡◌, ◌<◌, ◌≤◌, ◌+◌, ◌++◌, IsTrue, OnOk, drop, length, take};
+ghost use Rattle.std.specs.Prelude.{◌≡◌, ◌<◌, ◌≤◌, ◌+◌, IsTrue, OnOk, drop, length, take};
 ghost use Rattle.step_machine.specs.Areas.{IsHeld, KeepsFront, OutsideRoom, area_at, size_at};
 ghost use Rattle.step_machine.specs.Copying.{IsPair, IsRamButBoth, OutsideBoth, OutsideRooms};
 ghost use Rattle.step_machine.specs.Replacing.{IsEmptyOrWholeAt, IsSettledAt};

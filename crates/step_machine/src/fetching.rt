@@ -2,7 +2,7 @@
 
 ghost use Rattle.path_model.specs.declared.cause.Cause.TheVariants as causes;
 ghost use Rattle.path_model.specs.Settings.{found_under};
-ghost use Rattle.std.specs.Prelude.{[], ◌≡◌, ◌≢◌, ◌⊎◌, ◌<◌, ◌≤◌, ◌+◌, ◌==◌, ℕ, Err, IsTrue, List, Some, get_or, length, option_map};
+ghost use Rattle.std.specs.Prelude.{[], ◌≡◌, ◌≢◌, ◌⊎◌, ◌<◌, ◌≤◌, ◌+◌, ◌==◌, ℕ, Err, IsTrue, List, Some, get_or, length};
 ghost use Rattle.std.specs.Option.{option_and_then};
 ghost use Rattle.step_machine.specs.Fetching.{ArePayloads, AreRequests, AsksAtMost, FetchCounts, FetchesAs, Request, TakesNamed, TakesOf, asked_at, file_by, file_named};
 ghost use Rattle.step_machine.specs.Replacing.{IsReplaced};

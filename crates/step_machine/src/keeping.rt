@@ -1,8 +1,7 @@
 //! Free steps of a running procedure: recalled, or done, and then their outcomes kept. A step is free where it looks at a
 //! content or makes one, or launches.
 
-ghost use Rattle.path_model.specs.Behaviour.{State};
-ghost use Rattle.std.specs.Prelude.{◌≡◌, ◌<◌, [], IsTrue, length};
+ghost use Rattle.std.specs.Prelude.{◌≡◌, ◌<◌, [], length};
 ghost use Rattle.step_machine.specs.Allowing.{MayFetch, MaySwap, MayWrite};
 ghost use Rattle.step_machine.specs.Keeping.{KeptSo, is_free_act, is_free_test, outcome_of};
 ghost use Rattle.step_machine.specs.Parts.{kept_act_part, kept_test_part};

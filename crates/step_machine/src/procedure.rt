@@ -9,7 +9,7 @@ ghost use Rattle.step_machine.specs.Allowing.{AllowsSequence, MayFetch};
 ghost use Rattle.step_machine.specs.Devices.{contents_of};
 ghost use Rattle.step_machine.specs.KeptRuns.{IfNoFault, OutsideWrites, PlaysKept, kept_at, terms_of};
 ghost use Rattle.step_machine.specs.Parts.{plan_part, starting_part};
-ghost use Rattle.step_machine.specs.PlanRuns.{EndCounts, GivesAs, OutsideTargets, PlaysPlan, counts_of, end_of, setting_of};
+ghost use Rattle.step_machine.specs.PlanRuns.{EndCounts, GivesAs, PlaysPlan, counts_of, end_of, setting_of};
 ghost use Rattle.step_machine.specs.Running.{AreSources, IsReady, LeavesWork, state_of};
 ghost use Rattle.step_machine.specs.Stages.{HasRoom, IsTrailed, OutsideStandings, RunsKept, Spends};
 ghost use Rattle.step_machine.specs.Fetching.{ArePayloads, AsksAmong, asked_at};

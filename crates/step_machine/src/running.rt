@@ -9,7 +9,7 @@ ghost use Rattle.path_model.specs.Plays.{running_inner};
 ghost use Rattle.path_model.specs.RecalledPlays.{Recalling};
 ghost use Rattle.suit_commands.specs.Numbers.{branches_work, command_work, work_of};
 ghost use Rattle.suit_commands.specs.Selections.{selected_after};
-ghost use Rattle.suit_commands.specs.Tree.{Override, RunSequence, TryEach};
+ghost use Rattle.suit_commands.specs.Tree.{Override, TryEach};
 ghost use Rattle.suit_cursor.specs.Lending.{command_of};
 
 use crate::Stop;

@@ -11,7 +11,7 @@ use Rattle.suit_edge.specs.RangeLaws.{written_range}
 use Rattle.flash_layout.specs.declared.frame.Frame.{Frame}
 use Rattle.flash_layout.specs.declared.slot.Record.{Record}
 use Rattle.flash_layout.specs.FrameFacts.{FrameFacts, bank_high, bank_there}
-use Rattle.flash_layout.specs.Frames.{bank_of, bank_place, bank_size, head_of, head_size}
+use Rattle.flash_layout.specs.Frames.{bank_of, bank_place, bank_size, head_of}
 use Rattle.rollback_record.specs.HeadRecord.{IsLoadable}
 use Rattle.rollback_record.specs.SoundFlash.{recorded_bank}
 use Rattle.flash_slots.proofs.Stored.{split_range}

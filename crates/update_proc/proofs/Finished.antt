@@ -21,7 +21,7 @@ use Rattle.step_machine.specs.declared.plan_end.PlanEnd.{PlanEnd}
 use Rattle.step_machine.specs.declared.plan_end.PlanEnd.TheVariants as plays
 use Rattle.step_machine.specs.declared.spot.Standing.{Standing}
 use Rattle.step_machine.specs.Devices.{contents_of}
-use Rattle.step_machine.specs.PlanRuns.{Counts, EndCounts, GivesAs, PlaysPlan, counts_of, setting_of}
+use Rattle.step_machine.specs.PlanRuns.{Counts, EndCounts, GivesAs, IsUnfaulted, PlaysPlan, counts_of, setting_of}
 use Rattle.step_machine.proofs.Counting.{failed_behind, not_fallen}
 use Rattle.step_machine.specs.Worlds.{IsChoice, StandAs}
 use Rattle.suit_commands.specs.Tree.{PlanTree}
@@ -30,7 +30,7 @@ use Rattle.flash_slots.specs.RamContents.{Held, empty_ram}
 use Rattle.update_proc.specs.Choices.{AreChosen, active_slots}
 use Rattle.update_proc.specs.declared.update_end.UpdateEnd.{UpdateEnd}
 use Rattle.update_proc.specs.declared.update_end.UpdateEnd.TheVariants as ends
-use Rattle.update_proc.specs.Ends.{FinishedSo, IfInstalled, IfStopped, IfTold, IfUnfaulted, IsEnd, IsUnfaulted, IsRefusal, IsStartEnd, IsUnbegun, JudgedSo, SettledSo, StoppedSo, UpdateCounts}
+use Rattle.update_proc.specs.Ends.{FinishedSo, IfInstalled, IfStopped, IfTold, IfUnfaulted, IsEnd, IsRefusal, IsUnbegun, JudgedSo, SettledSo, StoppedSo, UpdateCounts}
 use Rattle.update_proc.specs.Installing.{BesideHead, IsNotWorn}
 use Rattle.update_proc.specs.Moments.{HasContentsOf}
 use Rattle.update_proc.specs.Records.{next_generation}
@@ -71,10 +71,10 @@ end_counts plays.Done answer a b (r, same) is = subst (λ (x : UpdateEnd). Updat
 end_counts (plays.ConditionFailed place) answer a b same is = subst (λ (x : UpdateEnd). UpdateCounts x a b) (sym same) is
 end_counts (plays.DirectiveFailed place cause) answer a b same is = subst (λ (x : UpdateEnd). UpdateCounts x a b) (sym same) is
 
-start_end : (end : PlanEnd) (answer : UpdateEnd) → IsEnd end answer → IsStartEnd answer
-start_end plays.Done answer (r, same) = subst IsStartEnd (sym same) tt
-start_end (plays.ConditionFailed place) answer same = subst IsStartEnd (sym same) tt
-start_end (plays.DirectiveFailed place cause) answer same = subst IsStartEnd (sym same) tt
+start_end : (end : PlanEnd) (answer : UpdateEnd) → IsEnd end answer → IsRefusal answer → ⊥
+start_end plays.Done answer (r, same) is = subst IsRefusal same is
+start_end (plays.ConditionFailed place) answer same is = subst IsRefusal same is
+start_end (plays.DirectiveFailed place cause) answer same is = subst IsRefusal same is
 
 -- what a procedure left was synced, in which the flash did not fail
 pub settled_so : (end : PlanEnd) (stop answer : UpdateEnd) (d e : ℕ) → IsEnd end stop → IsUnfaulted end → SettledSo stop answer d e → FinishedSo end answer d e
@@ -109,8 +109,8 @@ module _ (end : PlanEnd) (answer : UpdateEnd) (d e : ℕ) (finished : FinishedSo
       (failed_behind h b l i d m e (not_fallen end (counts_of h b l) (counts_of i d m) is) fault.2))
       finished
 
-  pub starts_after : IsStartEnd answer
-  starts_after = ⊎_elim (λ so. start_end end answer so.0) (λ fault. subst IsStartEnd (sym fault.1) tt) finished
+  pub starts_after : IsRefusal answer → ⊥
+  starts_after = ⊎_elim (λ so. start_end end answer so.0) (λ fault. subst IsRefusal fault.1) finished
 
   -- P holds of the answer, where it does of each that may come
   pub after : (P : UpdateEnd → Type 0) → ((r : Record) → answer ≡ ends.Installed r → end ≡ plays.Done → P (ends.Installed r))
@@ -266,15 +266,15 @@ unbegun_settled P (ends.Stopped place cause) is p = elim is [ ]
 unbegun_settled P ends.FlashFault is p = elim is [ ]
 unbegun_settled P ends.NoMemory is p = p
 
-pub accepted_judged : (sequence : ℕ) (digest : Digest) (held : Option Record) (answer : UpdateEnd) → IsStartEnd answer → IsAcceptable sequence digest held → JudgedSo sequence digest held answer
+pub accepted_judged : (sequence : ℕ) (digest : Digest) (held : Option Record) (answer : UpdateEnd) → (IsRefusal answer → ⊥) → IsAcceptable sequence digest held → JudgedSo sequence digest held answer
 accepted_judged sequence digest held (ends.Installed r) is so = so
 accepted_judged sequence digest held (ends.Condition place) is so = so
 accepted_judged sequence digest held (ends.Stopped place cause) is so = so
 accepted_judged sequence digest held ends.FlashFault is so = tt
 accepted_judged sequence digest held ends.NoMemory is so = so
-accepted_judged sequence digest held (ends.Lower m n) is so = elim is [ ]
-accepted_judged sequence digest held (ends.OtherDigest m n) is so = elim is [ ]
-accepted_judged sequence digest held ends.Worn is so = elim is [ ]
+accepted_judged sequence digest held (ends.Lower m n) is so = absurd (is tt)
+accepted_judged sequence digest held (ends.OtherDigest m n) is so = absurd (is tt)
+accepted_judged sequence digest held ends.Worn is so = absurd (is tt)
 
 -- ---- reads as before
 

@@ -15,7 +15,7 @@ use Rattle.flash_layout.specs.Frames.{config_page_of, head_of}
 use Rattle.flash_layout.specs.Layouts.{IsLayout}
 use Rattle.rollback_record.specs.HeadRecord.{IsLoadable, RecordOf}
 use Rattle.rollback_record.specs.RecordPage.{HasSecondSlot}
-use Rattle.step_machine.proofs.Fitting.{few_entries, few_slots}
+use Rattle.step_machine.proofs.Fitting.{few_entries, few_slots, some_slot}
 use Rattle.step_machine.specs.Worlds.{IsChoice}
 use Rattle.update_proc.specs.Choices.{AreChosen, active_slots}
 use Rattle.step_machine.specs.InUse.{AreInUse}
@@ -26,9 +26,6 @@ some_entry : Entry
 some_entry = record { identifier = []; memory = memory.Ram; slots = 0; starts = []; capacity = 0; vendor = None; class = None; device = None }
 
 -- ---- the number of a slot that is in use
-
-some_slot : (slots number : ℕ) → 1 ≤ slots → (if (number == 1) && (slots == 2) then 1 else 0) < slots
-some_slot slots number some = grind (arith, some)
 
 one_at_most : (slots number : ℕ) → (if (number == 1) && (slots == 2) then 1 else 0) ≤ 1
 one_at_most slots number = grind arith

@@ -20,7 +20,7 @@ use Rattle.rollback_record.specs.declared.spare.Spare.{Spare}
 use Rattle.rollback_record.specs.Committing.{HasHeldOrNew, HasSpare, InHead, IsNext, IsSpare, KeepsBesideSpare}
 use Rattle.rollback_record.specs.HeadRecord.{IsLoadable, RecordOf}
 use Rattle.rollback_record.specs.RecordPage.{IsActiveSlot, IsInRange, record_length}
-use Rattle.rollback_record.specs.SettledLaws.{both}
+use Rattle.rollback_record.proofs.SettledLaws.{both}
 use Rattle.rollback_record.specs.SoundFlash.{Follows, IsInstalled, IsNoEarlier, Sound, recorded_bank}
 use Rattle.rollback_record.specs.SoundLaws.{HasFrame, IsCommitted, IsStillSound, SaysRecorded, SoundLaws, TellsFrame}
 use Rattle.rollback_record.proofs.HeadPlaces.{tells_head, tells_outside}

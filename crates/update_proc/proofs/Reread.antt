@@ -20,7 +20,7 @@ use Rattle.rollback_record.specs.declared.spare.RecordPages.{RecordPages}
 use Rattle.rollback_record.specs.Committing.{HasPages, HasSpare}
 use Rattle.rollback_record.specs.HeadRecord.{IsLoadable, RecordOf}
 use Rattle.rollback_record.specs.RecordLaws.{OneAnswer}
-use Rattle.rollback_record.specs.SettledLaws.{each_sound}
+use Rattle.rollback_record.proofs.SettledLaws.{each_sound}
 use Rattle.rollback_record.specs.SoundFlash.{Follows, Settled, Sound}
 use Rattle.rollback_record.specs.SoundLaws.{SoundLaws}
 use Rattle.update_proc.specs.declared.update_end.UpdateEnd.{UpdateEnd}

@@ -26,7 +26,7 @@ use Rattle.flash_layout.specs.Slots.{extent_of, slot_at}
 use Rattle.rollback_record.specs.Committing.{InHead}
 use Rattle.rollback_record.specs.HeadRecord.{IsLoadable, RecordOf}
 use Rattle.rollback_record.specs.RecordLaws.{OneAnswer}
-use Rattle.rollback_record.specs.SettledLaws.{head_is_firm}
+use Rattle.rollback_record.proofs.SettledLaws.{head_is_firm}
 use Rattle.rollback_record.specs.SoundFlash.{Follows, IsInstalled, IsNoEarlier, Settled, Sound, recorded_bank}
 use Rattle.rollback_record.specs.SoundLaws.{SoundLaws}
 use Rattle.step_machine.specs.declared.spot.Standing.{Standing}

@@ -10,7 +10,7 @@ use Rattle.rollback_record.specs.Judging.{IsAcceptable, IsJudged}
 use Rattle.rollback_record.specs.declared.judging.Judged.TheVariants as judged
 use Rattle.step_machine.specs.declared.plan_end.PlanEnd.{PlanEnd}
 use Rattle.step_machine.specs.declared.plan_end.PlanEnd.TheVariants as plays
-use Rattle.step_machine.specs.PlanRuns.{Counts, CountsFor, FlashFailed}
+use Rattle.step_machine.specs.PlanRuns.{Counts, CountsFor, FlashFailed, IsUnfaulted}
 use Rattle.update_proc.specs.declared.update_end.UpdateEnd.{UpdateEnd}
 use Rattle.update_proc.specs.declared.update_end.UpdateEnd.TheVariants as ends
 
@@ -35,18 +35,10 @@ IsRefusal _ = ⊥
 
 -- an end before anything was launched or written
 abbrev pub IsUnbegun : UpdateEnd → Type 0
-IsUnbegun (ends.Lower recorded offered) = Unit {0}
-IsUnbegun (ends.OtherDigest recorded offered) = Unit {0}
-IsUnbegun ends.Worn = Unit {0}
 IsUnbegun ends.NoMemory = Unit {0}
-IsUnbegun _ = ⊥
+IsUnbegun answer = IsRefusal answer
 
 -- ---- once it was accepted
-
--- no directive of the procedure was stopped by a fault of the flash
-abbrev pub IsUnfaulted : PlanEnd → Type 0
-IsUnfaulted (plays.DirectiveFailed place causes.FlashFault) = ⊥
-IsUnfaulted _ = Unit {0}
 
 -- the procedure ended so, and what came behind it did not fail
 abbrev pub IsEnd : PlanEnd → UpdateEnd → Type 0
@@ -89,13 +81,6 @@ IfTold _ P = Unit {0}
 abbrev pub IfInstalled : UpdateEnd → (Record → Type 0) → Type 0
 IfInstalled (ends.Installed r) P = P r
 IfInstalled _ P = Unit {0}
-
--- an end after an update was accepted
-abbrev pub IsStartEnd : UpdateEnd → Type 0
-IsStartEnd (ends.Lower recorded offered) = ⊥
-IsStartEnd (ends.OtherDigest recorded offered) = ⊥
-IsStartEnd ends.Worn = ⊥
-IsStartEnd _ = Unit {0}
 
 -- no fault of the flash
 abbrev pub IfUnfaulted : UpdateEnd → Type 0 → Type 0

@@ -16,12 +16,11 @@ use Rattle.step_machine.specs.declared.plan_end.PlanEnd.{PlanEnd}
 use Rattle.step_machine.specs.declared.plan_end.PlanEnd.TheVariants as plays
 use Rattle.step_machine.specs.declared.spot.Standing.{Standing}
 use Rattle.step_machine.specs.Devices.{contents_of}
-use Rattle.step_machine.specs.PlanRuns.{GivesAs, PlaysPlan, setting_of}
+use Rattle.step_machine.specs.PlanRuns.{GivesAs, IsUnfaulted, PlaysPlan, setting_of}
 use Rattle.step_machine.specs.Worlds.{IsChoice, StandAs}
 use Rattle.update_proc.specs.declared.update_end.UpdateEnd.{UpdateEnd}
 use Rattle.update_proc.specs.declared.update_end.UpdateEnd.TheVariants as ends
 use Rattle.update_proc.specs.Choices.{AreChosen, active_slots}
-use Rattle.update_proc.specs.Ends.{IsUnfaulted}
 use Rattle.update_proc.specs.Moments.{HasContentsOf, IsNew, IsOld, KeepsContents}
 
 -- ---- the play

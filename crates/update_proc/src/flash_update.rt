@@ -10,7 +10,7 @@ ghost use Rattle.flash_layout.specs.Configs.{ConfigOf, Configured};
 ghost use Rattle.flash_layout.specs.Layouts.{IsLayout};
 ghost use Rattle.flash_layout.specs.Frames.{IsFrame, bank_size};
 ghost use Rattle.rollback_record.specs.SoundFlash.{Follows, Settled, Sound};
-ghost use Rattle.std.specs.Prelude.{◌^◌, ◌≡◌, ◌≤◌, ◌⊎◌, [], ℕ, IsTrue, List, length};
+ghost use Rattle.std.specs.Prelude.{◌^◌, ◌≡◌, ◌≤◌, ◌⊎◌, ℕ, IsTrue, List, length};
 ghost use Rattle.step_machine.specs.Fetching.{AsksAmong, asked_at};
 ghost use Rattle.step_machine.specs.PlanRuns.{counts_of};
 ghost use Rattle.step_machine.specs.UrisSet.{HasFetch};

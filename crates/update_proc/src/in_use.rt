@@ -2,7 +2,7 @@
 
 ghost use Rattle.flash_layout.specs.declared.frame.Frame.{Frame};
 ghost use Rattle.flash_layout.specs.Layouts.{IsLayout};
-ghost use Rattle.std.specs.Prelude.{◌≡◌, ◌≤◌, ℕ, List, length, option_map};
+ghost use Rattle.std.specs.Prelude.{◌≤◌, ℕ, List, length, option_map};
 ghost use Rattle.step_machine.specs.InUse.{AreInUse};
 ghost use Rattle.step_machine.specs.Worlds.{IsChoice};
 ghost use Rattle.suit_commands.specs.Allowed.{IsPlan};

@@ -6,7 +6,7 @@ ghost use Rattle.rollback_record.specs.Committing.{HasSpare};
 ghost use Rattle.rollback_record.specs.HeadRecord.{IsLoadable, RecordOf};
 ghost use Rattle.rollback_record.specs.Judging.{IsAcceptable};
 ghost use Rattle.rollback_record.specs.SoundFlash.{Follows, Settled, Sound};
-ghost use Rattle.std.specs.Prelude.{◌^◌, ◌≡◌, ◌<◌, ◌≤◌, ◌⊎◌, [], ℕ, IfSome, IsTrue, List, length, option_map};
+ghost use Rattle.std.specs.Prelude.{◌^◌, ◌≡◌, ◌<◌, ◌≤◌, ◌⊎◌, ℕ, IfSome, IsTrue, List, length, option_map};
 ghost use Rattle.step_machine.specs.Fetching.{AsksAmong, asked_at};
 ghost use Rattle.step_machine.specs.PlanRuns.{counts_of};
 ghost use Rattle.step_machine.specs.UrisSet.{HasFetch};
@@ -24,7 +24,7 @@ ghost use Rattle.suit_commands.specs.Plans.{plan_tree};
 ghost use Rattle.suit_edge.specs.Flash.{Grows, IsSame, IsSettled, Passes};
 ghost use Rattle.suit_envelope.specs.Payloads.{HasPayloads};
 ghost use Rattle.update_proc.specs.Choices.{AreChosen, active_slots};
-ghost use Rattle.update_proc.specs.Ends.{IfUnfaulted, IsStartEnd, IsUnbegun, UpdateCounts};
+ghost use Rattle.update_proc.specs.Ends.{IfUnfaulted, IsRefusal, IsUnbegun, UpdateCounts};
 ghost use Rattle.update_proc.specs.Installing.{HasLayout, MayBeInstalled};
 ghost use Rattle.update_proc.specs.Records.{new_record};
 ghost use Rattle.update_proc.specs.Updates.{KeepsUpdate, KeptSo, LeavesUpdate, PlayedSo, PlaysToEnd, PlaysUpdate, hosted, sources};
@@ -95,7 +95,7 @@ pub(crate) fn start<H: Host, D: Disk, L: Launcher>(
     requires fits { length accepted.now.bytes.now ≤ bank_size accepted.now.frame }
     ensures size { D.extent disk.new ≡ D.extent disk.old }
     ensures later { IsTrue D.told → (D.flash disk.old).clock ≤ (D.flash disk.new).clock }
-    ensures starts { IsStartEnd result }
+    ensures starts { IsRefusal result → ⊥ }
     ensures counts { UpdateCounts result
         (counts_of (H.faults host.old) (D.faults disk.old) (L.faults launcher.old))
         (counts_of (H.faults host.new) (D.faults disk.new) (L.faults launcher.new)) }

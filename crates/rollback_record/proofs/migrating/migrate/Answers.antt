@@ -1,5 +1,5 @@
-use Rattle.std.proofs.Common.{◌≡◌, ◌⊎◌, inl, inr, ℕ, List, IsTrue, sym, subst, arith}
-use Rattle.suit_edge.specs.Flash.{Flash, IsFlash, IsSame, IsSettled, Keeps}
+use Rattle.std.proofs.Common.{◌≡◌, inl, inr, ℕ, List, IsTrue, sym, subst, arith}
+use Rattle.suit_edge.specs.Flash.{IsFlash, IsSame, IsSettled}
 use Rattle.suit_edge.specs.FlashLaws.{keeps_same, keeps_then, same_flash_then}
 use Rattle.flash_layout.specs.declared.frame.Frame.{Frame}
 use Rattle.flash_layout.specs.declared.frame.TheConstants.{VERSION_1}

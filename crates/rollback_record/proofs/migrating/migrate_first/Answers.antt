@@ -1,22 +1,21 @@
-use Rattle.std.proofs.Common.{◌≡◌, ℕ, List, IsTrue, refl, sym, ap, subst, ◌∙◌, arith}
-use Rattle.suit_edge.specs.Flash.{IsFlash, IsSame, Keeps, Passes}
-use Rattle.suit_edge.specs.FlashLaws.{keeps_same, keeps_start, same_flash}
+use Rattle.std.proofs.Common.{ℕ, IsTrue, sym, subst}
+use Rattle.suit_edge.specs.Flash.{IsFlash, Keeps, Passes}
+use Rattle.suit_edge.specs.FlashLaws.{keeps_same, keeps_start}
 use Rattle.flash_layout.specs.declared.frame.Frame.{Frame}
 use Rattle.flash_layout.specs.declared.frame.TheConstants.{VERSION_1}
 use Rattle.flash_layout.specs.declared.layout_fault.LayoutFault.TheVariants as faults
 use Rattle.flash_layout.specs.declared.moving.BaseFault.{BaseFault}
 use Rattle.flash_layout.specs.FrameFacts.{facts}
-use Rattle.flash_layout.specs.Frames.{IsFrame, head_of}
 use Rattle.flash_layout.specs.LayoutFaults.{IsBaseHeld, RefusesBase}
 use Rattle.flash_layout.specs.Layouts.{IsLayout}
 use Rattle.flash_layout.specs.Moving.{IsMoved, described_fault}
 use Rattle.flash_layout.specs.Roots.{second_frame}
-use Rattle.rollback_record.specs.Migrating.{HasFirst, IsReady, OutsideMigration, TellsAlike}
-use Rattle.rollback_record.specs.Moved.{HasRoom, IsHeldRead, OutsideMoved}
+use Rattle.rollback_record.specs.Migrating.{IsReady, OutsideMigration, IsSameInstallation}
+use Rattle.rollback_record.specs.Moved.{HasRoom}
 use Rattle.rollback_record.proofs.Migrations.{after_reads, all_alike, at_rest, keeps_moved, migrated, room_there, shut_then}
 use Rattle.rollback_record.proofs.migrating.migrate_first.Given as given
 use Rattle.rollback_record.proofs.migrating.migrate_first.Goals as goal
-use Rattle.rollback_record.proofs.migrating.migrate_first.Goals.{After-installed_on, After-move_to, After-moved}
+use Rattle.rollback_record.proofs.migrating.migrate_first.Goals.{After-move_to}
 
 pub moved-requires : goal.moved-requires
 moved-requires g c = subst (λ (n : ℕ). IsLayout VERSION_1 n c.args.layout.now) (sym c.size.ensures) c.requires.allowed.layout_is
@@ -86,7 +85,7 @@ module _ (g : given.Over) (c : After-move_to g) where
       keeps_moved c.args.base (g.D.Disk.extent c.args.disk.now) c.args.layout.now c.args.key.now c.in-Ok.frame held_at c.in-Ok-installed_on.installed room_held
       (g.D.Disk.flash c.args.disk.now) (g.D.Disk.flash c.installed_on.new.disk) (g.D.Disk.flash c.move_to.new.disk) (law t) (c.installed_on.ensures.same t) (c.move_to.ensures.keeps t)
 
-  at_any_moment : IsTrue g.D.Disk.told → IsReady (g.D.Disk.flash c.args.disk.now) → Passes (g.D.Disk.flash c.args.disk.now) (g.D.Disk.flash c.move_to.new.disk) (TellsAlike (g.D.Disk.flash c.args.disk.now).reads)
+  at_any_moment : IsTrue g.D.Disk.told → IsReady (g.D.Disk.flash c.args.disk.now) → Passes (g.D.Disk.flash c.args.disk.now) (g.D.Disk.flash c.move_to.new.disk) (IsSameInstallation (g.D.Disk.flash c.args.disk.now).reads)
   at_any_moment t ready =
       let a = g.D.Disk.flash c.args.disk.now in
       let b = g.D.Disk.flash c.installed_on.new.disk in

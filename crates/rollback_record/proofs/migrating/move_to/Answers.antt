@@ -1,4 +1,4 @@
-use Rattle.std.proofs.Common.{IsTrue, ◌∙◌, subst}
+use Rattle.std.proofs.Common.{IsTrue, subst}
 use Rattle.suit_edge.specs.Flash.{IsFlash, Keeps, Passes}
 use Rattle.suit_edge.specs.FlashLaws.{keeps_fewer, keeps_then}
 use Rattle.rollback_record.specs.Moved.{IsFilled, IsMoving, IsRootShut, OutsideFrame, OutsideMoved, OutsideRoot}

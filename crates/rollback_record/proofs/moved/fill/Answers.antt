@@ -1,5 +1,5 @@
-use Rattle.std.proofs.Common.{IsTrue, ◌∙◌, subst}
-use Rattle.suit_edge.specs.Flash.{IsFlash, Keeps}
+use Rattle.std.proofs.Common.{IsTrue, ◌∙◌}
+use Rattle.suit_edge.specs.Flash.{Keeps}
 use Rattle.suit_edge.specs.FlashLaws.{keeps_fewer, keeps_then}
 use Rattle.flash_layout.specs.Formats.{OutsideWorkGates}
 use Rattle.rollback_record.specs.Moved.{OutsideBank, OutsideFrame, OutsidePage, OutsideRecords}

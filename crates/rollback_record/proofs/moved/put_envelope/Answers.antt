@@ -1,6 +1,5 @@
-use Rattle.std.proofs.Common.{◌≡◌, ◌≤◌, ◌+◌, inl, inr, ⊎_elim, length, refl, arith}
+use Rattle.std.proofs.Common.{length, refl, arith}
 use Rattle.suit_edge.specs.FlashLaws.{keeps_fewer}
-use Rattle.suit_edge.specs.Flash.{Keeps}
 use Rattle.suit_edge.specs.Ranges.{Outside}
 use Rattle.flash_layout.specs.FrameFacts.{facts}
 use Rattle.flash_layout.specs.Frames.{bank_place, bank_size}

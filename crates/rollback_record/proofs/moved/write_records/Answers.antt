@@ -1,7 +1,6 @@
-use Rattle.std.proofs.Common.{◌≡◌, ℕ, List, Option, Some, None, inl, inr, get_or, ◌∙◌, arith}
+use Rattle.std.proofs.Common.{◌∙◌}
 use Rattle.suit_edge.specs.FlashLaws.{keeps_fewer, keeps_then}
 use Rattle.suit_edge.specs.Ranges.{Outside}
-use Rattle.flash_layout.specs.FrameFacts.{facts}
 use Rattle.flash_layout.specs.Frames.{record_place}
 use Rattle.rollback_record.specs.Moved.{OutsideFirstPage, OutsideRecords}
 use Rattle.rollback_record.proofs.Filling.{first_beside}

@@ -1,4 +1,4 @@
-use Rattle.rollback_record.specs.SettledLaws.{same_sound}
+use Rattle.rollback_record.proofs.SettledLaws.{same_sound}
 use Rattle.rollback_record.proofs.Sounds as sounds
 use Rattle.rollback_record.proofs.StillSound.{still_sound}
 use Rattle.rollback_record.proofs.sound_law.sound_laws.Goals as goal

@@ -1,4 +1,4 @@
-use Rattle.std.proofs.Common.{◌≡◌, ◌+◌, ℕ, IsTrue, Option, Bor, option_map, refl, subst}
+use Rattle.std.proofs.Common.{◌+◌, ℕ, IsTrue, Option, Bor, option_map, refl, subst}
 use Rattle.suit_edge.specs.Gate.{IsGate}
 use Rattle.suit_edge.specs.FlashLaws.{each_read}
 use Rattle.flash_layout.specs.declared.slot.Record.{Record}

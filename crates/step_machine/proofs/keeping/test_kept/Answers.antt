@@ -1,4 +1,4 @@
-use Rattle.std.proofs.Common.{◌≡◌, true, false, Bool, Some, None, Ok, Err, refl}
+use Rattle.std.proofs.Common.{◌≡◌, true, false, Some, None, Ok, Err, refl}
 use Rattle.step_machine.specs.Fetching.{asked_at}
 use Rattle.step_machine.specs.Keeping.{is_free_test}
 use Rattle.step_machine.specs.Parts.{test_part, kept_test_part}

@@ -1,4 +1,4 @@
-use Rattle.std.proofs.Common.{ℕ, List, None, Some, sym, ap, subst}
+use Rattle.std.proofs.Common.{ℕ, List, sym, ap, subst}
 use Rattle.path_model.specs.Settings.{found_under}
 use Rattle.step_machine.specs.Fetching.{ArePayloads}
 use Rattle.step_machine.proofs.payloads.payload_of.Goals as goal

@@ -1,4 +1,4 @@
-use Rattle.std.proofs.Common.{inl, ◌≡◌, ◌++◌, ◌∙◌, ℕ, length, refl, sym, ap, subst, rules}
+use Rattle.std.proofs.Common.{inl, ◌++◌, ◌∙◌, ℕ, length, sym, ap, subst, rules}
 use Rattle.std.specs.Prelude.{◌+◌, ◌≤◌, IfSome, List}
 use Rattle.suit_commands.specs.Numbers.{work_number}
 use Rattle.step_machine.specs.declared.plan_end.PlanEnd.{PlanEnd}

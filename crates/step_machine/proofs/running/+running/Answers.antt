@@ -4,7 +4,7 @@ use Rattle.std.proofs.lemmas.Result.{err_from_is_err_and}
 use Rattle.suit_commands.specs.Numbers.{branches_work, command_work, count_after, work_of}
 use Rattle.suit_commands.specs.Selections.{Among}
 use Rattle.suit_commands.specs.Size.{command_size}
-use Rattle.suit_commands.specs.Tree.{StepThen, BranchesTree, BranchThen, NullThen}
+use Rattle.suit_commands.specs.Tree.{BranchesTree, BranchThen, NullThen}
 use Rattle.suit_commands.specs.SequenceJudging.{branch_before}
 use Rattle.suit_cursor.specs.declared.branches.LentBranch.{LentBranch}
 use Rattle.suit_cursor.specs.declared.command.LentCommand.{LentCommand}

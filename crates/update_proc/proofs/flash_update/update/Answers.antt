@@ -15,7 +15,7 @@ use Rattle.flash_layout.specs.Frames.{bank_size, head_of}
 use Rattle.flash_layout.specs.Layouts.{IsLayout}
 use Rattle.rollback_record.specs.Committing.{HasSpare}
 use Rattle.rollback_record.specs.HeadRecord.{RecordOf}
-use Rattle.rollback_record.specs.SettledLaws.{each_sound, settled_still}
+use Rattle.rollback_record.proofs.SettledLaws.{each_sound, settled_still}
 use Rattle.rollback_record.specs.SoundFlash.{Follows, Sound}
 use Rattle.update_proc.specs.Choices.{AreChosen, active_slots}
 use Rattle.update_proc.specs.Ends.{JudgedSo, UpdateCounts}

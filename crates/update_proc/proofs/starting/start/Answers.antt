@@ -1,5 +1,5 @@
 use Rattle.std.specs.Prelude.{IsTrue}
-use Rattle.std.proofs.Common.{◌≡◌, ◌≤◌, ℕ, List, Bor, Option, Some, inl, inr, option_map, refl, sym, ap, ◌∙◌, subst, arith}
+use Rattle.std.proofs.Common.{◌≡◌, ℕ, List, Bor, Option, Some, inl, inr, option_map, refl, sym, ap, ◌∙◌, subst, arith}
 use Rattle.suit_commands.specs.Allowed.{IsPlan}
 use Rattle.suit_commands.specs.Plans.{plan_tree}
 use Rattle.suit_commands.specs.Tree.{PlanTree}
@@ -13,7 +13,7 @@ use Rattle.flash_layout.specs.declared.slot.Record.{Record}
 use Rattle.flash_layout.specs.Frames.{IsFrame, head_of}
 use Rattle.rollback_record.specs.Committing.{HasSpare}
 use Rattle.rollback_record.specs.HeadRecord.{RecordOf}
-use Rattle.rollback_record.specs.SettledLaws.{each_sound}
+use Rattle.rollback_record.proofs.SettledLaws.{each_sound}
 use Rattle.rollback_record.specs.SoundFlash.{Follows, Sound}
 use Rattle.step_machine.specs.Fetching.{ArePayloads, AsksAmong, asked_at}
 use Rattle.step_machine.specs.declared.plan_end.PlanEnd.{PlanEnd}
