@@ -31,7 +31,8 @@
 extern "C" {
 #endif
 
-/* What a call answers: the exit status of the program for the same. suit_command has the program's others too (docs/formats.md). */
+/* What a call answers: the exit status of the program for the same, but for the length at suit_check. suit_command has the program's
+ * others too (docs/formats.md). */
 enum suit_answer {
   SUIT_DONE = 0,
   SUIT_UNSAFE = 1,
@@ -91,7 +92,10 @@ int32_t suit_status(const uint8_t *flash, size_t length, struct suit_record *out
  * is SUIT_NO_MEMORY; SUIT_UNSAFE where on some path one is not, and SUIT_TOO_WIDE where there is too much to judge. Before that,
  * and each exactly where it is so: SUIT_TOO_LONG where the trimmed envelope has more than 16,384 bytes, SUIT_SEVERED where a
  * member that stands apart is not there, and SUIT_DIFFERS where it has another digest. Where the grammar refuses the bytes, which
- * is SUIT_REFUSED, *place is that of the fault, and otherwise it stays as it was. */
+ * is SUIT_REFUSED, *place is that of the fault, and otherwise it stays as it was.
+ *
+ * The 16,384 are what a bank of layout version 1 holds. The program's `check` takes a trimmed envelope of up to 65,536, as a bank of
+ * version 2 holds: one in between is SUIT_TOO_LONG here, whatever `check` says of it. */
 int32_t suit_check(const uint8_t *file, size_t length, uint64_t *place);
 
 /* The envelope with its wrapper and manifest alone, to the front of the room: SUIT_DONE, and *count bytes of it; the rest of the room

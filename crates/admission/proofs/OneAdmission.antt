@@ -37,17 +37,6 @@ members_self faults.NoMemory = tt
 members_tell : (f g : MemberFault) → f ≡ g → RefuseAlike (of_members f) (of_members g)
 members_tell f g same = subst (λ (h : MemberFault). RefuseAlike (of_members f) (of_members h)) same (members_self f)
 
-procedures_tell : (r q : NotSafe) → JudgeAlike r q → RefuseAlike (of_procedures r) (of_procedures q)
-procedures_tell (not_safe.TooWide p w) (not_safe.TooWide q v) same = same
-procedures_tell (not_safe.TooWide p w) (not_safe.Unsafe q y) same = absurd same
-procedures_tell (not_safe.TooWide p w) not_safe.NoMemory same = absurd same
-procedures_tell (not_safe.Unsafe p x) (not_safe.TooWide q v) same = absurd same
-procedures_tell (not_safe.Unsafe p x) (not_safe.Unsafe q y) same = same
-procedures_tell (not_safe.Unsafe p x) not_safe.NoMemory same = absurd same
-procedures_tell not_safe.NoMemory (not_safe.TooWide q v) same = absurd same
-procedures_tell not_safe.NoMemory (not_safe.Unsafe q y) same = absurd same
-procedures_tell not_safe.NoMemory not_safe.NoMemory same = tt
-
 module _ (limit : ℕ) (layout : List Entry) (key bytes : List ℕ) where
   -- ---- the judgements in their order
 
@@ -132,7 +121,7 @@ module _ (limit : ℕ) (layout : List Entry) (key bytes : List ℕ) where
     module _ (said : EnvelopeSays) (spell : Spell bytes said) where
       procedures_one : (manifest : Manifest) (apart : Members) → IsOne RefuseAlike (to_procedures manifest apart)
       procedures_one manifest apart = one_then RefuseAlike (ProceduresSafe (update_tree manifest apart) (invocation_tree manifest)) (IsNotSafe (update_tree manifest apart) (invocation_tree manifest)) JudgeAlike of_procedures (λ _. the_end)
-          (procedures_judged refutes (update_tree manifest apart) (invocation_tree manifest)) procedures_tell (λ _ _. end_one RefuseAlike)
+          (procedures_judged refutes (update_tree manifest apart) (invocation_tree manifest)) (λ r q same. same) (λ _ _. end_one RefuseAlike)
 
       members_one : (manifest : Manifest) → IsOne RefuseAlike (to_members said manifest)
       members_one manifest = one_then RefuseAlike (HasMembers said manifest) (LacksMembers said manifest) (λ x y. x ≡ y) of_members (to_procedures manifest)

@@ -17,7 +17,7 @@ use Rattle.admission.specs.declared.refusal.NotOpened.{NotOpened}
 use Rattle.admission.specs.declared.refusal.NotOpened.TheVariants as not_opened
 use Rattle.admission.specs.declared.refusal.NotSafe.{NotSafe}
 use Rattle.admission.specs.declared.refusal.NotSafe.TheVariants as not_safe
-use Rattle.admission.specs.Opening.{IsManifestRefused, IsNotOpened, IsNotWithin, IsWithin}
+use Rattle.admission.specs.Opening.{IsManifestRefused}
 use Rattle.admission.specs.Judging.{IsNotSafe}
 use Rattle.admission.specs.Admission.{Admission, AreAuthentic, IsComplete, IsNotAdmitted, IsOffered}
 use Rattle.admission.specs.Refusals.{of_members, of_opening, of_procedures}
@@ -37,30 +37,9 @@ pub within_limit : (w n from limit : ℕ) → w ≡ capped n → from ≡ limit 
 unfolding capped
 within_limit w n from limit is same small within = omega (arith, is, same, small, within)
 
--- ---- opening
-
-module _ (limit : ℕ) (bytes : List ℕ) where
-  pub envelope_not_opened : (e : NotOpened) → IsNotWithin limit bytes e → e ≢ not_opened.NoMemory → IsNotOpened limit bytes e
-  envelope_not_opened (not_opened.NoEnvelope r) x some = x
-  envelope_not_opened (not_opened.TooLong size) x some = x
-  envelope_not_opened (not_opened.NoManifest r) x some = absurd x
-  envelope_not_opened not_opened.NoMemory x some = absurd x
-
-  pub manifest_not_opened : (said : EnvelopeSays) → IsWithin limit bytes said → (e : NotOpened) → IsManifestRefused said e → e ≢ not_opened.NoMemory → IsNotOpened limit bytes e
-  manifest_not_opened said within (not_opened.NoEnvelope r) x some = absurd x
-  manifest_not_opened said within (not_opened.TooLong size) x some = absurd x
-  manifest_not_opened said within (not_opened.NoManifest r) x some = record { said = said; within = within; refuses = x }
-  manifest_not_opened said within not_opened.NoMemory x some = absurd (some refl)
-
 -- ---- admission
 
 module _ (limit : ℕ) (layout : List Entry) (key bytes : List ℕ) where
-  pub envelope_not_admitted : (e : NotOpened) → IsNotWithin limit bytes e → of_opening e ≢ refusals.NoMemory → IsNotAdmitted limit layout key bytes (of_opening e)
-  envelope_not_admitted (not_opened.NoEnvelope r) x some = x
-  envelope_not_admitted (not_opened.TooLong size) x some = x
-  envelope_not_admitted (not_opened.NoManifest r) x some = absurd x
-  envelope_not_admitted not_opened.NoMemory x some = absurd x
-
   pub manifest_not_admitted : (said : EnvelopeSays) → AreAuthentic limit key bytes said → (e : NotOpened) → IsManifestRefused said e → of_opening e ≢ refusals.NoMemory
       → IsNotAdmitted limit layout key bytes (of_opening e)
   manifest_not_admitted said are (not_opened.NoEnvelope r) x some = absurd x

@@ -12,11 +12,11 @@ use Rattle.admission.specs.declared.refusal.NotAdmitted.{NotAdmitted}
 use Rattle.admission.specs.declared.refusal.NotAdmitted.TheVariants as refusals
 use Rattle.admission.specs.declared.refusal.NotOpened.{NotOpened}
 use Rattle.admission.specs.declared.refusal.NotSafe.{NotSafe}
-use Rattle.admission.specs.declared.refusal.NotSafe.TheVariants as not_safe
 use Rattle.admission.specs.declared.refusal.NotStartable.{NotStartable}
 use Rattle.admission.specs.declared.refusal.NotStartable.TheVariants as not_startable
 use Rattle.admission.specs.Opening.{IsNotOpened, IsOpened}
 use Rattle.admission.specs.Judging.{AreSafe, IsNotSafe}
+use Rattle.admission.specs.Refusals.{of_procedures}
 use Rattle.admission.specs.Starting.{IsNotStartable, IsStartable, SpellManifest}
 use Rattle.admission.specs.Admission.{Admission, IsAdmitted, IsNotAdmitted}
 
@@ -42,11 +42,7 @@ RefuseAlike _ _ = ⊥
 
 -- two refusals of the same procedures
 abbrev pub JudgeAlike : NotSafe → NotSafe → Type 0
-JudgeAlike (not_safe.TooWide procedure width) (not_safe.TooWide other other_width) =
-    (procedure ≡ other) × (width ≡ other_width)
-JudgeAlike (not_safe.Unsafe procedure path) (not_safe.Unsafe other other_path) = procedure ≡ other
-JudgeAlike not_safe.NoMemory not_safe.NoMemory = Unit {0}
-JudgeAlike _ _ = ⊥
+JudgeAlike a b = RefuseAlike (of_procedures a) (of_procedures b)
 
 -- two refusals to start
 abbrev pub StartAlike : NotStartable → NotStartable → Type 0

@@ -1,9 +1,9 @@
 -- A flash has one answer for a component.
 use Rattle.std.specs.Prelude.{◌≡◌, ◌⊎◌, ◌<◌, ◌≤◌, ℕ, ℤ, List, None, Some, length, slice_index_or}
 use Rattle.std.proofs.Common.{◌∙◌, ap, arith, inl, inr, subst, sym}
-use Rattle.boot_c.specs.BootAnswers.{HasNoConfig}
-use Rattle.boot_c.specs.SlotAnswers.{InUse, IsFaultAnswer, IsHeldAnswer, IsSlotAnswer, LacksComponent, LacksRecord, NoComponent, NoConfig, NoRecord, StandsIn}
-use Rattle.boot_c.specs.SlotsInUse.{IsInUse}
+use Rattle.boot_c.specs.BootAnswers.{HasConfig, HasNoConfig}
+use Rattle.boot_c.specs.SlotAnswers.{InUse, IsFaultAnswer, IsHeldAnswer, IsSlotAnswer, LacksComponent, LacksRecord, NoComponent, NoConfig, NoRecord}
+use Rattle.boot_c.specs.SlotsInUse.{IsInUse, StandsIn}
 use Rattle.boot_c.specs.declared.slot.SuitSlot.{SuitSlot}
 use Rattle.flash_layout.specs.ConfigLaws.{OneAnswer}
 use Rattle.flash_layout.specs.Configs.{Bad, Blank, Config, Configured}
@@ -14,7 +14,7 @@ use Rattle.flash_layout.specs.declared.layout.Entry.{Entry}
 use Rattle.flash_layout.specs.declared.layout.Memory.{Memory}
 use Rattle.flash_layout.specs.declared.layout.Memory.TheVariants as memory
 use Rattle.flash_layout.specs.declared.slot.Record.{Record}
-use Rattle.invoke_proc.specs.Banks.{config_in, record_in}
+use Rattle.invoke_proc.specs.Banks.{record_in}
 use Rattle.rollback_record.specs.RecordLaws as records
 use Rattle.suit_answers.specs.Answers.{code_of}
 use Rattle.suit_answers.specs.declared.answer.Answer.{Answer}
@@ -32,14 +32,17 @@ frame_or other (Configured layout key frame) = frame
 frame_or other Blank = other
 frame_or other Bad = other
 
-module _ (law : OneAnswer) (flash : List ℕ) (layout others : List Entry) (key other : Key) (frame second : Frame) (a : config_in frame (length flash) flash layout key) (b : config_in second (length flash) flash others other) where
-  one_layout : layout ≡ others
-  unfolding layout_or
-  one_layout = ap (layout_or layout) (law (length flash) flash (Configured layout key frame) (Configured others other second) a b)
+module _ (law : OneAnswer) (flash : List ℕ) (a b : HasConfig flash) where
+  same_config : Configured a.layout a.key a.frame ≡ Configured b.layout b.key b.frame
+  same_config = law (length flash) flash (Configured a.layout a.key a.frame) (Configured b.layout b.key b.frame) a.is b.is
 
-  one_frame : frame ≡ second
+  one_layout : a.layout ≡ b.layout
+  unfolding layout_or
+  one_layout = ap (layout_or a.layout) same_config
+
+  one_frame : a.frame ≡ b.frame
   unfolding frame_or
-  one_frame = ap (frame_or frame) (law (length flash) flash (Configured layout key frame) (Configured others other second) a b)
+  one_frame = ap (frame_or a.frame) same_config
 
 module _ (layout : List Entry) (key : Key) (frame : Frame) where
   blank_is_none : Blank ≡ Configured layout key frame → ⊥
@@ -48,9 +51,9 @@ module _ (layout : List Entry) (key : Key) (frame : Frame) where
   bad_is_none : Bad ≡ Configured layout key frame → ⊥
   bad_is_none e = absurd cc
 
-  never_both : (law : OneAnswer) (flash : List ℕ) → HasNoConfig flash → config_in frame (length flash) flash layout key → ⊥
-  never_both law flash (inl blank) config = blank_is_none (law (length flash) flash Blank (Configured layout key frame) blank config)
-  never_both law flash (inr bad) config = bad_is_none (law (length flash) flash Bad (Configured layout key frame) bad config)
+never_both : (law : OneAnswer) (flash : List ℕ) → HasNoConfig flash → HasConfig flash → ⊥
+never_both law flash (inl blank) c = blank_is_none c.layout c.key c.frame (law (length flash) flash Blank (Configured c.layout c.key c.frame) blank c.is)
+never_both law flash (inr bad) c = bad_is_none c.layout c.key c.frame (law (length flash) flash Bad (Configured c.layout c.key c.frame) bad c.is)
 
 -- ---- a component stands in one memory
 
@@ -70,40 +73,37 @@ pub stands_in : (layout entries : List Entry) (component : ℕ) (m : Memory) (en
 stands_in layout entries component m entry same within is stands =
     subst (λ (l : List Entry). StandsIn l component m) same (record { within = within; entry = entry; is = is; stands = stands })
 
-in_use_stands : (flash : List ℕ) (component : ℕ) (slot : SuitSlot) (is : IsInUse flash component slot) → StandsIn is.layout component memory.Flash
-in_use_stands flash component slot is = record { within = is.within; entry = is.entry; is = is.is; stands = is.stands }
-
 -- ---- the reasons exclude each other
 
-component_or_stands : (law : OneAnswer) (flash : List ℕ) (component : ℕ) (lacks : LacksComponent flash component) (layout : List Entry) (key : Key) (frame : Frame) → config_in frame (length flash) flash layout key → StandsIn layout component memory.Flash → ⊥
-component_or_stands law flash component lacks layout key frame config stands =
-    lacks_none lacks.layout component lacks.none (subst (λ (l : List Entry). StandsIn l component memory.Flash) (one_layout law flash layout lacks.layout key lacks.key frame lacks.frame config lacks.config) stands)
+component_or_stands : (law : OneAnswer) (flash : List ℕ) (component : ℕ) (lacks : LacksComponent flash component) (config : HasConfig flash) → StandsIn config.layout component memory.Flash → ⊥
+component_or_stands law flash component lacks config stands =
+    lacks_none lacks.config.layout component lacks.none (subst (λ (l : List Entry). StandsIn l component memory.Flash) (one_layout law flash config lacks.config) stands)
 
 some_or_none : (r : Record) → Some r ≡ None → ⊥
 some_or_none r e = absurd cc
 
 record_or_none : (law : OneAnswer) (one_record : records.OneAnswer) (flash : List ℕ) (component : ℕ) (slot : SuitSlot) → IsInUse flash component slot → LacksRecord flash component → ⊥
 record_or_none law one_record flash component slot is lacks =
-    let frame = one_frame law flash is.layout lacks.layout is.key lacks.key is.frame lacks.frame is.config lacks.config in
+    let frame = one_frame law flash is.config lacks.config in
     let recorded = subst (λ (f : Frame). record_in f flash (Some is.installed)) frame is.recorded in
-    some_or_none is.installed (one_record lacks.frame (head_of lacks.frame flash) (Some is.installed) None recorded lacks.none)
+    some_or_none is.installed (one_record lacks.config.frame (head_of lacks.config.frame flash) (Some is.installed) None recorded lacks.none)
 
 pub one_held : (law : OneAnswer) (one_record : records.OneAnswer) (flash : List ℕ) (component : ℕ) (a b : Answer) → IsHeldAnswer flash component a → IsHeldAnswer flash component b → a ≡ b
 one_held law one_record flash component a b (InUse slot is x) (InUse other also y) = x ∙ sym y
-one_held law one_record flash component a b (InUse slot is x) (NoConfig none y) = absurd (never_both is.layout is.key is.frame law flash none is.config)
-one_held law one_record flash component a b (InUse slot is x) (NoComponent lacks y) = absurd (component_or_stands law flash component lacks is.layout is.key is.frame is.config (in_use_stands flash component slot is))
+one_held law one_record flash component a b (InUse slot is x) (NoConfig none y) = absurd (never_both law flash none is.config)
+one_held law one_record flash component a b (InUse slot is x) (NoComponent lacks y) = absurd (component_or_stands law flash component lacks is.config is.stands)
 one_held law one_record flash component a b (InUse slot is x) (NoRecord lacks y) = absurd (record_or_none law one_record flash component slot is lacks)
-one_held law one_record flash component a b (NoConfig none x) (InUse slot is y) = absurd (never_both is.layout is.key is.frame law flash none is.config)
+one_held law one_record flash component a b (NoConfig none x) (InUse slot is y) = absurd (never_both law flash none is.config)
 one_held law one_record flash component a b (NoConfig none x) (NoConfig also y) = x ∙ sym y
-one_held law one_record flash component a b (NoConfig none x) (NoComponent lacks y) = absurd (never_both lacks.layout lacks.key lacks.frame law flash none lacks.config)
-one_held law one_record flash component a b (NoConfig none x) (NoRecord lacks y) = absurd (never_both lacks.layout lacks.key lacks.frame law flash none lacks.config)
-one_held law one_record flash component a b (NoComponent lacks x) (InUse slot is y) = absurd (component_or_stands law flash component lacks is.layout is.key is.frame is.config (in_use_stands flash component slot is))
-one_held law one_record flash component a b (NoComponent lacks x) (NoConfig none y) = absurd (never_both lacks.layout lacks.key lacks.frame law flash none lacks.config)
+one_held law one_record flash component a b (NoConfig none x) (NoComponent lacks y) = absurd (never_both law flash none lacks.config)
+one_held law one_record flash component a b (NoConfig none x) (NoRecord lacks y) = absurd (never_both law flash none lacks.config)
+one_held law one_record flash component a b (NoComponent lacks x) (InUse slot is y) = absurd (component_or_stands law flash component lacks is.config is.stands)
+one_held law one_record flash component a b (NoComponent lacks x) (NoConfig none y) = absurd (never_both law flash none lacks.config)
 one_held law one_record flash component a b (NoComponent lacks x) (NoComponent also y) = x ∙ sym y
-one_held law one_record flash component a b (NoComponent lacks x) (NoRecord none y) = absurd (component_or_stands law flash component lacks none.layout none.key none.frame none.config none.stands)
+one_held law one_record flash component a b (NoComponent lacks x) (NoRecord none y) = absurd (component_or_stands law flash component lacks none.config none.stands)
 one_held law one_record flash component a b (NoRecord lacks x) (InUse slot is y) = absurd (record_or_none law one_record flash component slot is lacks)
-one_held law one_record flash component a b (NoRecord lacks x) (NoConfig none y) = absurd (never_both lacks.layout lacks.key lacks.frame law flash none lacks.config)
-one_held law one_record flash component a b (NoRecord none x) (NoComponent lacks y) = absurd (component_or_stands law flash component lacks none.layout none.key none.frame none.config none.stands)
+one_held law one_record flash component a b (NoRecord lacks x) (NoConfig none y) = absurd (never_both law flash none lacks.config)
+one_held law one_record flash component a b (NoRecord none x) (NoComponent lacks y) = absurd (component_or_stands law flash component lacks none.config none.stands)
 one_held law one_record flash component a b (NoRecord lacks x) (NoRecord also y) = x ∙ sym y
 
 pub told_held : (law : OneAnswer) (one_record : records.OneAnswer) (flash : List ℕ) (component : ℕ) (a b : Answer) → IsSlotAnswer flash component a → IsHeldAnswer flash component b → (a ≡ b) ⊎ IsFaultAnswer a

@@ -1,10 +1,9 @@
 -- What a boot answers.
 use Rattle.std.specs.Prelude.{◌≡◌, ◌⊎◌, ℕ, List, length}
 use Rattle.flash_layout.specs.declared.frame.Frame.{Frame}
-use Rattle.flash_layout.specs.Configs.{Bad, Blank, ConfigOf}
+use Rattle.flash_layout.specs.Configs.{Bad, Blank, ConfigOf, Configured}
 use Rattle.flash_layout.specs.declared.key.Key.{Key}
 use Rattle.flash_layout.specs.declared.layout.Entry.{Entry}
-use Rattle.invoke_proc.specs.Banks.{config_in}
 use Rattle.invoke_proc.specs.Booting.{Answers}
 use Rattle.invoke_proc.specs.declared.boot_end.BootEnd.{BootEnd}
 use Rattle.invoke_proc.specs.declared.boot_end.BootEnd.TheVariants as ends
@@ -30,20 +29,24 @@ boot_answer (ends.Condition place) = answers.Stopped
 boot_answer (ends.Stopped place cause) = cause_answer cause
 boot_answer ends.FlashFault = answers.FlashFault
 
--- a boot by the configuration of the flash ended so; an image without a digest is no image
-pub record Ends (flash : List ℕ) (answer : Answer) : Type 0 where
+-- the flash has a layout and a key, and its parts stand by the frame
+pub record HasConfig (flash : List ℕ) : Type 0 where
   pub layout : List Entry
   pub key : Key
   pub frame : Frame
-  pub config : config_in frame (length flash) flash layout key
-  pub end : BootEnd
-  pub ended : Answers frame layout key flash end
-  pub told : (answer ≡ boot_answer end) ⊎ ((end ≡ ends.Ended) × (answer ≡ answers.LaunchFault))
+  pub is : ConfigOf (length flash) flash (Configured layout key frame)
 
 abbrev pub HasNoConfig : List ℕ → Type 0
 HasNoConfig flash =
     ConfigOf (length flash) flash Blank
     ⊎ ConfigOf (length flash) flash Bad
+
+-- a boot by the configuration of the flash ended so; an image without a digest is no image
+pub record Ends (flash : List ℕ) (answer : Answer) : Type 0 where
+  pub config : HasConfig flash
+  pub end : BootEnd
+  pub ended : Answers config.frame config.layout config.key flash end
+  pub told : (answer ≡ boot_answer end) ⊎ ((end ≡ ends.Ended) × (answer ≡ answers.LaunchFault))
 
 -- the flash has no configuration; it did not read, or memory ran out for that; or a boot ended so
 abbrev pub IsAnswer : List ℕ → Answer → Type 0

@@ -1,12 +1,9 @@
 -- The image that a boot starts (draft-ietf-suit-manifest-25, section 6.2; what is noted of it is this project's own).
 use Rattle.std.specs.Prelude.{◌≡◌, ◌≤◌, ◌+◌, ◌∷◌, ℕ, List, [], Some, None, length, take, slice_range}
+use Rattle.boot_c.specs.BootAnswers.{HasConfig}
 use Rattle.boot_c.specs.declared.image.SuitImage.{SuitImage}
-use Rattle.flash_layout.specs.declared.frame.Frame.{Frame}
-use Rattle.flash_layout.specs.declared.key.Key.{Key}
-use Rattle.flash_layout.specs.declared.layout.Entry.{Entry}
 use Rattle.flash_view.specs.Noting.{items_in}
 use Rattle.flash_view.specs.declared.noted_image.NotedImage.{NotedImage}
-use Rattle.invoke_proc.specs.Banks.{config_in}
 use Rattle.invoke_proc.specs.Booting.{PlaysBoot}
 use Rattle.path_model.specs.PlayLaws.{HasItsDigest}
 use Rattle.rollback_record.specs.SoundFlash.{Sound}
@@ -42,21 +39,15 @@ pub record IsLaunched (flash : List ℕ) (image : SuitImage) (launch : Launch) :
 -- The invocation procedure of the manifest that is installed, authentic under the flash's key, was played to its end without
 -- files, and launched this image alone. On a sound flash it has its digest, and its size where one is in force.
 pub record Starts (flash : List ℕ) (image : SuitImage) : Type 0 where
-  pub layout : List Entry
-  pub key : Key
-  pub frame : Frame
-  pub config : config_in frame (length flash) flash layout key
+  pub config : HasConfig flash
   pub launch : Launch
   pub launched : IsLaunched flash image launch
   pub after : List ℕ
-  pub plays : PlaysBoot frame layout key (λ _. None) flash after [] (launch ∷ []) plays.Done
+  pub plays : PlaysBoot config.frame config.layout config.key (λ _. None) flash after [] (launch ∷ []) plays.Done
   pub safe : Sound flash → HasItsDigest (launched_as launch)
 
 -- it was, and launched nothing
 pub record StartsNone (flash : List ℕ) : Type 0 where
-  pub layout : List Entry
-  pub key : Key
-  pub frame : Frame
-  pub config : config_in frame (length flash) flash layout key
+  pub config : HasConfig flash
   pub after : List ℕ
-  pub plays : PlaysBoot frame layout key (λ _. None) flash after [] [] plays.Done
+  pub plays : PlaysBoot config.frame config.layout config.key (λ _. None) flash after [] [] plays.Done

@@ -146,8 +146,8 @@ fn judge_file(alloc: Global, bytes: &[u8], place: &mut u64) -> Answer
 
 /// Judges a file, as the program's `check`: 0 exactly where on each path of both procedures each invoke is covered, 1 where on
 /// one it is not, 12 where there is too much to judge, and 11 where memory ran out. Where the grammar refuses the bytes, which
-/// is 3, `place` is that of the fault, in bytes from the first. 21 where the trimmed envelope is too long, 16 where a member
-/// that stands apart is not there, and 17 where it has another digest.
+/// is 3, `place` is that of the fault, in bytes from the first. 21 where the trimmed envelope has more than 16,384 bytes (the
+/// program's `check` takes 65,536), 16 where a member that stands apart is not there, and 17 where it has another digest.
 #[unsafe(no_mangle)]
 pub extern "C" fn suit_check(alloc: Global, file: &[u8], place: &mut u64) -> i32
     ensures safe { result ≡ code_of answers.Done → IsSafeFile file.now }

@@ -1,6 +1,5 @@
 -- Places, slots and spots of the components of a manifest.
 use Rattle.std.proofs.Common.{◌≡◌, ◌≢◌, inl, ⊎_elim, ◌<◌, ◌≤◌, ℕ, suc, List, [], ◌∷◌, length, map, get_or, take, Some, None, refl, sym, ◌∙◌, ap, subst, arith, get_or-take}
-use Rattle.std.specs.Prelude.{◌==◌, ◌&&◌, if◌then◌else◌}
 use Rattle.std.specs.List.{All, AllByRecursion}
 use Rattle.std.proofs.lemmas.Option.{slice_get-get_or}
 use Rattle.std.proofs.lemmas.List.{length-map, length-take-le}
@@ -25,7 +24,7 @@ use Rattle.path_model.specs.Path.{AreIdentities, IsIdentity}
 use Rattle.invoke_proc.specs.Booting.{StandActive}
 use Rattle.step_machine.specs.Typing.{HasIdentifiers}
 use Rattle.step_machine.specs.InUse.{AreInUse}
-use Rattle.step_machine.proofs.Fitting.{few_entries}
+use Rattle.step_machine.proofs.Fitting.{few_entries, few_slots, some_slot}
 use Rattle.step_machine.proofs.Lifting.{clear_outside}
 
 -- ---- places
@@ -57,33 +56,22 @@ are_distinct layout ids places few apart are other = record {
 
 -- ---- slots
 
--- a component has one or two slots
-slots_few : (frame : Frame) (size : ℕ) (e : Entry) (m : Memory) → IsOfMemory frame size e m → (1 ≤ e.slots) × (e.slots ≤ 2)
-slots_few frame size e memory.Flash held = (held.0, held.1)
-slots_few frame size e memory.Ram held = (omega (arith, held.0), omega (arith, held.0))
-
-some_slot : (slots number : ℕ) → 1 ≤ slots → (if (number == 1) && (slots == 2) then 1 else 0) < slots
-some_slot slots number some = grind (arith, some)
-
 all_identities : (standings : List Standing) → ((k : ℕ) (d : Standing) → k < length standings → IsIdentity (get_or standings k d).identity)
     → AllByRecursion IsIdentity (map (λ (s : Standing). s.identity) standings)
 all_identities [] all = tt
 all_identities (s ∷ standings) all = (all 0 s (omega arith), all_identities standings (λ k d below. all (suc k) d (omega arith)))
 
 module _ (frame : Frame) (size : ℕ) (layout : List Entry) (is : IsLayout frame size layout) where
-  few_at : (i : ℕ) (e : Entry) → i < length layout → (1 ≤ (get_or layout i e).slots) × ((get_or layout i e).slots ≤ 2)
-  few_at i e inside = let at = get_or layout i e in slots_few frame size at at.memory (is.each i e inside).held
-
   in_use : (active : List ℕ) (slots : SlotChoice) → AreInUse layout active slots.number → (i : ℕ) (e : Entry) → i < length layout
       → get_or slots.number i 0 < (get_or layout i e).slots
   in_use active slots are i e inside =
-      subst (λ (n : ℕ). n < (get_or layout i e).slots) (sym (are.each i e inside)) (some_slot (get_or layout i e).slots (get_or active i 0) (few_at i e inside).0)
+      subst (λ (n : ℕ). n < (get_or layout i e).slots) (sym (are.each i e inside)) (some_slot (get_or layout i e).slots (get_or active i 0) (few_slots frame size layout is i e inside).0)
 
   pub is_choice : (active : List ℕ) (slots : SlotChoice) → AreInUse layout active slots.number → IsChoice layout slots
   is_choice active slots are = record {
     few = few_entries frame size layout is;
     one = in_use active slots are;
-    two = λ i e inside. (few_at i e inside).1;
+    two = λ i e inside. (few_slots frame size layout is i e inside).1;
     rest = are.rest;
   }
 

@@ -20,8 +20,9 @@ use Rattle.step_machine.specs.PlanRuns.{Counts, EndCounts, OutsideTargets, Plays
 use Rattle.step_machine.proofs.Counting.{failed_behind, not_fallen}
 use Rattle.invoke_proc.specs.declared.boot_end.BootEnd.{BootEnd}
 use Rattle.invoke_proc.specs.declared.boot_end.BootEnd.TheVariants as ends
-use Rattle.invoke_proc.specs.Booting.{IfUnfaulted, IsStartEnd, KeepsOthers, KeptSo, PlayedSo, PlaysOn, SettledSo, StandActive, WritesNothing, end_of}
+use Rattle.invoke_proc.specs.Booting.{IfUnfaulted, IsStartEnd, KeepsOthers, KeptSo, PlayedSo, PlaysOn, SettledSo, StandActive, end_of}
 use Rattle.invoke_proc.specs.Counting.{BootCounts}
+use Rattle.invoke_proc.proofs.WritingSteps.{WritesNothing}
 
 -- ---- counts
 

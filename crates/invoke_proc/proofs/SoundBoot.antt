@@ -11,7 +11,7 @@ use Rattle.suit_manifest.specs.ManifestLaws.{ManifestLaws}
 use Rattle.suit_manifest.specs.Procedures.{invocation_tree}
 use Rattle.path_model.specs.declared.cause.Cause.{Cause}
 use Rattle.path_model.specs.declared.cause.Cause.TheVariants as causes
-use Rattle.path_model.specs.DevicePlays.{Device, played}
+use Rattle.path_model.specs.DevicePlays.{Device, first_device, plan_play, played}
 use Rattle.path_model.specs.Path.{AreIdentities}
 use Rattle.path_model.specs.PlayLaws.{FaultedSafeLaunches, HasItsDigest, SafeLaunches}
 use Rattle.path_model.specs.Safe.{Safe}
@@ -28,7 +28,7 @@ use Rattle.flash_layout.specs.Layouts.{IsLayout, IsTypedEntry}
 use Rattle.flash_layout.specs.ToldFrames.{IsTold}
 use Rattle.rollback_record.specs.Committing.{InHead}
 use Rattle.rollback_record.specs.RecordLaws.{OneAnswer}
-use Rattle.rollback_record.specs.SettledLaws.{settled_still, settles}
+use Rattle.rollback_record.proofs.SettledLaws.{settled_still, settles}
 use Rattle.rollback_record.specs.SoundFlash.{IsInstalled, Settled, Sound, key_bytes}
 use Rattle.rollback_record.proofs.SoundBy.{SoundBy, BlankBy, EmptyBy, InstalledBy, sound_by}
 use Rattle.step_machine.specs.declared.plan_end.PlanEnd.{PlanEnd}
@@ -108,7 +108,7 @@ module _ (safe : SafeLaunches) (faulted : FaultedSafeLaunches) (plan : PlanTree)
   of_play : (played plan setting contents).world ≡ after → HaveDigests after
   of_play same = subst HaveDigests same (safe plan setting contents is ids)
 
-  of_stop : (place : ℕ) (cause : Cause) → EndsAs plan setting contents (plays.DirectiveFailed place cause) after → HaveDigests after
+  of_stop : (place : ℕ) (cause : Cause) → EndsAs (plan_play plan setting) (first_device contents) (plays.DirectiveFailed place cause) after → HaveDigests after
   of_stop place causes.Missing end = of_play end.world
   of_stop place causes.SelfCopy end = of_play end.world
   of_stop place causes.TooLarge end = of_play end.world
@@ -117,7 +117,7 @@ module _ (safe : SafeLaunches) (faulted : FaultedSafeLaunches) (plan : PlanTree)
   of_stop place causes.FlashFault end = subst HaveDigests end.stops.world (faulted plan setting contents end.outcome end.cut is ids)
   of_stop place causes.LaunchFault end = subst HaveDigests end.stops.world (faulted plan setting contents end.outcome end.cut is ids)
 
-  pub have_digests : (end : PlanEnd) → EndsAs plan setting contents end after → HaveDigests after
+  pub have_digests : (end : PlanEnd) → EndsAs (plan_play plan setting) (first_device contents) end after → HaveDigests after
   have_digests plays.Done end = of_play end.2
   have_digests (plays.ConditionFailed place) end = of_play end.2
   have_digests (plays.DirectiveFailed place cause) end = of_stop place cause end

@@ -1,13 +1,10 @@
 -- Directives that write, step by step; and what is written where none stands.
-use Rattle.std.proofs.Common.{◌≡◌, ◌⊎◌, inl, inr, ⊎_elim, ℕ, List, [], ◌∷◌, ◌<◌, arith}
-use Rattle.std.specs.Prelude.{◌↔◌}
+use Rattle.std.proofs.Common.{◌≡◌, inl, inr, ℕ, List, [], ◌∷◌}
 use Rattle.suit_commands.specs.declared.kinds.ActKind.{ActKind}
 use Rattle.suit_commands.specs.declared.kinds.ActKind.TheVariants as acts
 use Rattle.suit_commands.specs.Selections.{selected_after}
-use Rattle.suit_commands.specs.Size.{sequence_size, command_size}
-use Rattle.suit_commands.specs.Targets.{BranchesSwap, BranchesWrite, CommandSwaps, CommandWrites, InSome, IsWriting, Swaps, Writes}
+use Rattle.suit_commands.specs.Targets.{BranchesSwap, BranchesWrite, CommandSwaps, CommandWrites, InSome, IsTarget, IsWriting, Swaps, Writes}
 use Rattle.suit_commands.specs.Tree.{CommandTree, Test, Act, Index, Override, TryEach, RunSequence, SequenceTree, NoSteps, StepThen, BranchesTree, NoBranches, BranchThen, NullThen, PlanTree}
-use Rattle.invoke_proc.specs.Booting.{WritesNothing}
 use Rattle.invoke_proc.specs.Writing.{BranchesHaveWriting, CommandHasWriting, HasWriting}
 
 -- ---- what is written needs a directive that writes
@@ -61,6 +58,10 @@ in_some plan P Q to (inr (inl x)) = inr (inl (to plan.first x))
 in_some plan P Q to (inr (inr (inl x))) = inr (inr (inl (to plan.second x)))
 in_some plan P Q to (inr (inr (inr x))) = inr (inr (inr (to plan.third x)))
 
+-- no component is written by the procedure
+abbrev pub WritesNothing : PlanTree → Type 0
+WritesNothing plan = (component : ℕ) → IsTarget plan component → ⊥
+
 -- where none stands, nothing is written
 pub writes_nothing : (plan : PlanTree) → (InSome plan HasWriting → ⊥) → WritesNothing plan
 writes_nothing plan none component (inl w) =
@@ -68,10 +69,3 @@ writes_nothing plan none component (inl w) =
 writes_nothing plan none component (inr w) = none (in_some plan Swaps HasWriting swap_in_sequence w.0)
 
 -- ---- the rest decides
-
-pub rest_decides : (A B P : Type 0) → (A → ⊥) → ((A ⊎ B) ↔ P) → B ↔ P
-rest_decides A B P never both = (λ b. both.0 (inr b), λ p. ⊎_elim (λ a. absurd (never a)) (λ b. b) (both.1 p))
-
-pub command_smaller : (steps rest : SequenceTree) (place : ℕ) (command : CommandTree) → steps ≡ StepThen place command rest
-    → (command_size command < sequence_size steps) × (sequence_size rest < sequence_size steps)
-command_smaller steps rest place command is = rw is (omega arith, omega arith)

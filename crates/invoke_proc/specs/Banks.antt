@@ -1,11 +1,8 @@
--- The flash's configuration, its record, and the record's bank, as they are read.
+-- The flash's record, and the record's bank, as they are read.
 use Rattle.std.specs.Prelude.{◌≡◌, ℕ, List, Option, None, Result, Err}
 use Rattle.suit_edge.specs.Faults.{Faulted}
 use Rattle.flash_layout.specs.declared.frame.Frame.{Frame}
-use Rattle.flash_layout.specs.declared.key.Key.{Key}
-use Rattle.flash_layout.specs.declared.layout.Entry.{Entry}
 use Rattle.flash_layout.specs.declared.slot.Record.{Record}
-use Rattle.flash_layout.specs.Configs.{ConfigOf, Configured}
 use Rattle.flash_layout.specs.Frames.{head_of}
 use Rattle.rollback_record.specs.HeadRecord.{RecordOf}
 use Rattle.rollback_record.specs.SoundFlash.{recorded_bank}
@@ -13,11 +10,6 @@ use Rattle.invoke_proc.specs.declared.boot_end.BootEnd.{BootEnd}
 use Rattle.invoke_proc.specs.declared.boot_end.BootEnd.TheVariants as ends
 use Rattle.invoke_proc.specs.declared.bank.NoBank.{NoBank}
 use Rattle.invoke_proc.specs.declared.bank.NoBank.TheVariants as banks
-
--- a flash of this size has the layout and the key
-abbrev pub config_in : Frame → ℕ → List ℕ → List Entry → Key → Type 0
-config_in frame size reads layout key =
-    ConfigOf size reads (Configured layout key frame)
 
 abbrev pub record_in : Frame → List ℕ → Option Record → Type 0
 record_in frame reads held = RecordOf frame (head_of frame reads) held

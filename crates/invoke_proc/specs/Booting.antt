@@ -5,8 +5,6 @@ use Rattle.suit_edge.specs.Flash.{Flash, Keeps}
 use Rattle.suit_edge.specs.Faults.{Faulted}
 use Rattle.suit_edge.specs.declared.launch.Launch.{Launch}
 use Rattle.suit_envelope.specs.Envelopes.{EnvelopeSays}
-use Rattle.suit_commands.specs.Targets.{IsTarget}
-use Rattle.suit_commands.specs.Tree.{PlanTree}
 use Rattle.suit_manifest.specs.declared.manifest.Manifest.{Manifest}
 use Rattle.suit_manifest.specs.Procedures.{invocation_tree}
 use Rattle.path_model.specs.declared.cause.Cause.TheVariants as causes
@@ -25,7 +23,7 @@ use Rattle.step_machine.specs.declared.spot.Standing.{Standing}
 use Rattle.step_machine.specs.declared.world.SlotChoice.{SlotChoice}
 use Rattle.step_machine.specs.Devices.{contents_of}
 use Rattle.step_machine.specs.Invoking.{launched_as}
-use Rattle.step_machine.specs.PlanRuns.{OutsideTargets, PlaysPlan, setting_of}
+use Rattle.step_machine.specs.PlanRuns.{IsUnfaulted, OutsideTargets, PlaysPlan, setting_of}
 use Rattle.step_machine.specs.Worlds.{StandAs}
 use Rattle.invoke_proc.specs.declared.boot_end.BootEnd.{BootEnd}
 use Rattle.invoke_proc.specs.declared.boot_end.BootEnd.TheVariants as ends
@@ -96,11 +94,6 @@ pub record PlaysBoot (frame : Frame) (layout : List Entry) (key : Key)
   pub starts : Starts frame layout key before installed manifest
   pub on : PlaysOn layout manifest installed.active files before after launched now end
 
--- no directive of the procedure was stopped by a fault of the flash
-abbrev pub IsUnfaulted : PlanEnd → Type 0
-IsUnfaulted (plays.DirectiveFailed place causes.FlashFault) = ⊥
-IsUnfaulted _ = Unit {0}
-
 -- The procedure was played and ended so; or nothing was launched. A fault of the flash that no command met came before
 -- the procedure, and then the flash reads the same, or behind it: one that a directive met is told with its place.
 abbrev pub PlayedSo : (PlanEnd → Type 0) → Type 0 → List Launch → List Launch → BootEnd → Type 0
@@ -167,10 +160,6 @@ IsStartEnd (ends.BadBank refusal) = ⊥
 IsStartEnd (ends.NotAuthentic lacking) = ⊥
 IsStartEnd (ends.UnknownComponent component) = ⊥
 IsStartEnd _ = Unit {0}
-
--- no component is written by the procedure
-abbrev pub WritesNothing : PlanTree → Type 0
-WritesNothing plan = (component : ℕ) → IsTarget plan component → ⊥
 
 -- a procedure that ended so is answered so, or the flash failed behind it
 abbrev pub SettledSo : PlanEnd → BootEnd → ℕ → ℕ → Type 0

@@ -22,10 +22,7 @@ use Rattle.boot_c.proofs.booting.boot_by.Goals as goal
 ended_so : (flash : List ℕ) (layout : List Entry) (key : Key) (frame : Frame) (disk : ViewState) (end : BootEnd) (answer : Answer) → disk ≡ record { bytes = flash; faults = 0 } → ConfigOf (length flash) flash (Configured layout key frame)
     → Answers frame layout key disk.bytes end → (answer ≡ boot_answer end) ⊎ ((end ≡ ends.Ended) × (answer ≡ answers.LaunchFault)) → IsAnswer flash answer
 ended_so flash layout key frame disk end answer same config ended told = inr (inr (inr (record {
-  layout = layout;
-  key = key;
-  frame = frame;
-  config = config;
+  config = record { layout = layout; key = key; frame = frame; is = config };
   end = end;
   ended = subst (λ (d : ViewState). Answers frame layout key d.bytes end) same ended;
   told = told;
@@ -42,6 +39,20 @@ returns-in_default-end c = record {
 pub returns-in_default-noted-clause-answers : goal.returns-in_default-noted-clause-answers
 returns-in_default-noted-clause-answers c =
     ended_so c.args.flash.now c.args.layout.now c.args.key.now c.args.frame c.new-disk.result c.boot-end.result c.boot_answer-answer.result c.new-disk.ensures c.requires.held (c.boot-end.ensures.answers refl) (inl c.boot_answer-answer.ensures)
+
+pub returns-in_default-noted-clause-none : goal.returns-in_default-noted-clause-none
+returns-in_default-noted-clause-none c = λ done. λ none.
+    let launcher = c.boot-end.new.launcher in
+    let before : launches_of c.new-launcher.result ≡ [] = ap launches_of c.new-launcher.ensures in
+    let after : launches_of launcher ≡ [] = ap (launches_in launcher.flash) (sym c.in_default-noted.ensures) in
+    let played = subst (λ (e : BootEnd). PlayedSo (PlaysBoot c.args.frame c.args.layout.now c.args.key.now (λ _. None) c.new-disk.result.bytes c.boot-end.new.disk.bytes (launches_of c.new-launcher.result) (launches_of launcher)) (c.boot-end.new.disk.bytes ≡ c.new-disk.result.bytes) (launches_of c.new-launcher.result) (launches_of launcher) e) c.in-Ended.is (c.boot-end.ensures.plays refl refl) in
+    record {
+      config = record { layout = c.args.layout.now; key = c.args.key.now; frame = c.args.frame; is = c.requires.held };
+      after = c.boot-end.new.disk.bytes;
+      plays = subst (λ (d : ViewState). PlaysBoot c.args.frame c.args.layout.now c.args.key.now (λ _. None) d.bytes c.boot-end.new.disk.bytes [] [] plays.Done) c.new-disk.ensures
+          (subst (λ (l : List Launch). PlaysBoot c.args.frame c.args.layout.now c.args.key.now (λ _. None) c.new-disk.result.bytes c.boot-end.new.disk.bytes l [] plays.Done) before
+          (subst (λ (l : List Launch). PlaysBoot c.args.frame c.args.layout.now c.args.key.now (λ _. None) c.new-disk.result.bytes c.boot-end.new.disk.bytes (launches_of c.new-launcher.result) l plays.Done) after played));
+    }
 
 pub returns-in-Some-image_in-clause-answers : goal.returns-in-Some-image_in-clause-answers
 returns-in-Some-image_in-clause-answers c =
@@ -63,10 +74,7 @@ returns-in-Some-image_in-clause-image c =
       c.boot_answer-answer.ensures ∙ ap boot_answer c.in-Ended.is,
       c.in-Some-image_in.ensures.found,
       record {
-        layout = c.args.layout.now;
-        key = c.args.key.now;
-        frame = c.args.frame;
-        config = c.requires.held;
+        config = record { layout = c.args.layout.now; key = c.args.key.now; frame = c.args.frame; is = c.requires.held };
         launch = launch;
         launched = subst (λ (seen : List ℕ). IsLaunched c.args.flash.now c.in-Some-image_in.image (noted_launch seen c.in-Some.note.now)) c.flash.ensures c.in-Some-image_in.ensures.launched;
         after = c.boot-end.new.disk.bytes;

@@ -16,34 +16,27 @@ returns-in-Ok-clause-slot c =
     let entry = c.in-Some.entry.now in
     let here = loaded_as c.args.frame c.new-disk.result.bytes c.in-Ok-Some.field-0 (Some c.in-Ok-Some.installed) c.in-Ok-Some.field-0-is (c.in-Ok-Some.ensures.exact refl) in
     record {
-      layout = c.args.layout.now;
-      key = c.args.key.now;
-      frame = c.args.frame;
-      config = c.requires.held;
+      config = record { layout = c.args.layout.now; key = c.args.key.now; frame = c.args.frame; is = c.requires.held };
       installed = c.in-Ok-Some.installed;
       recorded = subst (λ (d : ViewState). RecordOf c.args.frame (head_of c.args.frame d.bytes) (Some c.in-Ok-Some.installed)) c.new-disk.ensures here;
-      entry = entry;
-      within = subst (λ (l : List Entry). c.args.component < length l) c.as_slice-entries.ensures c.in-Some.ensures.lookup.3.0;
-      is = subst (λ (l : List Entry). (d : Entry) → entry ≡ slice_index_or l c.args.component d) c.as_slice-entries.ensures c.in-Some.ensures.lookup.3.1;
-      stands = c.in-Flash.is;
-      stands_there = subst (λ (n : ℕ). IsSlotOf entry n c.args.flash.now c.in-Ok.slot) c.number_of-number.ensures.is c.in-Ok.ensures.slot;
+      stands = record {
+        within = subst (λ (l : List Entry). c.args.component < length l) c.as_slice-entries.ensures c.in-Some.ensures.lookup.3.0;
+        entry = entry;
+        is = subst (λ (l : List Entry). (d : Entry) → entry ≡ slice_index_or l c.args.component d) c.as_slice-entries.ensures c.in-Some.ensures.lookup.3.1;
+        stands = c.in-Flash.is;
+      };
+      there = subst (λ (n : ℕ). IsSlotOf entry n c.args.flash.now c.in-Ok.slot) c.number_of-number.ensures.is c.in-Ok.ensures.slot;
     }
 
 pub returns-in-None-clause-answers : goal.returns-in-None-clause-answers
 returns-in-None-clause-answers c = inr (NoComponent (record {
-  layout = c.args.layout.now;
-  key = c.args.key.now;
-  frame = c.args.frame;
-  config = c.requires.held;
+  config = record { layout = c.args.layout.now; key = c.args.key.now; frame = c.args.frame; is = c.requires.held };
   none = inl (subst (λ (l : List Entry). length l ≤ c.args.component) c.as_slice-entries.ensures c.in-None.ensures.lookup.3);
 }) refl)
 
 pub returns-in-Ram-clause-answers : goal.returns-in-Ram-clause-answers
 returns-in-Ram-clause-answers c = inr (NoComponent (record {
-  layout = c.args.layout.now;
-  key = c.args.key.now;
-  frame = c.args.frame;
-  config = c.requires.held;
+  config = record { layout = c.args.layout.now; key = c.args.key.now; frame = c.args.frame; is = c.requires.held };
   none = inr (stands_in c.args.layout.now c.as_slice-entries.result.now c.args.component memory.Ram c.in-Some.entry.now c.as_slice-entries.ensures c.in-Some.ensures.lookup.3.0 c.in-Some.ensures.lookup.3.1 c.in-Ram.is);
 }) refl)
 
@@ -51,10 +44,7 @@ pub returns-in-Ok-None-clause-answers : goal.returns-in-Ok-None-clause-answers
 returns-in-Ok-None-clause-answers c =
     let here = loaded_as c.args.frame c.new-disk.result.bytes c.in-Ok-None.field-0 None c.in-Ok-None.field-0-is (c.in-Ok-None.ensures.exact refl) in
     inr (NoRecord (record {
-      layout = c.args.layout.now;
-      key = c.args.key.now;
-      frame = c.args.frame;
-      config = c.requires.held;
+      config = record { layout = c.args.layout.now; key = c.args.key.now; frame = c.args.frame; is = c.requires.held };
       stands = stands_in c.args.layout.now c.as_slice-entries.result.now c.args.component memory.Flash c.in-Some.entry.now c.as_slice-entries.ensures c.in-Some.ensures.lookup.3.0 c.in-Some.ensures.lookup.3.1 c.in-Flash.is;
       none = subst (λ (d : ViewState). RecordOf c.args.frame (head_of c.args.frame d.bytes) None) c.new-disk.ensures here;
     }) refl)

@@ -8,9 +8,9 @@ use Rattle.suit_envelope.specs.declared.envelope.Envelope.{Envelope}
 use Rattle.step_machine.specs.declared.program.Program.{Program}
 use Rattle.step_machine.specs.Fetching.{ArePayloads}
 use Rattle.step_machine.specs.Programs.{program_tree}
-use Rattle.invoke_proc.specs.Booting.{KeepsOthers, PlaysOn, WritesNothing}
+use Rattle.invoke_proc.specs.Booting.{KeepsOthers, PlaysOn}
 use Rattle.invoke_proc.proofs.Played.{counts_after, kept_after, keeps_on, plays_after, plays_on, starts_after, unfaulted, unwritten}
-use Rattle.invoke_proc.proofs.WritingSteps.{writes_nothing}
+use Rattle.invoke_proc.proofs.WritingSteps.{WritesNothing, writes_nothing}
 use Rattle.invoke_proc.proofs.running.start.Goals as goal
 
 -- the program that is run is the one that was lent again
