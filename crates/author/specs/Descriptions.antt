@@ -69,6 +69,42 @@ scope_of t shared = record t.source.scope { shared = shared }
 abbrev pub field_sequence : Fields → Bool → Data → Result SequenceTree Flaw
 field_sequence t shared d = member_sequence (scope_of t shared) d
 
+-- what stands beside the manifest
+abbrev pub takes_beside : Takes Fields
+takes_beside t key d =
+    if bytes_eq key (codes "payloads")
+    then (payloads_of t.source.scope.files d >>= λ ps. Ok (record t { payloads = ps }))
+    else if bytes_eq key (codes "kid") then (hex_of d >>= λ kid. Ok (record t { kid = Some kid }))
+    else if bytes_eq key (codes "mac") then (mac_kind_of d >>= λ mac. Ok (record t { mac = mac }))
+    else if bytes_eq key (codes "algorithm")
+    then (algorithm_of d >>= λ kind. Ok (record t { algorithm = kind }))
+    else flawed Field
+
+-- a member that may be severed, or the names of those that are
+abbrev pub takes_member : Takes Fields
+takes_member t key d =
+    if bytes_eq key (codes "payload-fetch")
+    then (described_member (scope_of t false) d >>= λ m. Ok (record t { payload_fetch = m }))
+    else if bytes_eq key (codes "install")
+    then (described_member (scope_of t false) d >>= λ m. Ok (record t { install = m }))
+    else if bytes_eq key (codes "text") then (text_member_of d >>= λ m. Ok (record t { text = m }))
+    else if bytes_eq key (codes "sever")
+    then (severed_of t.source.given d >>= λ s. Ok (record t { severed = s }))
+    else takes_beside t key d
+
+-- a sequence that is never severed
+abbrev pub takes_sequence : Takes Fields
+takes_sequence t key d =
+    if bytes_eq key (codes "shared")
+    then (field_sequence t true d >>= λ s. Ok (record t { shared = Some s }))
+    else if bytes_eq key (codes "validate")
+    then (field_sequence t false d >>= λ s. Ok (record t { validate = Some s }))
+    else if bytes_eq key (codes "load")
+    then (field_sequence t false d >>= λ s. Ok (record t { load = Some s }))
+    else if bytes_eq key (codes "invoke")
+    then (field_sequence t false d >>= λ s. Ok (record t { invoke = Some s }))
+    else takes_member t key d
+
 -- an object has each key once; of components that stand twice the first would count, as they do above
 abbrev pub takes_field : Takes Fields
 takes_field t key d =
@@ -80,28 +116,7 @@ takes_field t key d =
     >>= λ ids. Ok (record t { components = Some (unwrap_or t.components ids) }))
     else if bytes_eq key (codes "reference")
     then (text_of d >>= λ text. Ok (record t { reference = Some text }))
-    else if bytes_eq key (codes "shared")
-    then (field_sequence t true d >>= λ s. Ok (record t { shared = Some s }))
-    else if bytes_eq key (codes "validate")
-    then (field_sequence t false d >>= λ s. Ok (record t { validate = Some s }))
-    else if bytes_eq key (codes "load")
-    then (field_sequence t false d >>= λ s. Ok (record t { load = Some s }))
-    else if bytes_eq key (codes "invoke")
-    then (field_sequence t false d >>= λ s. Ok (record t { invoke = Some s }))
-    else if bytes_eq key (codes "payload-fetch")
-    then (described_member (scope_of t false) d >>= λ m. Ok (record t { payload_fetch = m }))
-    else if bytes_eq key (codes "install")
-    then (described_member (scope_of t false) d >>= λ m. Ok (record t { install = m }))
-    else if bytes_eq key (codes "text") then (text_member_of d >>= λ m. Ok (record t { text = m }))
-    else if bytes_eq key (codes "sever")
-    then (severed_of t.source.given d >>= λ s. Ok (record t { severed = s }))
-    else if bytes_eq key (codes "payloads")
-    then (payloads_of t.source.scope.files d >>= λ ps. Ok (record t { payloads = ps }))
-    else if bytes_eq key (codes "kid") then (hex_of d >>= λ kid. Ok (record t { kid = Some kid }))
-    else if bytes_eq key (codes "mac") then (mac_kind_of d >>= λ mac. Ok (record t { mac = mac }))
-    else if bytes_eq key (codes "algorithm")
-    then (algorithm_of d >>= λ kind. Ok (record t { algorithm = kind }))
-    else flawed Field
+    else takes_sequence t key d
 
 abbrev pub whole : Fields → List (List (List ℕ)) → ℕ → Described
 whole t ids n = record {

@@ -3,7 +3,7 @@
 ghost use Rattle.std.specs.Prelude.{◌≡◌};
 ghost use Rattle.serde_json.specs.View.{view};
 ghost use Rattle.json_fields.specs.Answers.{Gives};
-ghost use Rattle.author.specs.Descriptions.{count_in, no_fields, scope_of, field_sequence, takes_field, finished, described};
+ghost use Rattle.author.specs.Descriptions.{count_in, no_fields, scope_of, field_sequence, takes_sequence, takes_member, takes_beside, takes_field, finished, described};
 
 use crate::FileList;
 use crate::algorithm_name::algorithm;
@@ -65,6 +65,51 @@ impl<'a> Fields<'a> {
     {
         sequence(alloc, value, &self.scope(shared), MAX_LEVELS)
     }
+
+    // A sequence that is never severed.
+    fn take_sequence(&mut self, alloc: Global, key: &str, value: &Value) -> Result<(), JsonFault>
+        ensures { Gives (λ _. self.new) result (takes_sequence self.old key.now (view value.now)) }
+    {
+        match key {
+            "shared" => self.shared = Some(self.commands(alloc, value, true)?),
+            "validate" => self.validate = Some(self.commands(alloc, value, false)?),
+            "load" => self.load = Some(self.commands(alloc, value, false)?),
+            "invoke" => self.invoke = Some(self.commands(alloc, value, false)?),
+            _ => return self.take_member(alloc, key, value),
+        }
+        Ok(())
+    }
+
+    // A member that may be severed, or the names of those that are.
+    fn take_member(&mut self, alloc: Global, key: &str, value: &Value) -> Result<(), JsonFault>
+        ensures { Gives (λ _. self.new) result (takes_member self.old key.now (view value.now)) }
+    {
+        match key {
+            "payload-fetch" => self.payload_fetch = member(alloc, value, &self.scope(false))?,
+            "install" => self.install = member(alloc, value, &self.scope(false))?,
+            "text" => self.text = text_member(alloc, value)?,
+            "sever" => self.severed = severed_members(alloc, value, self.source.given)?,
+            _ => return self.take_beside(alloc, key, value),
+        }
+        Ok(())
+    }
+
+    // What stands beside the manifest.
+    fn take_beside(&mut self, alloc: Global, key: &str, value: &Value) -> Result<(), JsonFault>
+        ensures { Gives (λ _. self.new) result (takes_beside self.old key.now (view value.now)) }
+    {
+        match key {
+            "payloads" => {
+                let list = payloads(alloc, value, self.source.scope.files)?;
+                let _none_yet = mem::replace(&mut self.payloads, list);
+            }
+            "kid" => self.kid = Some(hex(alloc, value)?),
+            "mac" => self.mac = mac_kind(alloc, value)?,
+            "algorithm" => self.algorithm = algorithm(alloc, value)?,
+            _ => return flawed(alloc, FlawKind::Field),
+        }
+        Ok(())
+    }
 }
 
 impl Draft for Fields<'_> {
@@ -77,22 +122,7 @@ impl Draft for Fields<'_> {
                 self.components.get_or_insert(identifiers(alloc, value)?);
             }
             "reference" => self.reference = Some(text(alloc, value)?),
-            "shared" => self.shared = Some(self.commands(alloc, value, true)?),
-            "validate" => self.validate = Some(self.commands(alloc, value, false)?),
-            "load" => self.load = Some(self.commands(alloc, value, false)?),
-            "invoke" => self.invoke = Some(self.commands(alloc, value, false)?),
-            "payload-fetch" => self.payload_fetch = member(alloc, value, &self.scope(false))?,
-            "install" => self.install = member(alloc, value, &self.scope(false))?,
-            "text" => self.text = text_member(alloc, value)?,
-            "sever" => self.severed = severed_members(alloc, value, self.source.given)?,
-            "payloads" => {
-                let list = payloads(alloc, value, self.source.scope.files)?;
-                let _none_yet = mem::replace(&mut self.payloads, list);
-            }
-            "kid" => self.kid = Some(hex(alloc, value)?),
-            "mac" => self.mac = mac_kind(alloc, value)?,
-            "algorithm" => self.algorithm = algorithm(alloc, value)?,
-            _ => return flawed(alloc, FlawKind::Field),
+            _ => return self.take_sequence(alloc, key, value),
         }
         Ok(())
     }

@@ -39,18 +39,18 @@ fn param(alloc: Global, value: &Value, key: ParamKey, scope: &Scope<'_>) -> Resu
     ensures { Gives (λ p. p) result (param_value scope.now key (view value.now)) }
 {
     match key {
-        ParamKey::Vendor => Ok(Param::Vendor(uuid(alloc, value)?)),
-        ParamKey::Class => Ok(Param::Class(uuid(alloc, value)?)),
-        ParamKey::Device => Ok(Param::Device(uuid(alloc, value)?)),
-        ParamKey::Digest => Ok(Param::Digest(digest(alloc, value, scope.files)?)),
-        ParamKey::Slot => Ok(Param::Slot(whole(alloc, value)?)),
-        ParamKey::Strict => Ok(Param::Strict(flag(alloc, value)?)),
-        ParamKey::Soft => Ok(Param::Soft(flag(alloc, value)?)),
-        ParamKey::Size => Ok(Param::Size(size(alloc, value, scope.files)?)),
-        ParamKey::Content => Ok(Param::Content(content(alloc, value, scope.files)?)),
-        ParamKey::Uri => Ok(Param::Uri(text(alloc, value)?)),
-        ParamKey::Source => Ok(Param::Source(index(alloc, value, scope.count)?)),
-        ParamKey::Args => Ok(Param::Args(hex(alloc, value)?)),
+        ParamKey::Vendor => uuid(alloc, value).map(Param::Vendor),
+        ParamKey::Class => uuid(alloc, value).map(Param::Class),
+        ParamKey::Device => uuid(alloc, value).map(Param::Device),
+        ParamKey::Digest => digest(alloc, value, scope.files).map(Param::Digest),
+        ParamKey::Slot => whole(alloc, value).map(Param::Slot),
+        ParamKey::Strict => flag(alloc, value).map(Param::Strict),
+        ParamKey::Soft => flag(alloc, value).map(Param::Soft),
+        ParamKey::Size => size(alloc, value, scope.files).map(Param::Size),
+        ParamKey::Content => content(alloc, value, scope.files).map(Param::Content),
+        ParamKey::Uri => text(alloc, value).map(Param::Uri),
+        ParamKey::Source => index(alloc, value, scope.count).map(Param::Source),
+        ParamKey::Args => hex(alloc, value).map(Param::Args),
     }
 }
 

@@ -15,7 +15,7 @@ use suit_envelope::MemberName;
 use suit_params::DigestKind;
 
 /// A hash function for each of the members that may be severed from the manifest.
-#[derive(Clone, Copy, Debug, PartialEq, Eq)]
+#[derive(Clone, Copy)]
 pub struct MemberKinds {
     pub payload_fetch: DigestKind,
     pub install: DigestKind,
@@ -36,7 +36,7 @@ impl MemberKinds {
 }
 
 /// A set of the members that may be severed from the manifest.
-#[derive(Clone, Copy, Debug, PartialEq, Eq)]
+#[derive(Clone, Copy)]
 pub struct Severed {
     pub payload_fetch: bool,
     pub install: bool,

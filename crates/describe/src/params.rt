@@ -9,24 +9,41 @@ use serde_json::{Map, Value, put};
 use std::alloc::{AllocError, Global};
 use suit_params::{Param, ParamList};
 
-// The name of a parameter, and its value.
-fn param_member(alloc: Global, param: &Param) -> Result<(&'static str, Value), AllocError>
-    ensures name { IfOk result (λ m. m.0.now ≡ param_name param.now) }
-    ensures value { IfOk result (λ m. view m.1 ≡ value_data param.now) }
+fn param_name(param: &Param) -> &'static str
+    ensures { result.now ≡ param_name param.now }
 {
     match param {
-        Param::Vendor(id) => Ok(("vendor", uuid_value(alloc, *id)?)),
-        Param::Class(id) => Ok(("class", uuid_value(alloc, *id)?)),
-        Param::Device(id) => Ok(("device", uuid_value(alloc, *id)?)),
-        Param::Digest(digest) => Ok(("digest", hex_value(alloc, digest.bytes())?)),
-        Param::Slot(number) => Ok(("slot", Value::from(*number))),
-        Param::Strict(flag) => Ok(("strict", Value::from(*flag))),
-        Param::Soft(flag) => Ok(("soft", Value::from(*flag))),
-        Param::Size(size) => Ok(("size", Value::from(*size))),
-        Param::Content(bytes) => Ok(("content", hex_value(alloc, bytes.as_slice())?)),
-        Param::Uri(text) => Ok(("uri", Value::try_from_str(alloc, text.as_str())?)),
-        Param::Source(component) => Ok(("source", Value::from(*component))),
-        Param::Args(bytes) => Ok(("args", hex_value(alloc, bytes.as_slice())?)),
+        Param::Vendor(_) => "vendor",
+        Param::Class(_) => "class",
+        Param::Device(_) => "device",
+        Param::Digest(_) => "digest",
+        Param::Slot(_) => "slot",
+        Param::Strict(_) => "strict",
+        Param::Soft(_) => "soft",
+        Param::Size(_) => "size",
+        Param::Content(_) => "content",
+        Param::Uri(_) => "uri",
+        Param::Source(_) => "source",
+        Param::Args(_) => "args",
+    }
+}
+
+fn param_value(alloc: Global, param: &Param) -> Result<Value, AllocError>
+    ensures { IfOk result (λ v. view v ≡ value_data param.now) }
+{
+    match param {
+        Param::Vendor(id) => uuid_value(alloc, *id),
+        Param::Class(id) => uuid_value(alloc, *id),
+        Param::Device(id) => uuid_value(alloc, *id),
+        Param::Digest(digest) => hex_value(alloc, digest.bytes()),
+        Param::Slot(number) => Ok(Value::from(*number)),
+        Param::Strict(flag) => Ok(Value::from(*flag)),
+        Param::Soft(flag) => Ok(Value::from(*flag)),
+        Param::Size(size) => Ok(Value::from(*size)),
+        Param::Content(bytes) => hex_value(alloc, bytes.as_slice()),
+        Param::Uri(text) => Value::try_from_str(alloc, text.as_str()),
+        Param::Source(component) => Ok(Value::from(*component)),
+        Param::Args(bytes) => hex_value(alloc, bytes.as_slice()),
     }
 }
 
@@ -36,8 +53,8 @@ pub(crate) fn params(alloc: Global, list: &ParamList) -> Result<Value, AllocErro
 {
     let mut map = Map::new(alloc);
     for param in list.as_slice() {
-        let (name, value) = param_member(alloc, param)?;
-        put(&mut map, alloc, name, value)?;
+        let value = param_value(alloc, param)?;
+        put(&mut map, alloc, param_name(param), value)?;
     }
     Ok(Value::from(map))
 }
