@@ -62,13 +62,13 @@ completeness_laws configs records some envelopes manifests members boots updates
   boot = λ words l n b a ended ready faultless comes. boot_completes configs records boots words l n b a ready ended faultless comes;
   boot_ends = λ words l n b a sb sa result ready faultless runs. ends_well _ _ sb sa result runs.ended (λ done. ap ended_status done.ended_is) (λ starved. starved.lacks.status)
       (boot_completes configs records boots words l n b a ready runs.ended faultless runs.comes) runs.puts;
-  only_boot = λ words l n b a ended word told size sound comes zero. only_boot configs records boots soundness words l n b a told word size sound ended comes zero;
-  boot_says = λ words l n b a sb sa word told size sound runs. says_so (λ ready. BootsWhole words l b ready n a) sb sa runs.ended
-      (only_boot configs records boots soundness words l n b a told word size sound runs.ended runs.comes) runs.puts;
+  only_boot = λ words l n b a ended of told comes zero. only_boot configs records boots soundness words l n b a told of.asks of.size of.sound ended comes zero;
+  boot_says = λ words l n b a sb sa of told runs. says_so (λ ready. BootsWhole words l b ready n a) sb sa runs.ended
+      (only_boot configs records boots soundness words l n b a told of.asks of.size of.sound runs.ended runs.comes) runs.puts;
   migrate = λ words l n b a ended ready faultless comes. migrate_completes migrations words l n b a ready faultless ended comes;
   migrate_ends = λ words l n b a sb sa result ready faultless runs. ends_well _ _ sb sa result runs.ended (λ done. done.status) (λ starved. starved.lacks.status)
       (migrate_completes migrations words l n b a ready faultless runs.ended runs.comes) runs.puts;
-  only_migrate = λ words l n b a ended base word told comes zero. only_migrate migrations words l n b a base word told ended comes zero;
-  migrate_says = λ words l n b a sb sa base word told runs. says_so (λ ready. MigratesWhole words l b ready n a) sb sa runs.ended
-      (only_migrate migrations words l n b a base word told runs.ended runs.comes) runs.puts;
+  only_migrate = λ words l n b a ended asks told comes zero. only_migrate migrations words l n b a asks.0 asks.1 told ended comes zero;
+  migrate_says = λ words l n b a sb sa asks told runs. says_so (λ ready. MigratesWhole words l b ready n a) sb sa runs.ended
+      (only_migrate migrations words l n b a asks.0 asks.1 told runs.ended runs.comes) runs.puts;
 }

@@ -12,6 +12,7 @@ use Rattle.suit_manifest.specs.Procedures.{update_tree}
 use Rattle.path_model.specs.declared.cause.Cause.{Cause}
 use Rattle.path_model.specs.declared.cause.Cause.TheVariants as causes
 use Rattle.flash_layout.specs.declared.frame.Frame.{Frame}
+use Rattle.flash_layout.specs.declared.key.Key.{Key}
 use Rattle.flash_layout.specs.declared.layout.Entry.{Entry}
 use Rattle.flash_layout.specs.declared.place.Places.{Places}
 use Rattle.flash_layout.specs.declared.slot.Record.{Record}
@@ -135,8 +136,8 @@ module _ (layout : List Entry) (bytes : List ℕ) (s : EnvelopeSays) (m : Manife
       pub left : LeavesPlay sets.standings (play_of layout bytes Offered held sets uris b) l.launches n.launches a.flash.reads
       pub others : KeepsContents layout p Tree sets.numbers b.flash.reads a.flash.reads
 
-    pub installed_so : (r : Record) → IsUpdate (offer frame layout bytes Found uris) l n mid a (ends.Installed r) → InstalledSo (ends.Installed r)
-    installed_so r u =
+    pub installed_so : (key : Key) (r : Record) → IsUpdate (offer frame layout key bytes Found) uris l n mid a (ends.Installed r) → InstalledSo (ends.Installed r)
+    installed_so key r u =
         let played = u.plays mid_flash_told told.launcher held digest blocks mid_recorded states sets.payloads sets.has in
         let again = replayed played.made plays.Done played.plays in
         let kept = u.left mid_flash_told held digest blocks mid_recorded states in
@@ -178,22 +179,22 @@ module _ (layout : List Entry) (bytes : List ℕ) (s : EnvelopeSays) (m : Manife
       never_by_itself place causes.FlashFault st c = faultless.flash (subst (λ (z : ℕ). Faulted z a.flash.faults) sees.flash_faults c.1)
       never_by_itself place causes.LaunchFault st c = faultless.launcher c.2
 
-      pub way : (end : UpdateEnd) → IsUpdate (offer frame layout bytes Found uris) l n mid a end → InstalledSo end ⊎ StarvedSo end
-      way (ends.Installed r) u = inl (installed_so r u)
-      way ends.NoMemory u = inr (record {
+      pub way : (key : Key) (end : UpdateEnd) → IsUpdate (offer frame layout key bytes Found) uris l n mid a end → InstalledSo end ⊎ StarvedSo end
+      way key (ends.Installed r) u = inl (installed_so key r u)
+      way key ends.NoMemory u = inr (record {
         is = refl;
         launches = u.plays mid_flash_told told.launcher held digest blocks mid_recorded states sets.payloads sets.has;
         reads = u.left mid_flash_told held digest blocks mid_recorded states ∙ sees.reads;
       })
-      way (ends.Lower recorded_number offered) u =
+      way key (ends.Lower recorded_number offered) u =
           absurd (not_lower m.sequence digest held recorded_number offered acceptable (u.judged mid_flash_told held digest blocks mid_recorded states))
-      way (ends.OtherDigest recorded_digest offered) u =
+      way key (ends.OtherDigest recorded_digest offered) u =
           absurd (not_other m.sequence digest held recorded_digest offered acceptable (u.judged mid_flash_told held digest blocks mid_recorded states))
-      way ends.Worn u = absurd (not_worn m.sequence digest held acceptable (u.judged mid_flash_told held digest blocks mid_recorded states))
-      way (ends.Condition place) u =
+      way key ends.Worn u = absurd (not_worn m.sequence digest held acceptable (u.judged mid_flash_told held digest blocks mid_recorded states))
+      way key (ends.Condition place) u =
           let played = u.plays mid_flash_told told.launcher held digest blocks mid_recorded states sets.payloads sets.has in
           absurd (never_condition Tree _ _ _ _ _ place done (replayed played.made (plays.ConditionFailed place) played.plays).plays_so)
-      way (ends.Stopped place cause) u =
+      way key (ends.Stopped place cause) u =
           let played = u.plays mid_flash_told told.launcher held digest blocks mid_recorded states sets.payloads sets.has in
           absurd (never_by_itself place cause (played.made, played.plays) u.counts)
-      way ends.FlashFault u = absurd (faultless.flash (subst (λ (z : ℕ). Faulted z a.flash.faults) sees.flash_faults u.counts.1))
+      way key ends.FlashFault u = absurd (faultless.flash (subst (λ (z : ℕ). Faulted z a.flash.faults) sees.flash_faults u.counts.1))

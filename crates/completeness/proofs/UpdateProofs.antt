@@ -33,7 +33,7 @@ use Rattle.suit_cli.specs.Program.{ComesTo, answers}
 use Rattle.suit_cli.specs.Stages.{Ending, FaultOf, NoMemory, Says}
 use Rattle.suit_cli.specs.UpdateLaws.{UpdateLaws}
 use Rattle.suit_cli.specs.Updating.{IsUpdate, Updates, update_line, update_status, offer}
-use Rattle.suit_cli.specs.Words.{RunBoot, RunUpdate, task_of}
+use Rattle.suit_cli.specs.Words.{Named, RunBoot, RunUpdate, pairs_of, task_of}
 use Rattle.invoke_proc.proofs.Booted.{payloads_in}
 use Rattle.suit_cli.specs.Statuses.{ending_status}
 use Rattle.suit_cli.proofs.Running.{Declining, status_done}
@@ -52,7 +52,7 @@ use Rattle.completeness.proofs.UpdatePlayed.{InstalledSo, SeesSame, installed_so
 pub configured_once : (l m : List Entry) (k n : Key) (f g : Frame) → Configured l k f ≡ Configured m n g → (l ≡ m) × (k ≡ n) × (f ≡ g)
 configured_once l m k n f g same = grind (arith, same)
 
-task_once : (x y : List ℕ) (us vs : List (List ℕ × List ℕ)) → Some (RunUpdate x us) ≡ Some (RunUpdate y vs) → (x ≡ y) × (us ≡ vs)
+task_once : (x y : List ℕ) (us vs : List Named) → Some (RunUpdate x us) ≡ Some (RunUpdate y vs) → (x ≡ y) × (us ≡ vs)
 task_once x y us vs same = grind (arith, same)
 
 pub inside_there : (layout : List Entry) (ids : List (List (List ℕ))) (p : Places) → ArePlaces layout ids p → (k : ℕ) → k < p.count → get_or p.layout_index k 0 < length layout
@@ -77,7 +77,7 @@ module _ (name : List ℕ) (uris : List (List ℕ × List ℕ)) (l n : Launching
     flash_faults = ap (λ (f : Flashed). f.faults) u.read.0.flash ∙ u.held.0.faults;
   }
 
-  pub read_there : IsRead longest_file name b u.bytes
+  pub read_there : IsRead longest_file name b u.o.bytes
   read_there = record {
     holds = λ t. ap (λ (f : Files). f name) (sym still_files) ∙ u.read.1.holds (subst IsTrue (sym still_told) told.host);
     fits = u.read.1.fits;
@@ -108,55 +108,56 @@ module _ (configs : OneAnswer) (envelopes : EnvelopeLaws) (manifests : ManifestL
     abbrev O : Offers ready.name b
     O = ready.offers
 
-    module _ (end : UpdateEnd) (lines : List ℕ) (u : Updates ready.name ready.uris l n b a end lines) where
-      config : (u.layout ≡ O.layout) × (u.key ≡ O.key) × (u.frame ≡ O.frame)
-      config = configured_once u.layout O.layout u.key O.key u.frame O.frame (configs b.flash.size b.flash.reads (Configured u.layout u.key u.frame) (Configured O.layout O.key O.frame)
+    module _ (end : UpdateEnd) (lines : List ℕ) (u : Updates ready.name (pairs_of ready.uris) l n b a end lines) where
+      config : (u.o.layout ≡ O.layout) × (u.o.key ≡ O.key) × (u.o.frame ≡ O.frame)
+      config = configured_once u.o.layout O.layout u.o.key O.key u.o.frame O.frame (configs b.flash.size b.flash.reads (Configured u.o.layout u.o.key u.o.frame) (Configured O.layout O.key O.frame)
           (u.held.1 ready.told.flash) (O.configured ready.told.flash))
 
-      same_bytes : u.bytes ≡ O.bytes
-      same_bytes = one_read longest_file ready.name b ready.told.host O.bytes u.bytes O.read (read_there ready.name ready.uris l n b a end lines u ready.told)
+      same_bytes : u.o.bytes ≡ O.bytes
+      same_bytes = one_read longest_file ready.name b ready.told.host O.bytes u.o.bytes O.read (read_there ready.name (pairs_of ready.uris) l n b a end lines u ready.told)
 
-      accepted_there : IsAccepted O.frame O.layout O.key O.bytes u.accepted
+      accepted_there : IsAccepted O.frame O.layout O.key O.bytes u.o.accepted
       accepted_there =
-          subst (λ (z : List ℕ). IsAccepted O.frame O.layout O.key z u.accepted) same_bytes
-          (subst (λ (z : Key). IsAccepted O.frame O.layout z u.bytes u.accepted) config.1
-          (subst (λ (z : List Entry). IsAccepted O.frame z u.key u.bytes u.accepted) config.0 (subst (λ (z : Frame). IsAccepted z u.layout u.key u.bytes u.accepted) config.2 u.is_accepted)))
+          subst (λ (z : List ℕ). IsAccepted O.frame O.layout O.key z u.o.accepted) same_bytes
+          (subst (λ (z : Key). IsAccepted O.frame O.layout z u.o.bytes u.o.accepted) config.1
+          (subst (λ (z : List Entry). IsAccepted O.frame z u.o.key u.o.bytes u.o.accepted) config.0 (subst (λ (z : Frame). IsAccepted z u.o.layout u.o.key u.o.bytes u.o.accepted) config.2 u.is_accepted)))
 
       f : Meets O.frame O.layout O.key O.bytes O.accepted
       f = facts O.frame O.layout O.key O.bytes O.accepted O.is_accepted
 
-      g : Meets O.frame O.layout O.key O.bytes u.accepted
-      g = facts O.frame O.layout O.key O.bytes u.accepted accepted_there
+      g : Meets O.frame O.layout O.key O.bytes u.o.accepted
+      g = facts O.frame O.layout O.key O.bytes u.o.accepted accepted_there
 
-      manifest_is : u.accepted.manifest ≡ O.accepted.manifest
-      manifest_is = same_manifest envelopes manifests members O.frame O.layout O.key O.bytes b ready.told.host O.accepted u.accepted f g
+      manifest_is : u.o.accepted.manifest ≡ O.accepted.manifest
+      manifest_is = same_manifest envelopes manifests members O.frame O.layout O.key O.bytes b ready.told.host O.accepted u.o.accepted f g
 
       abbrev Update : Accepted → Type 0
-      Update z = IsUpdate (offer O.frame O.layout O.bytes z ready.uris) l n u.middle a end
+      Update z = IsUpdate (offer O.frame O.layout O.key O.bytes z) (pairs_of ready.uris) l n u.middle a end
 
-      update_there : Update (record { said = O.accepted.said; manifest = O.accepted.manifest; places = u.accepted.places; members = O.accepted.members })
+      update_there : Update (record { said = O.accepted.said; manifest = O.accepted.manifest; places = u.o.accepted.places; members = O.accepted.members })
       update_there =
-          let v = u.accepted in
+          let v = u.o.accepted in
           let o = O.accepted in
           subst (λ (z : Members). Update (record { said = o.said; manifest = o.manifest; places = v.places; members = z }))
           (same_members envelopes manifests members O.frame O.layout O.key O.bytes b ready.told.host o v f g)
           (subst (λ (z : Manifest). Update (record { said = o.said; manifest = z; places = v.places; members = v.members })) manifest_is
           (subst (λ (z : EnvelopeSays). Update (record { said = z; manifest = v.manifest; places = v.places; members = v.members }))
           (same_said envelopes manifests members O.frame O.layout O.key O.bytes b ready.told.host o v f g)
-          (subst (λ (z : List ℕ). IsUpdate (offer O.frame O.layout z v ready.uris) l n u.middle a end) same_bytes
-          (subst (λ (z : List Entry). IsUpdate (offer O.frame z u.bytes v ready.uris) l n u.middle a end) config.0
-          (subst (λ (z : Frame). IsUpdate (offer z u.layout u.bytes v ready.uris) l n u.middle a end) config.2 u.update)))))
+          (subst (λ (z : List ℕ). IsUpdate (offer O.frame O.layout O.key z v) (pairs_of ready.uris) l n u.middle a end) same_bytes
+          (subst (λ (z : Key). IsUpdate (offer O.frame O.layout z u.o.bytes v) (pairs_of ready.uris) l n u.middle a end) config.1
+          (subst (λ (z : List Entry). IsUpdate (offer O.frame z u.o.key u.o.bytes v) (pairs_of ready.uris) l n u.middle a end) config.0
+          (subst (λ (z : Frame). IsUpdate (offer z u.o.layout u.o.key u.o.bytes v) (pairs_of ready.uris) l n u.middle a end) config.2 u.update))))))
 
       layout_is : IsLayout O.frame b.flash.size O.layout
       layout_is = (O.configured ready.told.flash).page.allowed
 
-      same_there : AreSame O.accepted.places u.accepted.places
-      same_there = same_places O.frame b.flash.size O.layout layout_is O.accepted.manifest.components O.accepted.places u.accepted.places f.placed
-          (subst (λ (z : Manifest). ArePlaces O.layout z.components u.accepted.places) manifest_is g.placed)
+      same_there : AreSame O.accepted.places u.o.accepted.places
+      same_there = same_places O.frame b.flash.size O.layout layout_is O.accepted.manifest.components O.accepted.places u.o.accepted.places f.placed
+          (subst (λ (z : Manifest). ArePlaces O.layout z.components u.o.accepted.places) manifest_is g.placed)
 
-      installs : InstalledSo O.layout O.bytes O.accepted.said O.accepted.manifest O.accepted.members O.accepted.places u.accepted.places same_there O.digest O.stated.0 O.stated.1
-          (inside_there O.layout O.accepted.manifest.components O.accepted.places f.placed) O.held ready.uris l n b u.middle a
-          (sees ready.name ready.uris l n b a end lines u ready.told) ready.told O.frame O.recorded ready.sets end → Installs words l b ready n a (Updated end lines)
+      installs : InstalledSo O.layout O.bytes O.accepted.said O.accepted.manifest O.accepted.members O.accepted.places u.o.accepted.places same_there O.digest O.stated.0 O.stated.1
+          (inside_there O.layout O.accepted.manifest.components O.accepted.places f.placed) O.held (pairs_of ready.uris) l n b u.middle a
+          (sees ready.name (pairs_of ready.uris) l n b a end lines u ready.told) ready.told O.frame O.recorded ready.sets end → Installs words l b ready n a (Updated end lines)
       installs i =
           let new = record_for ready.name b O ready.sets.numbers in
           let line : lines ≡ update_line O.accepted.manifest.sequence (ends.Installed new) =
@@ -166,7 +167,7 @@ module _ (configs : OneAnswer) (envelopes : EnvelopeLaws) (manifests : ManifestL
             recorded = i.recorded_so;
             left = i.left;
             others = i.others;
-            files = files_left ready.name ready.uris l n b a end lines u ready.told;
+            files = files_left ready.name (pairs_of ready.uris) l n b a end lines u ready.told;
           }
 
       of_update : IsFaultless l n b a → Installs words l b ready n a (Updated end lines) ⊎ LeavesFlash l n b a (Updated end lines)
@@ -175,15 +176,15 @@ module _ (configs : OneAnswer) (envelopes : EnvelopeLaws) (manifests : ManifestL
           (λ starved. inr (record {
             lacks = record {
               status = ap update_status starved.is;
-              line = u.lines_are ∙ ap (λ (z : UpdateEnd). update_line u.accepted.manifest.sequence z) starved.is;
+              line = u.lines_are ∙ ap (λ (z : UpdateEnd). update_line u.o.accepted.manifest.sequence z) starved.is;
               launches = starved.launches;
-              files = files_left ready.name ready.uris l n b a end lines u ready.told;
+              files = files_left ready.name (pairs_of ready.uris) l n b a end lines u ready.told;
             };
             reads = starved.reads;
           }))
-          (way O.layout O.bytes O.accepted.said O.accepted.manifest O.accepted.members O.accepted.places u.accepted.places same_there O.digest O.stated.0 O.stated.1
-          (inside_there O.layout O.accepted.manifest.components O.accepted.places f.placed) O.held ready.uris l n b u.middle a
-          (sees ready.name ready.uris l n b a end lines u ready.told) ready.told O.frame O.recorded ready.sets O.acceptable ready.completes faultless end update_there)
+          (way O.layout O.bytes O.accepted.said O.accepted.manifest O.accepted.members O.accepted.places u.o.accepted.places same_there O.digest O.stated.0 O.stated.1
+          (inside_there O.layout O.accepted.manifest.components O.accepted.places f.placed) O.held (pairs_of ready.uris) l n b u.middle a
+          (sees ready.name (pairs_of ready.uris) l n b a end lines u ready.told) ready.told O.frame O.recorded ready.sets O.acceptable ready.completes faultless O.key end update_there)
 
     of_stages : (e : Ending) → answers words b a e → n ≡ l → IsFaultless l n b a → Installs words l b ready n a (Answered e) ⊎ LeavesFlash l n b a (Answered e)
     of_stages (Says reply) answer same faultless =
@@ -197,31 +198,31 @@ module _ (configs : OneAnswer) (envelopes : EnvelopeLaws) (manifests : ManifestL
     update_completes _ faultless (ByBoot end lines word boots) = let never : Some RunBoot ≡ Some (RunUpdate ready.name ready.uris) = sym word ∙ ready.asks in absurd cc
     update_completes _ faultless (ByUpdate name uris end lines word updates) =
         let task = task_once name ready.name uris ready.uris (sym word ∙ ready.asks) in
-        of_update end lines (subst (λ (z : List (List ℕ × List ℕ)). Updates ready.name z l n b a end lines) task.1
-        (subst (λ (z : List ℕ). Updates z uris l n b a end lines) task.0 updates)) faultless
+        of_update end lines (subst (λ (z : List Named). Updates ready.name (pairs_of z) l n b a end lines) task.1
+        (subst (λ (z : List ℕ). Updates z (pairs_of uris) l n b a end lines) task.0 updates)) faultless
 
   -- ---- and only there
 
   module _ (records : SomeAnswer) (words : List (List ℕ)) (l n : Launching) (b a : Outside) (told : AreTold l b) where
-    module _ (name : List ℕ) (uris : List (List ℕ × List ℕ)) (r : Record) (lines : List ℕ) (u : Updates name uris l n b a (ends.Installed r) lines) (word : task_of words ≡ Some (RunUpdate name uris)) where
+    module _ (name : List ℕ) (uris : List Named) (r : Record) (lines : List ℕ) (u : Updates name (pairs_of uris) l n b a (ends.Installed r) lines) (word : task_of words ≡ Some (RunUpdate name uris)) where
       abbrev V : Accepted
-      V = u.accepted
+      V = u.o.accepted
 
       -- the record that the flash has
       abbrev held : Option Record
-      held = (records u.frame (head_of u.frame b.flash.reads)).0
+      held = (records u.o.frame (head_of u.o.frame b.flash.reads)).0
 
-      recorded : RecordOf u.frame (head_of u.frame b.flash.reads) held
-      recorded = (records u.frame (head_of u.frame b.flash.reads)).1
+      recorded : RecordOf u.o.frame (head_of u.o.frame b.flash.reads) held
+      recorded = (records u.o.frame (head_of u.o.frame b.flash.reads)).1
 
-      h : Meets u.frame u.layout u.key u.bytes V
-      h = facts u.frame u.layout u.key u.bytes V u.is_accepted
+      h : Meets u.o.frame u.o.layout u.o.key u.o.bytes V
+      h = facts u.o.frame u.o.layout u.o.key u.o.bytes V u.is_accepted
 
       itself : AreSame V.places V.places
       itself = record { count = refl; each = λ k lt. refl }
 
       seen : SeesSame b u.middle
-      seen = sees name uris l n b a (ends.Installed r) lines u told
+      seen = sees name (pairs_of uris) l n b a (ends.Installed r) lines u told
 
       middle_told : IsTrue u.middle.told
       middle_told = subst IsTrue (sym seen.told) told.host
@@ -229,17 +230,17 @@ module _ (configs : OneAnswer) (envelopes : EnvelopeLaws) (manifests : ManifestL
       middle_flash_told : IsTrue u.middle.flash.told
       middle_flash_told = subst IsTrue (sym seen.flash_told) told.flash
 
-      recorded_there : RecordOf u.frame (head_of u.frame u.middle.flash.reads) held
-      recorded_there = subst (λ (z : List ℕ). RecordOf u.frame (head_of u.frame z) held) (sym seen.reads) recorded
+      recorded_there : RecordOf u.o.frame (head_of u.o.frame u.middle.flash.reads) held
+      recorded_there = subst (λ (z : List ℕ). RecordOf u.o.frame (head_of u.o.frame z) held) (sym seen.reads) recorded
 
       offers : Offers name b
       offers = record {
-        layout = u.layout;
-        key = u.key;
-        frame = u.frame;
+        layout = u.o.layout;
+        key = u.o.key;
+        frame = u.o.frame;
         configured = u.held.1;
-        bytes = u.bytes;
-        read = read_there name uris l n b a (ends.Installed r) lines u told;
+        bytes = u.o.bytes;
+        read = read_there name (pairs_of uris) l n b a (ends.Installed r) lines u told;
         accepted = V;
         is_accepted = u.is_accepted;
         digest = h.authentic.digest;
@@ -249,18 +250,18 @@ module _ (configs : OneAnswer) (envelopes : EnvelopeLaws) (manifests : ManifestL
         acceptable = u.update.judged middle_flash_told held h.authentic.digest h.authentic.blocks recorded_there h.authentic.says;
       }
 
-      payloads : (list : List (List ℕ × List ℕ)) × HasPayloads u.bytes list
-      payloads = payloads_in u.bytes V.said h.envelope
+      payloads : (list : List (List ℕ × List ℕ)) × HasPayloads u.o.bytes list
+      payloads = payloads_in u.o.bytes V.said h.envelope
 
-      sets : Sets u.layout u.bytes V held
+      sets : Sets u.o.layout u.o.bytes V held
       sets =
           let played = (u.update.plays middle_flash_told told.launcher held h.authentic.digest h.authentic.blocks recorded_there h.authentic.says payloads.0 payloads.1).plays in
           record { numbers = played.numbers; chosen = played.chosen; standings = played.standings; stand = played.stand; payloads = payloads.0; has = payloads.1 }
 
-      installed_there : InstalledSo u.layout u.bytes V.said V.manifest V.members V.places V.places itself h.authentic.digest h.authentic.blocks h.authentic.says
-          (inside_there u.layout V.manifest.components V.places h.placed) held uris l n b u.middle a seen told u.frame recorded sets (ends.Installed r)
-      installed_there = installed_so u.layout u.bytes V.said V.manifest V.members V.places V.places itself h.authentic.digest h.authentic.blocks h.authentic.says
-          (inside_there u.layout V.manifest.components V.places h.placed) held uris l n b u.middle a seen told u.frame recorded sets r u.update
+      installed_there : InstalledSo u.o.layout u.o.bytes V.said V.manifest V.members V.places V.places itself h.authentic.digest h.authentic.blocks h.authentic.says
+          (inside_there u.o.layout V.manifest.components V.places h.placed) held (pairs_of uris) l n b u.middle a seen told u.o.frame recorded sets (ends.Installed r)
+      installed_there = installed_so u.o.layout u.o.bytes V.said V.manifest V.members V.places V.places itself h.authentic.digest h.authentic.blocks h.authentic.says
+          (inside_there u.o.layout V.manifest.components V.places h.placed) held (pairs_of uris) l n b u.middle a seen told u.o.frame recorded sets u.o.key r u.update
 
       was_ready : ReadyToUpdate words l b
       unfolding offers
@@ -274,10 +275,10 @@ module _ (configs : OneAnswer) (envelopes : EnvelopeLaws) (manifests : ManifestL
         recorded = installed_there.recorded_so;
         left = installed_there.left;
         others = installed_there.others;
-        files = files_left name uris l n b a (ends.Installed r) lines u told;
+        files = files_left name (pairs_of uris) l n b a (ends.Installed r) lines u told;
       }
 
-    of_end : (name : List ℕ) (uris : List (List ℕ × List ℕ)) (end : UpdateEnd) (lines : List ℕ) → Updates name uris l n b a end lines → task_of words ≡ Some (RunUpdate name uris) → update_status end ≡ 0
+    of_end : (name : List ℕ) (uris : List Named) (end : UpdateEnd) (lines : List ℕ) → Updates name (pairs_of uris) l n b a end lines → task_of words ≡ Some (RunUpdate name uris) → update_status end ≡ 0
         → (ready : ReadyToUpdate words l b) × Installs words l b ready n a (Updated end lines)
     of_end name uris (ends.Installed r) lines u word zero = (was_ready name uris r lines u word, was_installed name uris r lines u word)
     of_end name uris (ends.Lower recorded_number offered) lines u word zero = absurd (omega (arith, zero))
@@ -288,14 +289,14 @@ module _ (configs : OneAnswer) (envelopes : EnvelopeLaws) (manifests : ManifestL
     of_end name uris ends.FlashFault lines u word zero = absurd (omega (arith, zero))
     of_end name uris ends.NoMemory lines u word zero = absurd (omega (arith, zero))
 
-    never_stages : (name : List ℕ) (uris : List (List ℕ × List ℕ)) (e : Ending) → task_of words ≡ Some (RunUpdate name uris) → answers words b a e → ending_status e ≡ 0 → ⊥
+    never_stages : (name : List ℕ) (uris : List Named) (e : Ending) → task_of words ≡ Some (RunUpdate name uris) → answers words b a e → ending_status e ≡ 0 → ⊥
     never_stages name uris (Says reply) word answer zero =
         let done = status_done reply.outcome zero in
         ⊎_elim (λ d. subst Declining done d) (λ x. let never = sym done ∙ x.unsafe.outcome_is in cc) (began name b a reply (does_of words b a reply (RunUpdate name uris) word answer))
     never_stages name uris (FaultOf object) word answer zero = ⊎_elim (λ e. omega (arith, e, zero)) (λ e. omega (arith, e, zero)) (two_faults (FaultOf object) tt)
     never_stages name uris NoMemory word answer zero = omega (arith, zero)
 
-    pub only_update : (ended : Ended) → AsksUpdate words → ComesTo words l n b a ended → ended_status ended ≡ 0 → (ready : ReadyToUpdate words l b) × Installs words l b ready n a ended
+    pub only_update : (ended : Ended) → AsksUpdate words b → ComesTo words l n b a ended → ended_status ended ≡ 0 → (ready : ReadyToUpdate words l b) × Installs words l b ready n a ended
     only_update _ asks (ByStages e answer same) zero = absurd (never_stages asks.0 asks.1 e asks.2 answer zero)
     only_update _ asks (ByBoot end lines word boots) zero = let never : Some RunBoot ≡ Some (RunUpdate asks.0 asks.1) = sym word ∙ asks.2 in absurd cc
     only_update _ asks (ByUpdate name uris end lines word updates) zero = of_end name uris end lines updates word zero

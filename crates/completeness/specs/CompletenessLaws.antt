@@ -9,13 +9,19 @@ use Rattle.suit_cli.specs.Coming.{Ended, ended_status}
 use Rattle.suit_cli.specs.Launching.{Launching}
 use Rattle.suit_cli.specs.Outside.{Outside, Sunk}
 use Rattle.suit_cli.specs.Program.{ComesTo, Performs}
-use Rattle.suit_cli.specs.Words.{RunBoot, RunMigrate, RunUpdate, task_of}
+use Rattle.suit_cli.specs.Words.{Named, RunBoot, RunMigrate, RunUpdate, task_of}
 use Rattle.completeness.specs.Outcomes.{AreTold, EndsWell, IsFaultless, LeavesFlash, PutsDone}
 use Rattle.completeness.specs.Updates.{Installs, Meets, Offers, ReadyToUpdate, Sets}
 use Rattle.completeness.specs.Migrations.{MigratesWhole, ReadyToMigrate}
 use Rattle.completeness.specs.Boots.{Activates, BootsWhole, ReadyToBoot, Records}
 
 -- ---- what is there
+
+-- the bytes of a file are accepted exactly where they meet what is asked of them
+abbrev pub AcceptsWhatMeets : Type 0
+AcceptsWhatMeets =
+    (frame : Frame) (layout : List Entry) (key : Key) (bytes : List ℕ) (a : Accepted)
+    → IsAccepted frame layout key bytes a ↔ Meets frame layout key bytes a
 
 -- slots and payloads for whatever is offered
 abbrev pub CanSet : Type 0
@@ -42,8 +48,8 @@ DoneBy Ready =
     → Ready words launched before → Launching → Outside → Ended → Type 0
 
 -- what is ready is done, or memory runs out and the flash is left as it was, where no fault is counted
-abbrev pub Completes : (Ready : Needs) → DoneBy Ready → Type 0
-Completes Ready IsDone =
+abbrev pub DoneWhereReady : (Ready : Needs) → DoneBy Ready → Type 0
+DoneWhereReady Ready IsDone =
     (words : List (List ℕ)) (launched now : Launching) (before after : Outside) (ended : Ended)
     (ready : Ready words launched before)
     → IsFaultless launched now before after → ComesTo words launched now before after ended
@@ -60,93 +66,55 @@ EndsWhole Ready IsDone =
     → EndsWell (IsDone words launched before ready now after)
     (LeavesFlash launched now before after) sunk_before sunk_after result
 
--- ---- `run update`
+-- ---- what is asked
 
--- the bytes of a file are accepted exactly where they meet what is asked of them
-abbrev pub AcceptsWhatMeets : Type 0
-AcceptsWhatMeets =
-    (frame : Frame) (layout : List Entry) (key : Key) (bytes : List ℕ) (a : Accepted)
-    → IsAccepted frame layout key bytes a ↔ Meets frame layout key bytes a
-
-abbrev pub AsksUpdate : List (List ℕ) → Type 0
-AsksUpdate words = (name : List ℕ) × (uris : List (List ℕ × List ℕ))
+abbrev pub AsksUpdate : List (List ℕ) → Outside → Type 0
+AsksUpdate words before = (name : List ℕ) × (uris : List Named)
     × (task_of words ≡ Some (RunUpdate name uris))
 
--- it is done only where it was ready
-abbrev pub OnlyReadyUpdates : Type 0
-OnlyReadyUpdates =
+-- on a sound flash
+pub record AsksBoot (words : List (List ℕ)) (before : Outside) : Type 0 where
+  pub asks : task_of words ≡ Some RunBoot
+  pub size : before.flash.size ≡ length before.flash.reads
+  pub sound : Sound before.flash.reads
+
+abbrev pub AsksMigrate : List (List ℕ) → Outside → Type 0
+AsksMigrate words before = (base : ℕ) × (task_of words ≡ Some (RunMigrate base))
+
+-- ---- and only then
+
+-- what is asked so is done only where it was ready
+abbrev pub DoneOnlyWhereReady : (List (List ℕ) → Outside → Type 0) → (Ready : Needs) → DoneBy Ready
+    → Type 0
+DoneOnlyWhereReady Asks Ready IsDone =
     (words : List (List ℕ)) (launched now : Launching) (before after : Outside) (ended : Ended)
-    → AsksUpdate words → AreTold launched before
+    → Asks words before → AreTold launched before
     → ComesTo words launched now before after ended → ended_status ended ≡ 0
-    → (ready : ReadyToUpdate words launched before)
-    × Installs words launched before ready now after ended
+    → (ready : Ready words launched before) × IsDone words launched before ready now after ended
 
 -- so status 0 comes only of that
-abbrev pub UpdateSaysSo : Type 0
-UpdateSaysSo =
+abbrev pub SaysSo : (List (List ℕ) → Outside → Type 0) → (Ready : Needs) → DoneBy Ready → Type 0
+SaysSo Asks Ready IsDone =
     (words : List (List ℕ)) (launched now : Launching) (before after : Outside)
     (sunk_before sunk_after : Sunk)
-    → AsksUpdate words → AreTold launched before
+    → Asks words before → AreTold launched before
     → Performs words launched now before after sunk_before sunk_after 0
-    → (ready : ReadyToUpdate words launched before)
-    × PutsDone (Installs words launched before ready now after) sunk_before sunk_after
-
--- ---- `run boot`
-
--- on a sound flash it is done only where it was ready
-abbrev pub OnlyReadyBoots : Type 0
-OnlyReadyBoots =
-    (words : List (List ℕ)) (launched now : Launching) (before after : Outside) (ended : Ended)
-    → task_of words ≡ Some RunBoot → AreTold launched before
-    → before.flash.size ≡ length before.flash.reads → Sound before.flash.reads
-    → ComesTo words launched now before after ended → ended_status ended ≡ 0
-    → (ready : ReadyToBoot words launched before)
-    × BootsWhole words launched before ready now after ended
-
-abbrev pub BootSaysSo : Type 0
-BootSaysSo =
-    (words : List (List ℕ)) (launched now : Launching) (before after : Outside)
-    (sunk_before sunk_after : Sunk)
-    → task_of words ≡ Some RunBoot → AreTold launched before
-    → before.flash.size ≡ length before.flash.reads → Sound before.flash.reads
-    → Performs words launched now before after sunk_before sunk_after 0
-    → (ready : ReadyToBoot words launched before)
-    × PutsDone (BootsWhole words launched before ready now after) sunk_before sunk_after
-
--- ---- `run migrate`
-
--- it is done only where it was ready
-abbrev pub OnlyReadyMigrations : Type 0
-OnlyReadyMigrations =
-    (words : List (List ℕ)) (launched now : Launching) (before after : Outside) (ended : Ended)
-    (base : ℕ)
-    → task_of words ≡ Some (RunMigrate base) → AreTold launched before
-    → ComesTo words launched now before after ended → ended_status ended ≡ 0
-    → (ready : ReadyToMigrate words launched before)
-    × MigratesWhole words launched before ready now after ended
-
-abbrev pub MigrateSaysSo : Type 0
-MigrateSaysSo =
-    (words : List (List ℕ)) (launched now : Launching) (before after : Outside)
-    (sunk_before sunk_after : Sunk) (base : ℕ)
-    → task_of words ≡ Some (RunMigrate base) → AreTold launched before
-    → Performs words launched now before after sunk_before sunk_after 0
-    → (ready : ReadyToMigrate words launched before)
-    × PutsDone (MigratesWhole words launched before ready now after) sunk_before sunk_after
+    → (ready : Ready words launched before)
+    × PutsDone (IsDone words launched before ready now after) sunk_before sunk_after
 
 pub record CompletenessLaws : Type 0 where
   pub accepts : AcceptsWhatMeets
   pub can_set : CanSet
   pub can_activate : CanActivate
-  pub update : Completes ReadyToUpdate Installs
+  pub update : DoneWhereReady ReadyToUpdate Installs
   pub update_ends : EndsWhole ReadyToUpdate Installs
-  pub only_update : OnlyReadyUpdates
-  pub update_says : UpdateSaysSo
-  pub boot : Completes ReadyToBoot BootsWhole
+  pub only_update : DoneOnlyWhereReady AsksUpdate ReadyToUpdate Installs
+  pub update_says : SaysSo AsksUpdate ReadyToUpdate Installs
+  pub boot : DoneWhereReady ReadyToBoot BootsWhole
   pub boot_ends : EndsWhole ReadyToBoot BootsWhole
-  pub only_boot : OnlyReadyBoots
-  pub boot_says : BootSaysSo
-  pub migrate : Completes ReadyToMigrate MigratesWhole
+  pub only_boot : DoneOnlyWhereReady AsksBoot ReadyToBoot BootsWhole
+  pub boot_says : SaysSo AsksBoot ReadyToBoot BootsWhole
+  pub migrate : DoneWhereReady ReadyToMigrate MigratesWhole
   pub migrate_ends : EndsWhole ReadyToMigrate MigratesWhole
-  pub only_migrate : OnlyReadyMigrations
-  pub migrate_says : MigrateSaysSo
+  pub only_migrate : DoneOnlyWhereReady AsksMigrate ReadyToMigrate MigratesWhole
+  pub migrate_says : SaysSo AsksMigrate ReadyToMigrate MigratesWhole

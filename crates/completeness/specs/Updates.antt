@@ -32,7 +32,7 @@ use Rattle.suit_cli.specs.Launching.{Launching}
 use Rattle.suit_cli.specs.Lines.{number_line}
 use Rattle.suit_cli.specs.Outside.{Outside}
 use Rattle.suit_cli.specs.Updating.{new_of}
-use Rattle.suit_cli.specs.Words.{RunUpdate, task_of}
+use Rattle.suit_cli.specs.Words.{Named, RunUpdate, pairs_of, task_of}
 use Rattle.completeness.specs.Outcomes.{AreTold}
 use Rattle.completeness.specs.Plays.{Completes, LeavesPlay}
 
@@ -93,13 +93,14 @@ play_of layout bytes a held sets uris before =
 pub record ReadyToUpdate (words : List (List ℕ)) (launched : Launching) (before : Outside)
     : Type 0 where
   pub name : List ℕ
-  pub uris : List (List ℕ × List ℕ)
+  pub uris : List Named
   pub asks : task_of words ≡ Some (RunUpdate name uris)
   pub told : AreTold launched before
   pub offers : Offers name before
   pub sets : Sets offers.layout offers.bytes offers.accepted offers.held
   pub completes :
-      Completes (play_of offers.layout offers.bytes offers.accepted offers.held sets uris before)
+      Completes
+      (play_of offers.layout offers.bytes offers.accepted offers.held sets (pairs_of uris) before)
 
 -- ---- the end
 
@@ -119,7 +120,7 @@ pub record Installs (words : List (List ℕ)) (launched : Launching) (before : O
       (Some (record_for ready.name before o ready.sets.numbers))
   pub left : let o = ready.offers in
       LeavesPlay ready.sets.standings
-      (play_of o.layout o.bytes o.accepted o.held ready.sets ready.uris before)
+      (play_of o.layout o.bytes o.accepted o.held ready.sets (pairs_of ready.uris) before)
       launched.launches now.launches after.flash.reads
   pub others : let o = ready.offers in
       KeepsContents o.layout o.accepted.places (procedure_of o.accepted) ready.sets.numbers

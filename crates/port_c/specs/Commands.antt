@@ -3,8 +3,17 @@ use Rattle.port_c.specs.Words.{AreWords}
 use Rattle.std.specs.Prelude.{◌≡◌, ℕ, ℤ, List, pos}
 use Rattle.suit_cli.specs.Launching.{Launching}
 use Rattle.suit_cli.specs.Outside.{Outside, Sunk}
-use Rattle.suit_cli.specs.Program.{Runs, World, world}
+use Rattle.suit_cli.specs.Program.{Runs, World}
+use Rattle.suit_edge.specs.Flash.{Flash}
 use Rattle.suit_edge.specs.FileDisk.{untold}
+
+abbrev pub world : Outside → Launching → Sunk → Flash → World
+world outside launcher sink flash = record {
+  outside = outside;
+  launcher = launcher;
+  sink = sink;
+  flash = flash;
+}
 
 -- the program was run with the words in the bytes
 pub record HasRun (bytes : List ℕ) (before after : World) (status : ℕ) : Type 0 where

@@ -1,8 +1,8 @@
 //! A command over a port.
 
-ghost use Rattle.port_c.specs.Commands.{HasRun, HasRunThere};
+ghost use Rattle.port_c.specs.Commands.{HasRun, HasRunThere, world};
 ghost use Rattle.std.specs.Prelude.{◌≡◌, ◌<◌, ◌≤◌, ◌⊎◌, ℤ, IfOk, OnErr, pos};
-ghost use Rattle.suit_cli.specs.Program.{IsStatus, world};
+ghost use Rattle.suit_cli.specs.Program.{IsStatus};
 
 use crate::words::words_of;
 use flash_layout::HEAD_SIZE;

@@ -1,5 +1,5 @@
 -- The lines of the blocks, one after another.
-use Rattle.std.proofs.Common.{◌≡◌, ℕ, suc, ◌+◌, ◌≤◌, ◌<◌, Bool, List, [], ◌∷◌, ◌++◌, length, drop, get_or, Some, refl, sym, ap, subst, ◌∙◌}
+use Rattle.std.proofs.Common.{◌≡◌, ℕ, suc, ◌+◌, ◌≤◌, ◌<◌, Bool, List, [], ◌∷◌, ◌++◌, length, drop, get_or, Some, sym, ap, subst, ◌∙◌}
 use Rattle.std.specs.List.{slice_get}
 use Rattle.std.proofs.Math.Seq.{drop-cons}
 use Rattle.std.proofs.Math.Numerals.{suc-eq-add-one}
@@ -40,9 +40,6 @@ walk_finds wrapper number rest block walks found within digest all says =
 abbrev pub Goes : List ℕ → List ℕ → ℕ → List ℕ → Type 0
 Goes wrapper old number text = (digest : Digest) (all : List (List ℕ)) → WrapperSays wrapper digest all → (rest : List ℕ) → BlockLines number (drop number all) rest
     → (lines : List ℕ) × BlockLines 0 all lines × (text ++ rest ≡ old ++ lines)
-
-pub goes_start : (wrapper old : List ℕ) → Goes wrapper old 0 old
-goes_start wrapper old digest all says rest lines = (rest, lines, refl)
 
 pub goes_on : (wrapper old text new : List ℕ) (number : ℕ) (block : List ℕ) (is_mac : Bool) → Goes wrapper old number text
     → ((digest : Digest) (all : List (List ℕ)) → WrapperSays wrapper digest all → Some block ≡ slice_get all number) → HasKind block is_mac

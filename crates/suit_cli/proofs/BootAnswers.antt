@@ -4,13 +4,14 @@ use Rattle.flash_layout.specs.declared.frame.Frame.{Frame}
 use Rattle.flash_layout.specs.declared.key.Key.{Key}
 use Rattle.flash_layout.specs.declared.layout.Entry.{Entry}
 use Rattle.std.specs.declared.alloc.AllocError.{AllocError}
-use Rattle.suit_cli.specs.declared.words.Command.{Command}
+use Rattle.command_words.specs.declared.command.Command.{Command}
+use Rattle.command_words.specs.Said.{said}
 use Rattle.suit_cli.specs.declared.reply.Reply.{Reply}
 use Rattle.suit_cli.specs.declared.reply.Outcome.TheVariants as outcomes
 use Rattle.suit_cli.specs.Texts.{usage_line}
 use Rattle.suit_cli.specs.Replies.{Makes, stop_of}
 use Rattle.suit_cli.specs.Program.{ComesTo}
-use Rattle.suit_cli.specs.Words.{Task, RunBoot, task_of, task_said}
+use Rattle.suit_cli.specs.Words.{Task, RunBoot, task_of}
 use Rattle.suit_cli.specs.Outside.{Outside}
 use Rattle.suit_cli.specs.declared.reply.Stop.{Stop}
 use Rattle.suit_cli.specs.Stages.{Ending, NoMemory, Goes, Lacks, Last, EndsWithout, Does, ending_of}
@@ -37,14 +38,14 @@ unconfigured l b a stop found = ByStages _ (stopped config_in (λ config. Last (
 -- ---- by a command
 
 -- in stages
-pub comes_command : (x y : Command) → x ≡ y → (l : Launching) (b a : Outside) (ending : Ending) → does (task_said y) b a ending
-    → Comes (does (task_said x)) (λ task. task_said x ≡ task) l l b a (Answered ending)
+pub comes_command : (x y : Command) → x ≡ y → (l : Launching) (b a : Outside) (ending : Ending) → does (said y) b a ending
+    → Comes (does (said x)) (λ task. said x ≡ task) l l b a (Answered ending)
 comes_command x y same l b a ending answer = ByStages ending (does_command x y same b a ending answer) refl
 
 -- or as it is
-pub comes_same : (x y : Command) → x ≡ y → (l m : Launching) (b a : Outside) (ended : Ended) → Comes (does (task_said y)) (λ task. task_said y ≡ task) l m b a ended
-    → Comes (does (task_said x)) (λ task. task_said x ≡ task) l m b a ended
-comes_same x y same l m b a ended comes = subst (λ (c : Command). Comes (does (task_said c)) (λ task. task_said c ≡ task) l m b a ended) (sym same) comes
+pub comes_same : (x y : Command) → x ≡ y → (l m : Launching) (b a : Outside) (ended : Ended) → Comes (does (said y)) (λ task. said y ≡ task) l m b a ended
+    → Comes (does (said x)) (λ task. said x ≡ task) l m b a ended
+comes_same x y same l m b a ended comes = subst (λ (c : Command). Comes (does (said c)) (λ task. said c ≡ task) l m b a ended) (sym same) comes
 
 -- ---- by words
 

@@ -17,8 +17,9 @@ use Rattle.suit_cli.specs.Outside.{Files, Flashed, Outside}
 use Rattle.suit_cli.specs.Stages.{Ending, Answers, Stage, Then, Goes, Declines, Faults, Lacks, Last, EndsWithout, Does, Finds, ending_of}
 use Rattle.suit_cli.specs.Replies.{Makes, stop_of}
 use Rattle.suit_cli.specs.Texts.{usage_line}
-use Rattle.suit_cli.specs.Words.{task_of, task_said}
-use Rattle.suit_cli.specs.declared.words.Command.{Command}
+use Rattle.suit_cli.specs.Words.{task_of}
+use Rattle.command_words.specs.declared.command.Command.{Command}
+use Rattle.command_words.specs.Said.{said}
 use Rattle.suit_cli.specs.Program.{task_in, answers}
 use Rattle.suit_cli.specs.Envelopes.{members_in}
 use Rattle.admission.specs.Refusals.{of_members}
@@ -96,8 +97,8 @@ pub answers_usage : (words : List (List ℕ)) (here : Outside) (made : Result Re
 answers_usage words here made stop none says is =
     subst (λ (s : Stop). answers words here here (ending_of (Err s))) (sym is) (stopped (task_in words) does here here (stop_of made) (is_usage words made none says here))
 
-pub does_command : (x y : Command) → x ≡ y → (before after : Outside) (ending : Ending) → does (task_said y) before after ending → does (task_said x) before after ending
-does_command x y same before after ending answer = subst (λ (c : Command). does (task_said c) before after ending) (sym same) answer
+pub does_command : (x y : Command) → x ≡ y → (before after : Outside) (ending : Ending) → does (said y) before after ending → does (said x) before after ending
+does_command x y same before after ending answer = subst (λ (c : Command). does (said c) before after ending) (sym same) answer
 
 pub shows_bytes : (key_name : List ℕ) (before after : Outside) (ending : Ending) (x y : List ℕ) → x ≡ y → shows_file x key_name before after ending → shows_file y key_name before after ending
 shows_bytes key_name before after ending x y same shown = subst (λ (b : List ℕ). shows_file b key_name before after ending) same shown

@@ -10,7 +10,7 @@ use Rattle.suit_cli.specs.Launching.{Launching}
 use Rattle.suit_cli.specs.Outside.{Outside}
 use Rattle.suit_cli.specs.Stages.{Ending, Says, FaultOf, NoMemory}
 use Rattle.suit_cli.specs.Statuses.{ending_status}
-use Rattle.suit_cli.specs.Words.{RunBoot, RunUpdate}
+use Rattle.suit_cli.specs.Words.{Named, RunBoot, RunUpdate, pairs_of}
 use Rattle.suit_cli.proofs.Running.{not_eight}
 use Rattle.suit_cli.proofs.RunEnds.{boot_counts}
 use Rattle.suit_cli.proofs.StagesKeep.{Counts, Unfaulted, begins_keeps}
@@ -36,7 +36,7 @@ stage_cut NoMemory b a eight counts = absurd (omega (arith, eight))
 
 -- ---- an update
 
-module _ (name : List ℕ) (uris : List (List ℕ × List ℕ)) (l m : Launching) (b a : Outside) where
+module _ (name : List ℕ) (uris : List Named) (l m : Launching) (b a : Outside) where
   pub update_whole : (ended : Ended) → Comes (begins_update name) (λ task. RunUpdate name uris ≡ task) l m b a ended → is_whole (ended_status ended) ≡ true
       → IsWhole l m b a ended
   update_whole _ (ByStages e answer same) whole =
@@ -49,7 +49,7 @@ module _ (name : List ℕ) (uris : List (List ℕ × List ℕ)) (l m : Launching
       }
   update_whole _ (ByBoot end lines is boots) whole = let never : RunUpdate name uris ≡ RunBoot = is in absurd cc
   update_whole _ (ByUpdate n us end lines is updates) whole =
-      let by = update_counts n us l m b a end lines updates in
+      let by = update_counts n (pairs_of us) l m b a end lines updates in
       record {
         host = by.only_host (other_status _ 7 whole refl) (other_status _ 8 whole refl);
         flash = by.only_flash (other_status _ 8 whole refl) (other_status _ 10 whole refl);
@@ -61,13 +61,13 @@ module _ (name : List ℕ) (uris : List (List ℕ × List ℕ)) (l m : Launching
       → Faulted b.flash.faults a.flash.faults
   update_cut _ (ByStages e answer same) eight = stage_cut e b a eight (updates_lets name b a e answer).counts
   update_cut _ (ByBoot end lines is boots) eight = let never : RunUpdate name uris ≡ RunBoot = is in absurd cc
-  update_cut _ (ByUpdate n us end lines is updates) eight = (update_counts n us l m b a end lines updates).flash eight
+  update_cut _ (ByUpdate n us end lines is updates) eight = (update_counts n (pairs_of us) l m b a end lines updates).flash eight
 
   -- it stores no file
   pub update_stays : (ended : Ended) → Comes (begins_update name) (λ task. RunUpdate name uris ≡ task) l m b a ended → IsTrue b.told → a.files ≡ b.files
   update_stays _ (ByStages e answer same) told = (updates_lets name b a e answer).leaves.files told
   update_stays _ (ByBoot end lines is boots) told = let never : RunUpdate name uris ≡ RunBoot = is in absurd cc
-  update_stays _ (ByUpdate n us end lines is updates) told = update_files n us l m b a end lines updates told
+  update_stays _ (ByUpdate n us end lines is updates) told = update_files n (pairs_of us) l m b a end lines updates told
 
 -- ---- a boot
 

@@ -13,7 +13,7 @@ use Rattle.suit_cli.specs.Coming.{Answered, Booted, Ended, StaysOrKeeps, Updated
 use Rattle.suit_cli.specs.DrillRounds.{IsCutOff, IsLeft, envelope_name}
 use Rattle.suit_cli.specs.Launching.{Launching}
 use Rattle.suit_cli.specs.Outside.{Files, Outside}
-use Rattle.suit_cli.specs.Updating.{IsDone, KeepsFlash, Offer, new_of, offer, tree_of, update_status}
+use Rattle.suit_cli.specs.Updating.{IsDone, KeepsFlash, Offer, new_of, tree_of, update_status}
 use Rattle.suit_cli.proofs.Chains.{flash_at, outside_at}
 
 module _ (told flash_told : Bool) (files : Files) (pulled : ℕ) (asked : List (List ℕ)) (faults size flash_faults : ℕ) (uris : List (List ℕ × List ℕ)) (launched later : Launching)
@@ -31,7 +31,7 @@ module _ (told flash_told : Bool) (files : Files) (pulled : ℕ) (asked : List (
   -- it was
   module _ (end : UpdateEnd) (k : KeepsFlash envelope_name uris launched later before end old new) where
     abbrev o : Offer
-    o = offer k.frame k.layout k.bytes k.accepted uris
+    o = k.o
 
     abbrev held : Option Record
     held = k.offered.0
@@ -41,36 +41,21 @@ module _ (told flash_told : Bool) (files : Files) (pulled : ℕ) (asked : List (
 
     abbrev Kept : Type 0
     Kept =
-        KeepsUpdate o.frame o.layout o.accepted.places (tree_of o.accepted) (IsDone o launched later before held old.reads) held (new_of o.frame o.accepted held old.reads digest) old new end
+        KeepsUpdate o.frame o.layout o.accepted.places (tree_of o.accepted) (IsDone o uris launched later before held old.reads) held (new_of o.frame o.accepted held old.reads digest) old new end
 
-    cut_off : IsLeft o launched later before held digest image → Stands
-    cut_off is_left = inr (record {
-      layout = k.layout;
-      key = k.key;
-      frame = k.frame;
-      config = k.config;
-      bytes = k.bytes;
-      read = k.read;
-      accepted = k.accepted;
-      is_accepted = k.is_accepted;
-      held = held;
-      record_is = k.offered.3;
-      digest = digest;
-      blocks = k.offered.2;
-      says = k.offered.4;
-      is_left = is_left;
-    })
+    cut_off : IsLeft o uris launched later before held digest image → Stands
+    cut_off is_left = inr (record { o = o; config = k.config; read = k.read; is_accepted = k.is_accepted; offered = k.offered; is_left = is_left })
 
     of_old : (kept : Kept) → IsOld o.frame o.layout o.accepted.places (tree_of o.accepted) kept.numbers held old.reads image → Stands
     of_old kept is_old = cut_off (record { numbers = kept.numbers; chosen = kept.chosen; made = kept.made; others = kept.others; stands = inl is_old })
 
-    of_new : (kept : Kept) → IsNew o.frame o.layout (new_of o.frame o.accepted held old.reads digest kept.numbers) kept.made image → IsDone o launched later before held old.reads kept.made → Stands
+    of_new : (kept : Kept) → IsNew o.frame o.layout (new_of o.frame o.accepted held old.reads digest kept.numbers) kept.made image → IsDone o uris launched later before held old.reads kept.made → Stands
     of_new kept is_new done =
         cut_off (record { numbers = kept.numbers; chosen = kept.chosen; made = kept.made; others = kept.others; stands = inr (is_new, done) })
 
     -- the old record stood at each moment, or the procedure is done
     of_either : (kept : Kept)
-        → Passes old new (IsOld o.frame o.layout o.accepted.places (tree_of o.accepted) kept.numbers held old.reads) ⊎ IsDone o launched later before held old.reads kept.made → Stands
+        → Passes old new (IsOld o.frame o.layout o.accepted.places (tree_of o.accepted) kept.numbers held old.reads) ⊎ IsDone o uris launched later before held old.reads kept.made → Stands
     of_either kept (inl stays) = of_old kept (each_now old new extent _ law stays image now)
     of_either kept (inr done) = of_moment (each_now old new extent _ law kept.any_moment image now) where
       of_moment : IsOld o.frame o.layout o.accepted.places (tree_of o.accepted) kept.numbers held old.reads image

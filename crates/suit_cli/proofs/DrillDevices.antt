@@ -1,5 +1,5 @@
 -- The device of a drill.
-use Rattle.std.proofs.Common.{◌≡◌, ◌<◌, ◌≤◌, ◌+◌, ℕ, zero, suc, List, [], ◌∷◌, length, replicate, sym, ap, subst, ◌∙◌, arith}
+use Rattle.std.proofs.Common.{◌≡◌, ◌<◌, ℕ, zero, suc, List, [], ◌∷◌, length, replicate, sym, ap, subst, ◌∙◌, arith}
 use Rattle.std.specs.List.{All, AllPairs}
 use Rattle.std.proofs.lemmas.List.{get_or-replicate, length-replicate}
 use Rattle.det_cbor.specs.Heads.{head_bytes}
@@ -13,14 +13,25 @@ use Rattle.suit_edge.specs.Moment.{after_steps, moment_of}
 use Rattle.flash_layout.specs.declared.frame.TheConstants.{VERSION_1}
 use Rattle.flash_layout.specs.declared.key.Key.{Key}
 use Rattle.flash_layout.specs.declared.layout.Entry.{Entry}
+use Rattle.flash_layout.specs.declared.layout.Memory.TheVariants as memory
 use Rattle.flash_layout.specs.Formats.{IsFormatted}
 use Rattle.flash_layout.specs.Layouts.{AreApart, IsBehindHead, IsEntry, IsLayout}
-use Rattle.rollback_record.specs.SettledLaws.{settles}
+use Rattle.rollback_record.proofs.SettledLaws.{settles}
 use Rattle.rollback_record.specs.SoundLaws.{SoundLaws}
-use Rattle.suit_cli.specs.DrillDevice.{IsFirst, device_key, device_layout, flash_entry, flash_size, ram_entry}
+use Rattle.suit_cli.specs.DrillDevice.{IsFirst, device_layout, entry_of, flash_size, key_bytes}
+use Rattle.suit_cli.specs.Devices.{key_of}
 use Rattle.suit_cli.specs.DrillRounds.{IsReady}
 
 -- ---- the layout
+
+abbrev device_key : Key
+device_key = key_of key_bytes
+
+abbrev flash_entry : Entry
+flash_entry = entry_of 0 memory.Flash 2 (49152 ∷ 114696 ∷ [])
+
+abbrev ram_entry : Entry
+ram_entry = entry_of 1 memory.Ram 1 (0 ∷ 0 ∷ [])
 
 flash_is : IsEntry VERSION_1 flash_size flash_entry
 unfolding spelled_id head_bytes

@@ -17,7 +17,7 @@ use Rattle.suit_cli.specs.Beginnings.{begins_boot, begins_update}
 use Rattle.suit_cli.specs.Coming.{Comes, Ended, StaysOrKeeps, ended_status}
 use Rattle.suit_cli.specs.DrillRounds.{BootsRound, IsReady, LivesOn, UpdatesRound, end_of, ends_so, envelope_name, is_whole}
 use Rattle.suit_cli.specs.Settling.{StaysInOrder}
-use Rattle.suit_cli.specs.Words.{RunBoot, RunUpdate, task_of}
+use Rattle.suit_cli.specs.Words.{Named, RunBoot, RunUpdate, pairs_of, task_of}
 use Rattle.suit_cli.proofs.DrillCounts.{boot_whole, update_stays}
 use Rattle.suit_cli.proofs.DrillUpdates.{boots, launching, lives_cut, lives_on, ready_cut, ready_on, seen, updates_cut, updates_whole, whole}
 use Rattle.suit_cli.proofs.DrillWords.{asked}
@@ -74,7 +74,7 @@ module _ (flash : DiskState) (passes : ℕ) (f f' : FuseState) (begun : f ≡ re
 
 -- ---- the update
 
-module _ (said : RoundSaid) (uris : List (List ℕ × List ℕ)) (words : task_of (asked said.words) ≡ Some (RunUpdate envelope_name uris))
+module _ (said : RoundSaid) (uris : List Named) (words : task_of (asked said.words) ≡ Some (RunUpdate envelope_name uris))
     (flash : DiskState) (passes : ℕ) (h h' : HostState) (f f' : FuseState) (l l' : LauncherState) (ended : Ended) (begun : f ≡ record { disk = flash; passes = passes; faults = 0 })
     (comes : Comes (begins_update envelope_name) (λ task. RunUpdate envelope_name uris ≡ task) (launching l) (launching l') (seen h f) (seen h' f') ended)
     (ready : IsReady flash) (left : DiskState) (is : left ≡ f'.disk) where
@@ -98,7 +98,7 @@ module _ (said : RoundSaid) (uris : List (List ℕ × List ℕ)) (words : task_o
       (updates_whole said uris words h h' f f' l l' ended comes ready_first.size so.0)))
 
   pub update_lost : IsSome said.cut → ended_status ended ≡ 8
-      → StaysOrKeeps envelope_name uris (launching l) (launching l') (seen h f) ended (memory_flash f.disk) (memory_flash f'.disk)
+      → StaysOrKeeps envelope_name (pairs_of uris) (launching l) (launching l') (seen h f) ended (memory_flash f.disk) (memory_flash f'.disk)
       → (kept : DiskState) → Now (memory_flash left) kept.first → (memory_flash kept).reads ≡ kept.first
       → UpdatesRound said (file_in h.files) (memory_flash flash).reads (memory_flash kept).reads Cut
   update_lost wanted eight keeps kept may reads =

@@ -11,7 +11,7 @@ use Rattle.suit_edge.specs.MemoryHost.{HostState, file_in}
 use Rattle.suit_edge.specs.MemoryLauncher.{LauncherState}
 use Rattle.suit_edge.specs.MemoryLaws.{memory_obeys}
 use Rattle.conformance.specs.Rounds.{RoundSaid}
-use Rattle.rollback_record.specs.SettledLaws.{settles}
+use Rattle.rollback_record.proofs.SettledLaws.{settles}
 use Rattle.rollback_record.specs.SoundFlash.{Settled, Sound}
 use Rattle.suit_cli.specs.declared.drill.tally.RoundEnd.TheVariants.{Cut}
 use Rattle.suit_cli.specs.Beginnings.{begins_boot, begins_update}
@@ -21,7 +21,7 @@ use Rattle.suit_cli.specs.DrillRounds.{BootsRound, Holds, IsReady, IsWhole, Live
 use Rattle.suit_cli.specs.Launching.{Launching}
 use Rattle.suit_cli.specs.Outside.{Outside}
 use Rattle.suit_cli.specs.Settling.{StaysInOrder}
-use Rattle.suit_cli.specs.Words.{RunBoot, RunUpdate, task_of}
+use Rattle.suit_cli.specs.Words.{Named, RunBoot, RunUpdate, pairs_of, task_of}
 use Rattle.suit_cli.proofs.Chains.{flash_at, outside_at}
 use Rattle.suit_cli.proofs.DrillCounts.{boot_whole, update_cut, update_whole}
 use Rattle.suit_cli.proofs.DrillCuts.{stands}
@@ -79,7 +79,7 @@ module _ (old new : FuseState) (size : length old.disk.first ≡ flash_size) (sa
 
 -- ---- the update
 
-module _ (said : RoundSaid) (uris : List (List ℕ × List ℕ)) (words : task_of (asked said.words) ≡ Some (RunUpdate envelope_name uris))
+module _ (said : RoundSaid) (uris : List Named) (words : task_of (asked said.words) ≡ Some (RunUpdate envelope_name uris))
     (h h' : HostState) (f f' : FuseState) (l l' : LauncherState) (ended : Ended)
     (comes : Comes (begins_update envelope_name) (λ task. RunUpdate envelope_name uris ≡ task) (launching l) (launching l') (seen h f) (seen h' f') ended)
     (size : length f.disk.first ≡ flash_size) where
@@ -104,7 +104,7 @@ module _ (said : RoundSaid) (uris : List (List ℕ × List ℕ)) (words : task_o
   updates_whole w = record { update = update; ends = inl (record { whole = whole w; reads = refl; end_is = refl }) }
 
   pub updates_cut : IsSome said.cut → ended_status ended ≡ 8 → Settled (memory_flash f.disk)
-      → StaysOrKeeps envelope_name uris (launching l) (launching l') (seen h f) ended (memory_flash f.disk) (memory_flash f'.disk)
+      → StaysOrKeeps envelope_name (pairs_of uris) (launching l) (launching l') (seen h f) ended (memory_flash f.disk) (memory_flash f'.disk)
       → (image : List ℕ) → Now (memory_flash f'.disk) image
       → UpdatesRound said (file_in h.files) (memory_flash f.disk).reads image Cut
   unfolding update
@@ -114,7 +114,7 @@ module _ (said : RoundSaid) (uris : List (List ℕ × List ℕ)) (words : task_o
       wanted = wanted;
       faulted = update_cut envelope_name uris (launching l) (launching l') (seen h f) (seen h' f') ended comes eight;
       stands =
-          stands true true (file_in h.files) h.pulled h.asked h.calls.faults (length f.disk.first) f.faults uris (launching l) (launching l') (memory_flash f.disk) (memory_flash f'.disk) _ (memory_obeys f'.disk) settled
+          stands true true (file_in h.files) h.pulled h.asked h.calls.faults (length f.disk.first) f.faults (pairs_of uris) (launching l) (launching l') (memory_flash f.disk) (memory_flash f'.disk) _ (memory_obeys f'.disk) settled
           image now ended keeps eight;
       end_is = refl;
     });

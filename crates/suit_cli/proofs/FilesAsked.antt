@@ -17,9 +17,9 @@ use Rattle.update_proc.specs.declared.update_end.UpdateEnd.{UpdateEnd}
 use Rattle.suit_cli.specs.declared.reply.Object.{Object}
 use Rattle.suit_cli.specs.declared.reply.Object.TheVariants as objects
 use Rattle.suit_cli.specs.declared.reply.Reply.{Reply}
-use Rattle.suit_cli.specs.Words.{Task, RunUpdate, task_of}
+use Rattle.suit_cli.specs.Words.{Named, Task, RunUpdate, pairs_of, task_of}
 use Rattle.suit_cli.specs.Outside.{Outside, Flashed, Reads, ReadsInVain, with_flash}
-use Rattle.suit_cli.specs.Stages.{Ending, Stage, judging, looking, Then, Goes, Declines, Faults, Lacks, Last, Ends, EndsWithout}
+use Rattle.suit_cli.specs.Stages.{Ending, Stage, judging, Then, Goes, Declines, Faults, Lacks, Last, Ends, EndsWithout}
 use Rattle.suit_cli.specs.Acceptance.{accepts}
 use Rattle.suit_cli.specs.Inputs.{longest_file, file}
 use Rattle.suit_cli.specs.Commands.{begins_update, does}
@@ -74,19 +74,6 @@ judging_none good bad = record {
   lacks = λ b a l. unasked_same b a l;
 }
 
-module _ {A : Type 0} (good : Flashed → A → Type 0) (bad : Flashed → Reply → Type 0) where
-  at_object : (object : Object) (b a : Outside) → (looking good bad).faults object b a → Unasked b a
-  at_object objects.Host b a f = absurd f
-  at_object objects.Flash b a f = unasked_beside b a f.beside
-
-  looking_none : AsksNone (looking good bad)
-  looking_none = record {
-    gives = λ b a x g. unasked_beside b a g.0.beside;
-    declines = λ b a r d. unasked_beside b a d.0.beside;
-    faults = at_object;
-    lacks = λ b a l. unasked_beside b a l.beside;
-  }
-
 accepts_none : (frame : Frame) (layout : List Entry) (key : Key) (bytes : List ℕ) → AsksNone (accepts frame layout key bytes)
 accepts_none frame layout key bytes = judging_none _ _
 
@@ -140,14 +127,14 @@ module _ (name : List ℕ) (uris : List (List ℕ × List ℕ)) (b : Outside) wh
   begun_asks a _ (Faults objects.Flash f) told = nothing_asked a (unasked_beside b a f.beside)
   begun_asks a _ (Lacks l) told = nothing_asked a (unasked_beside b a l.beside)
 
-pub stages_ask : (words : List (List ℕ)) (name : List ℕ) (uris : List (List ℕ × List ℕ)) → task_of words ≡ Some (RunUpdate name uris) → (b a : Outside) (e : Ending) → answers words b a e → IsTrue b.told
-    → AsksForUpdate name uris b a
+pub stages_ask : (words : List (List ℕ)) (name : List ℕ) (uris : List Named) → task_of words ≡ Some (RunUpdate name uris) → (b a : Outside) (e : Ending) → answers words b a e → IsTrue b.told
+    → AsksForUpdate name (pairs_of uris) b a
 stages_ask words name uris word b a e (Goes task c _ g rest) told =
     let here = subst (λ (t : Task). does t c a e) (same_Some task (RunUpdate name uris) (sym g.1 ∙ word)) rest in
-    begun_asks name uris b a e (subst (λ (o : Outside). begins_update name o a e) g.0 here) told
-stages_ask words name uris word b a _ (Declines r d) told = nothing_asked name uris b a (unasked_same b a d.0)
+    begun_asks name (pairs_of uris) b a e (subst (λ (o : Outside). begins_update name o a e) g.0 here) told
+stages_ask words name uris word b a _ (Declines r d) told = nothing_asked name (pairs_of uris) b a (unasked_same b a d.0)
 stages_ask words name uris word b a _ (Faults object f) told = absurd f
-stages_ask words name uris word b a _ (Lacks l) told = nothing_asked name uris b a (unasked_same b a l)
+stages_ask words name uris word b a _ (Lacks l) told = nothing_asked name (pairs_of uris) b a (unasked_same b a l)
 
 -- ---- an update
 
@@ -166,5 +153,5 @@ update_asks name uris l m b a end lines u told =
     let size : u.middle.flash.size ≡ b.flash.size = ap (λ (f : Flashed). f.size) u.read.0.flash ∙ u.held.0.still.size in
     let most : length fetched.more * (most_room u.middle.flash.size + 1) ≡ length fetched.more * (most_room b.flash.size + 1) =
     ap (λ (n : ℕ). length fetched.more * (most_room n + 1)) size in
-    AsksFile fetched.more (fetched.names ∙ ap (λ (x : List (List ℕ)). x ++ fetched.more) file ∙ append_assoc b.asked (name ∷ []) fetched.more) (named (tree_of u.accepted) uris fetched.more fetched.among)
+    AsksFile fetched.more (fetched.names ∙ ap (λ (x : List (List ℕ)). x ++ fetched.more) file ∙ append_assoc b.asked (name ∷ []) fetched.more) (named (tree_of u.o.accepted) uris fetched.more fetched.among)
     (omega (arith, fetched.pulled, most, pulled, before.pulled))

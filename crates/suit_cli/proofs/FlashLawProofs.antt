@@ -110,7 +110,7 @@ module _ (size : ℕ) (device key_name : List ℕ) (b m : Outside) (near : IsNea
           describes = device_here bytes x.0 x.1 l.1;
           has_key = key_here m1 b there.told there.files key_name key k.1;
           formatted = subst (λ (o : Outside). IsFormatted x.1 b.flash.size x.0 (key_of key) o.flash.reads) (sym same)
-              (subst (λ (n : ℕ). IsFormatted x.1 n x.0 (key_of key) m3.flash.reads) later.flash.size (f.formatted (subst IsTrue (sym later.flash.told) told)));
+              (subst (λ (n : ℕ). IsFormatted x.1 n x.0 (key_of key) m3.flash.reads) later.flash.size (f.is.1 (subst IsTrue (sym later.flash.told) told)));
         },
       )
 

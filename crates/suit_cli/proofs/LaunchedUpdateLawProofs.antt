@@ -29,34 +29,34 @@ module _ (records : SomeAnswer) where
     reads : u.middle.flash.reads ≡ image
     reads = ap (λ (f : Flashed). f.reads) u.read.0.flash ∙ u.held.0.still.reads holds.flash ∙ holds.reads
 
-    config : ConfigOf (length image) image (Configured u.layout u.key u.frame)
+    config : ConfigOf (length image) image (Configured u.o.layout u.o.key u.o.frame)
     config =
-        subst (λ (n : ℕ). ConfigOf n image (Configured u.layout u.key u.frame)) holds.size
-        (subst (λ (l : List ℕ). ConfigOf before.flash.size l (Configured u.layout u.key u.frame)) holds.reads (u.held.1 holds.flash))
+        subst (λ (n : ℕ). ConfigOf n image (Configured u.o.layout u.o.key u.o.frame)) holds.size
+        (subst (λ (l : List ℕ). ConfigOf before.flash.size l (Configured u.o.layout u.o.key u.o.frame)) holds.reads (u.held.1 holds.flash))
 
-    there : IsRead longest_file name (with_flash before u.configured.flash) u.bytes
-    there = subst (λ (x : Outside). IsRead longest_file name x u.bytes) u.held.0.beside u.read.1
+    there : IsRead longest_file name (with_flash before u.configured.flash) u.o.bytes
+    there = subst (λ (x : Outside). IsRead longest_file name x u.o.bytes) u.held.0.beside u.read.1
 
     abbrev host : Hosted
     host = hosted u.middle.told u.middle.files u.middle.asked after.asked
 
     abbrev Plays : Option Record → List (List ℕ × List ℕ) → List ℕ → List ℕ → PlanEnd → Type 0
     Plays held payloads from made play =
-        PlaysUpdate u.layout u.accepted.places (tree_of u.accepted) held (sources payloads uris host) from made launched.launches now.launches play
+        PlaysUpdate u.o.layout u.o.accepted.places (tree_of u.o.accepted) held (sources payloads uris host) from made launched.launches now.launches play
 
-    launches : (now.launches ≡ launched.launches) ⊎ LaunchesAccepted uris u.layout u.key u.bytes image launched.launches now.launches
+    launches : (now.launches ≡ launched.launches) ⊎ LaunchesAccepted uris u.o.layout u.o.key u.o.bytes image launched.launches now.launches
     launches =
-        let f = facts u.frame u.layout u.key u.bytes u.accepted u.is_accepted in
-        let some = records u.frame (head_of u.frame image) in
+        let f = facts u.o.frame u.o.layout u.o.key u.o.bytes u.o.accepted u.is_accepted in
+        let some = records u.o.frame (head_of u.o.frame image) in
         let digest : Digest = f.authentic.digest in
-        let payloads = payloads_in u.bytes u.accepted.said f.envelope in
-        let recorded : RecordOf u.frame (head_of u.frame u.middle.flash.reads) some.0 = subst (λ (l : List ℕ). RecordOf u.frame (head_of u.frame l) some.0) (sym reads) some.1 in
+        let payloads = payloads_in u.o.bytes u.o.accepted.said f.envelope in
+        let recorded : RecordOf u.o.frame (head_of u.o.frame u.middle.flash.reads) some.0 = subst (λ (l : List ℕ). RecordOf u.o.frame (head_of u.o.frame l) some.0) (sym reads) some.1 in
         let played = u.update.plays flash_told holds.launcher some.0 digest f.authentic.blocks recorded f.authentic.says payloads.0 payloads.1 in
         ⊎_elim (λ same. inl same)
         (λ play. inr (record {
-          frame = u.frame;
+          frame = u.o.frame;
           config = config;
-          accepted = u.accepted;
+          accepted = u.o.accepted;
           is_accepted = u.is_accepted;
           held = some.0;
           recorded = some.1;
@@ -68,10 +68,10 @@ module _ (records : SomeAnswer) where
           plays = subst (λ (l : List ℕ). Plays some.0 payloads.0 l play.0 play.1) reads play.2;
           gains = u.update.safe flash_told holds.launcher;
         }))
-        (some_play (Plays some.0 payloads.0 u.middle.flash.reads) _ u.layout after.flash.reads launched.launches now.launches end played)
+        (some_play (Plays some.0 payloads.0 u.middle.flash.reads) _ u.o.layout after.flash.reads launched.launches now.launches end played)
 
   pub laws : LaunchedUpdateLaws
   laws image name uris launched now before after end lines holds u =
       ⊎_elim (λ same. inl same)
-      (λ some. inr (u.layout, u.key, u.bytes, (there image name uris launched now before after end lines holds u).holds, some))
+      (λ some. inr (u.o.layout, u.o.key, u.o.bytes, (there image name uris launched now before after end lines holds u).holds, some))
       (launches image name uris launched now before after end lines holds u)

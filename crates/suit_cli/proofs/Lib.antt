@@ -54,7 +54,6 @@ pub mod UpdateLawProofs
 pub mod LifeLawProofs
 pub mod LaunchedLawProofs
 pub mod LaunchedUpdateLawProofs
-pub mod WordsLawProofs
 pub mod RunLawProofs
 pub mod BootLawProofs
 pub mod UpdateEndLawProofs

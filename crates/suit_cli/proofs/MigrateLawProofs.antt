@@ -1,14 +1,13 @@
 -- Where `run migrate` stops.
-use Rattle.std.proofs.Common.{◌≡◌, ◌<◌, ◌⊎◌, ⊎_elim, ℕ, List, refl, sym, ap, subst, ◌∙◌, arith}
-use Rattle.std.specs.Prelude.{IsTrue, codes}
+use Rattle.std.proofs.Common.{◌≡◌, ◌<◌, ◌⊎◌, ⊎_elim, ℕ, List, refl, sym, ap, subst, arith}
+use Rattle.std.specs.Prelude.{IsTrue}
 use Rattle.flash_layout.specs.declared.frame.Frame.{Frame}
 use Rattle.flash_layout.specs.declared.frame.TheConstants.{VERSION_1}
 use Rattle.flash_layout.specs.declared.key.Key.{Key}
 use Rattle.flash_layout.specs.declared.layout.Entry.{Entry}
 use Rattle.flash_layout.specs.declared.layout_fault.LayoutFault.{LayoutFault}
-use Rattle.flash_layout.specs.declared.layout_fault.LayoutFault.TheVariants.{BaseOutside, BaseOverlap}
+use Rattle.flash_layout.specs.declared.layout_fault.LayoutFault.TheVariants.{BaseOverlap}
 use Rattle.flash_layout.specs.ConfigLaws.{OneAnswer}
-use Rattle.flash_layout.specs.Configs.{Configured}
 use Rattle.flash_layout.specs.LayoutFaults.{BaseAway, IsBaseHeld, Over, RefusesBase}
 use Rattle.flash_layout.specs.Moving.{described_fault}
 use Rattle.flash_layout.specs.Overlaps.{IsFirstOver}
@@ -20,7 +19,7 @@ use Rattle.suit_cli.specs.Outside.{Flashed, IsStill, Outside}
 use Rattle.suit_cli.specs.Stages.{Declines, Goes, IsSaid, Lacks, NoMemory, Says}
 use Rattle.suit_cli.specs.Devices.{TellsLayout}
 use Rattle.suit_cli.specs.Installed.{Holds, HoldsNone}
-use Rattle.suit_cli.specs.Migrating.{AtBase, AtConfig, AtVersion, HasNoBase, IsLeft, IsSecond, MayMigrate, migrates}
+use Rattle.suit_cli.specs.Migrating.{AtBase, AtConfig, AtVersion, HasNoBase, IsLeft, MayMigrate, migrates}
 use Rattle.suit_cli.specs.MigrateLaws.{Leaves, MigrateLaws, MigrateSays, Moves}
 use Rattle.suit_cli.proofs.OneAnswers.{one_config}
 use Rattle.suit_cli.proofs.OneFlaw.{one_telling}
@@ -110,11 +109,11 @@ one_migrate configs base b t r q (Moves may says) (Moves also says') = one_reply
 
 migrate_says : (base : ℕ) (b a : Outside) (r : Reply) → migrates base b a (Says r) → MigrateSays base b r
 migrate_says base b a r (Declines _ d) = Leaves d.1
-migrate_says base b a r (Goes u m _ g (IsSaid _ same says)) = Moves g.first says
+migrate_says base b a r (Goes u m _ g (IsSaid _ same says)) = Moves g.is.0 says
 
 migrate_done : (base : ℕ) (b a : Outside) (r : Reply) → IsTrue b.flash.told → migrates base b a (Says r) → r.outcome ≡ outcomes.Done → IsMigrated base b.flash.reads a.flash.reads
 migrate_done base b a r t (Declines _ d) done = absurd (subst Declining done (left_declines base b.flash r d.1))
-migrate_done base b a r t (Goes u m _ g (IsSaid _ same says)) done = subst (λ (o : Outside). IsMigrated base b.flash.reads o.flash.reads) (sym same) (g.migrated t)
+migrate_done base b a r t (Goes u m _ g (IsSaid _ same says)) done = subst (λ (o : Outside). IsMigrated base b.flash.reads o.flash.reads) (sym same) (g.is.1 t)
 
 migrate_still : (base : ℕ) (b a : Outside) (r : Reply) → migrates base b a (Says r) → (r.outcome ≡ outcomes.Done → ⊥) → IsStill b.flash a.flash
 migrate_still base b a r (Declines _ d) never = d.0.still

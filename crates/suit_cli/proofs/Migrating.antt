@@ -15,12 +15,11 @@ use Rattle.flash_layout.specs.declared.moving.BaseFault.TheVariants as base_faul
 use Rattle.flash_layout.specs.Configs.{ConfigOf, Configured}
 use Rattle.rollback_record.specs.declared.migrating.Migrated.{Migrated}
 use Rattle.rollback_record.specs.declared.migrating.Migrated.TheVariants as answers
-use Rattle.rollback_record.specs.Migrating.{HasFirst, IfLeft, IfMigrated, IsMigrated, IsReady, MigrateCounts, MigratesExactly, OutsideMigration, TellsAlike}
+use Rattle.rollback_record.specs.Migrating.{HasFirst, IfLeft, IfMigrated, IsMigrated, IsReady, MigrateCounts, MigratesExactly, OutsideMigration, IsSameInstallation}
 use Rattle.rollback_record.specs.MigrationLaws.{MigrationLaws}
-use Rattle.rollback_record.specs.SettledLaws.{settled_still, settles}
+use Rattle.rollback_record.proofs.SettledLaws.{settled_still, settles}
 use Rattle.rollback_record.specs.SoundFlash.{Follows, Settled, Sound}
 use Rattle.rollback_record.specs.SoundLaws.{SoundLaws}
-use Rattle.suit_cli.specs.declared.reply.Object.{Object}
 use Rattle.suit_cli.specs.declared.reply.Object.TheVariants as objects
 use Rattle.suit_cli.specs.declared.reply.Outcome.{Outcome}
 use Rattle.suit_cli.specs.declared.reply.Outcome.TheVariants as outcomes
@@ -34,7 +33,7 @@ use Rattle.suit_cli.specs.Migrating.{AtBase, AtConfig, AtVersion, IfDeclined, Is
 use Rattle.suit_cli.specs.Outside.{Flashed, Looks, Outside, with_flash}
 use Rattle.suit_cli.specs.Replies.{IsReply, Makes, refused_by, stop_of}
 use Rattle.suit_cli.specs.Settling.{StaysSettled}
-use Rattle.suit_cli.specs.Stages.{Declines, Ending, Faults, Goes, IsSaid, Lacks, ending_of}
+use Rattle.suit_cli.specs.Stages.{Declines, Faults, Goes, IsSaid, Lacks, ending_of}
 use Rattle.suit_cli.proofs.Chains.{flash_at}
 use Rattle.suit_cli.proofs.Sounding.{stays_now}
 
@@ -90,7 +89,7 @@ module _ (told : Bool) (base size later : ℕ) (a b : Flash) (before now : ℕ) 
   answered (answers.Done frame) done result is says so =
       by_result result (Ok done) so
       (Goes tt last _
-      (record { beside = refl; told = refl; size = same_size; faults = is.counts; first = λ t. (is.exact t).1; migrated = is.migrated })
+      (record { beside = refl; told = refl; size = same_size; counts = is.counts; is = ((λ t. (is.exact t).1), is.migrated) })
       (IsSaid done refl says))
   answered answers.Blank done result is says so =
       leaves _ result so (λ reply given. AtConfig (IsBlank is.exact given)) (looks is.counts is.left)
@@ -104,7 +103,7 @@ module _ (told : Bool) (base size later : ℕ) (a b : Flash) (before now : ℕ) 
       leaves _ result so (λ reply tells. AtBase (record { fault = base_faults.Overlap i; refuses = is.exact; tells = tells })) (looks is.counts is.left)
   answered answers.FlashFault done result is says so =
       by_result result (Err (stops.Fault objects.Flash)) so
-      (Faults objects.Flash (record { beside = refl; told = refl; size = same_size; faulted = is.counts; kept = is.kept }))
+      (Faults objects.Flash (record { beside = refl; told = refl; size = same_size; counts = is.counts; is = is.kept }))
   answered answers.NoMemory done result is says so = by_result result (Err stops.NoMemory) so (Lacks (looks is.counts is.left))
 
 -- ---- at each moment
@@ -150,7 +149,7 @@ ready size a law P first settled = record {
   config = subst (λ (n : ℕ). ConfigOf n a.reads (Configured first.layout first.key VERSION_1)) (sym law.fits) first.config;
 }
 
-module _ (size : ℕ) (a b : Flash) (law : IsFlash a size) (any : IsReady a → Passes a b (TellsAlike a.reads)) (either : IsSame a b ⊎ HasFirst size a.reads (λ layout. Unit {0})) where
+module _ (size : ℕ) (a b : Flash) (law : IsFlash a size) (any : IsReady a → Passes a b (IsSameInstallation a.reads)) (either : IsSame a b ⊎ HasFirst size a.reads (λ layout. Unit {0})) where
   module _ (laws : SoundLaws) (alikes : MigrationLaws) where
     pub stays_sound : KeepsSound a b
     stays_sound settled = of either where
@@ -158,8 +157,8 @@ module _ (size : ℕ) (a b : Flash) (law : IsFlash a size) (any : IsReady a → 
       of (inl same) = stays_now laws a settled b same.images
       of (inr first) =
           let run = any (ready size a law (λ layout. Unit {0}) first settled) in (
-            weakens a b (TellsAlike a.reads) Sound (λ image alike. alikes.sound a.reads image alike settled.sound) run,
-            weakens a b (TellsAlike a.reads) (Follows a.reads) (λ image alike. alikes.follows a.reads image alike) run,
+            weakens a b (IsSameInstallation a.reads) Sound (λ image alike. alikes.sound a.reads image alike settled.sound) run,
+            weakens a b (IsSameInstallation a.reads) (Follows a.reads) (λ image alike. alikes.follows a.reads image alike) run,
           )
 
     pub stays_settled : IsFlash b size → (answer : Migrated) (faulted now : ℕ) → MigrateCounts answer faulted now → IfLeft answer (IsSame a b) → IfMigrated answer (IsSettled b)

@@ -12,13 +12,7 @@ use Rattle.suit_cli.specs.Stages.{Answers, Ending, Then, Goes, Declines, Faults,
 use Rattle.suit_cli.specs.Inputs.{longest_shown}
 use Rattle.suit_cli.specs.Envelopes.{manifest_in, short}
 use Rattle.suit_cli.specs.Commands.{in_file}
-use Rattle.suit_cli.specs.Opening.{IsOpened, Opens, never}
-
--- a step of the code stopped it
-pub stops_opening : (bytes : List ℕ) (result : Result Opened Stop) (stop : Stop) → IsErrAnd result (λ e. e ≡ stop)
-    → ((here : Outside) → in_file bytes never here here (ending_of (Err stop))) → Opens bytes result
-stops_opening bytes (Ok opened) stop is stops = absurd is
-stops_opening bytes (Err other) stop is stops = subst (λ (s : Stop). Opens bytes (Err s)) (sym is) stops
+use Rattle.suit_cli.specs.Opening.{IsOpened, never}
 
 -- the answer ended before the manifest
 pub ends_before : (bytes : List ℕ) (next : EnvelopeSays → Manifest → Answers) (before after : Outside) (ending : Ending) → in_file bytes never before after ending

@@ -13,7 +13,7 @@ use Rattle.invoke_proc.specs.declared.boot_end.BootEnd.{BootEnd}
 use Rattle.invoke_proc.specs.declared.boot_end.BootEnd.TheVariants as ends
 use Rattle.invoke_proc.specs.Booting.{GainsSafe}
 use Rattle.invoke_proc.specs.Counting.{BootCounts}
-use Rattle.suit_cli.specs.Words.{Task, Check, RunUpdate, RunBoot, task_of}
+use Rattle.suit_cli.specs.Words.{Named, Task, Check, RunUpdate, RunBoot, pairs_of, task_of}
 use Rattle.suit_cli.specs.Outside.{Outside, Leaves, Sunk}
 use Rattle.suit_cli.specs.Judgement.{AreSafe}
 use Rattle.suit_cli.specs.Launching.{Launching}
@@ -38,7 +38,7 @@ data Way (words : List (List ℕ)) (l m : Launching) (b a : Outside) (sb sa : Su
   InStages : Staged words b a sb sa result → m ≡ l → Way words l m b a sb sa result
   AsBoot : (end : BootEnd) (lines : List ℕ) → task_of words ≡ Some RunBoot → Boots l m b a end lines → PutsText sb sa (boot_status end) lines result
       → Way words l m b a sb sa result
-  AsUpdate : (name : List ℕ) (uris : List (List ℕ × List ℕ)) (end : UpdateEnd) (lines : List ℕ) → task_of words ≡ Some (RunUpdate name uris) → Updates name uris l m b a end lines
+  AsUpdate : (name : List ℕ) (uris : List Named) (end : UpdateEnd) (lines : List ℕ) → task_of words ≡ Some (RunUpdate name uris) → Updates name (pairs_of uris) l m b a end lines
       → PutsText sb sa (update_status end) lines result → Way words l m b a sb sa result
 
 -- ---- the status of a boot
@@ -181,21 +181,21 @@ module _ (words : List (List ℕ)) (l m : Launching) (b a : Outside) (sb sa : Su
     of_way (InStages run same) = leaves_by (task_of words) b a (answers_lets words b a run.ending run.answer).leaves
     of_way (AsBoot end lines word boots puts) = subst (λ (t : Option Task). LeavesBy t b a) (sym word) (boot_told l m b a end lines boots, boot_files l m b a end lines boots)
     of_way (AsUpdate name uris end lines word updates puts) =
-        subst (λ (t : Option Task). LeavesBy t b a) (sym word) (update_told name uris l m b a end lines updates, update_files name uris l m b a end lines updates)
+        subst (λ (t : Option Task). LeavesBy t b a) (sym word) (update_told name (pairs_of uris) l m b a end lines updates, update_files name (pairs_of uris) l m b a end lines updates)
 
-  pub asks : (name : List ℕ) (uris : List (List ℕ × List ℕ)) → task_of words ≡ Some (RunUpdate name uris) → IsTrue b.told → AsksForUpdate name uris b a
+  pub asks : (name : List ℕ) (uris : List Named) → task_of words ≡ Some (RunUpdate name uris) → IsTrue b.told → AsksForUpdate name (pairs_of uris) b a
   asks name uris is told = of_way way where
-    same_words : (other : List ℕ) (others : List (List ℕ × List ℕ)) → task_of words ≡ Some (RunUpdate other others) → AsksForUpdate other others b a → AsksForUpdate name uris b a
+    same_words : (other : List ℕ) (others : List Named) → task_of words ≡ Some (RunUpdate other others) → AsksForUpdate other (pairs_of others) b a → AsksForUpdate name (pairs_of uris) b a
     same_words other others word by =
         let both : Some (RunUpdate other others) ≡ Some (RunUpdate name uris) = sym word ∙ is in
         let one : other ≡ name = cc in
         let all : others ≡ uris = cc in
-        subst (λ (n : List ℕ). AsksForUpdate n uris b a) one (subst (λ (u : List (List ℕ × List ℕ)). AsksForUpdate other u b a) all by)
+        subst (λ (n : List ℕ). AsksForUpdate n (pairs_of uris) b a) one (subst (λ (u : List Named). AsksForUpdate other (pairs_of u) b a) all by)
 
-    of_way : Way words l m b a sb sa result → AsksForUpdate name uris b a
+    of_way : Way words l m b a sb sa result → AsksForUpdate name (pairs_of uris) b a
     of_way (InStages run same) = stages_ask words name uris is b a run.ending run.answer told
     of_way (AsBoot end lines word boots puts) = let never : Some RunBoot ≡ Some (RunUpdate name uris) = sym word ∙ is in absurd cc
-    of_way (AsUpdate other others end lines word updates puts) = same_words other others word (update_asks other others l m b a end lines updates told)
+    of_way (AsUpdate other others end lines word updates puts) = same_words other others word (update_asks other (pairs_of others) l m b a end lines updates told)
 
   pub only_launching : KeepsLauncher words l m
   only_launching never = of_way way where
@@ -209,7 +209,7 @@ module _ (words : List (List ℕ)) (l m : Launching) (b a : Outside) (sb sa : Su
     of_way : Way words l m b a sb sa result → GainsSafe l.launches m.launches
     of_way (InStages run same) = gains_none l.launches m.launches (ap (λ (x : Launching). x.launches) same)
     of_way (AsBoot end lines word boots puts) = boot_safe l m b a end lines boots flash_told launcher_told (sound word)
-    of_way (AsUpdate name uris end lines word updates puts) = update_safe name uris l m b a end lines updates flash_told launcher_told
+    of_way (AsUpdate name uris end lines word updates puts) = update_safe name (pairs_of uris) l m b a end lines updates flash_told launcher_told
 
   pub is_status : IsStatus result
   is_status = of_puts runs.puts where
@@ -261,7 +261,7 @@ module _ (words : List (List ℕ)) (l m : Launching) (b a : Outside) (sb sa : Su
     of_way (AsBoot end lines word boots puts) =
         counted_by _ _ (subst MayLaunch (sym word) tt) puts (boot_counts l m b a end lines boots)
     of_way (AsUpdate name uris end lines word updates puts) =
-        counted_by _ _ (subst MayLaunch (sym word) tt) puts (update_counts name uris l m b a end lines updates)
+        counted_by _ _ (subst MayLaunch (sym word) tt) puts (update_counts name (pairs_of uris) l m b a end lines updates)
 
   pub no_host : IsTrue b.flash.told → IsTrue l.told → task_of words ≡ Some RunBoot → result ≡ 7 → ⊥
   no_host flash_told launcher_told is_boot seven = of_way way where
@@ -279,7 +279,7 @@ module _ (words : List (List ℕ)) (l m : Launching) (b a : Outside) (sb sa : Su
         record { files = near.files; reads = near.flash.reads; launches = λ flash launcher. ap (λ (x : Launching). x.launches) same }
     of_way (AsBoot end lines word boots puts) = absurd (boot_not_eleven end (sym (put_status _ _ puts (λ nine. omega (arith, eleven, nine))) ∙ eleven))
     of_way (AsUpdate name uris end lines word updates puts) =
-        update_starved name uris l m b a records end lines updates (sym (put_status _ _ puts (λ nine. omega (arith, eleven, nine))) ∙ eleven)
+        update_starved name (pairs_of uris) l m b a records end lines updates (sym (put_status _ _ puts (λ nine. omega (arith, eleven, nine))) ∙ eleven)
 
   pub cut_off : result ≡ 9 → IsCutOff words l m b a sb sa
   cut_off nine = of_puts runs.puts where

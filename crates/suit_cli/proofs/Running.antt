@@ -94,10 +94,6 @@ pub done_safe : (u i : PlanTree) (r : Reply) → AreJudged u i r → r.outcome �
 done_safe u i r (JudgedSafe safe says) done = safe
 done_safe u i r (JudgedUnsafe outcome unsafe) done = let never = sym outcome ∙ done in absurd cc
 
-pub unsafe_shows : (u i : PlanTree) (r : Reply) → AreJudged u i r → r.outcome ≡ outcomes.Unsafe → ShowUnsafe u i r.text
-unsafe_shows u i r (JudgedSafe safe says) outcome = let never = sym says.outcome_is ∙ outcome in absurd cc
-unsafe_shows u i r (JudgedUnsafe is unsafe) outcome = unsafe
-
 -- ---- up to the manifest
 
 -- of a host that tells: it stops there, or a manifest is reached

@@ -10,7 +10,7 @@ use Rattle.flash_layout.specs.declared.frame.Frame.{Frame}
 use Rattle.flash_layout.specs.declared.key.Key.{Key}
 use Rattle.flash_layout.specs.declared.layout.Entry.{Entry}
 use Rattle.flash_layout.specs.Formats.{FormatCounts, IfFormatted, IfNotBlank, IsFormatted}
-use Rattle.rollback_record.specs.SettledLaws.{settled_still, settles}
+use Rattle.rollback_record.proofs.SettledLaws.{settled_still, settles}
 use Rattle.rollback_record.specs.SoundFlash.{Settled, Sound}
 use Rattle.rollback_record.specs.SoundLaws.{SoundLaws}
 use Rattle.step_machine.specs.PlanRuns.{Counts}

@@ -1,5 +1,5 @@
 -- A settled flash stays sound.
-use Rattle.std.proofs.Common.{◌≡◌, ◌⊎◌, inl, inr, ℕ, List, length, Option, Some, sym, ap, subst, ◌∙◌, arith}
+use Rattle.std.proofs.Common.{◌≡◌, ◌⊎◌, inl, inr, ℕ, List, length, Option, Some, sym, ap, subst, arith}
 use Rattle.std.specs.Prelude.{IsTrue}
 use Rattle.suit_edge.specs.Flash.{Flash, Now, Passes, IsFlash, IsSame}
 use Rattle.suit_edge.specs.FlashLaws.{same_flash, starts, weakens, joined}
@@ -11,13 +11,14 @@ use Rattle.flash_layout.specs.Formats.{HasOpenGate, IsFormatted}
 use Rattle.flash_layout.specs.ToldFrames.{same_config}
 use Rattle.rollback_record.specs.SoundFlash.{Follows, FollowsBlank, Settled, Sound, SoundBlank}
 use Rattle.rollback_record.specs.SoundLaws.{SoundLaws}
-use Rattle.rollback_record.specs.SettledLaws.{both, each_sound, settled_still}
+use Rattle.rollback_record.proofs.SettledLaws.{both, each_sound, settled_still}
 use Rattle.rollback_record.proofs.HeadSince.{follows_now}
 use Rattle.invoke_proc.specs.declared.boot_end.BootEnd.{BootEnd}
 use Rattle.invoke_proc.specs.declared.boot_end.BootEnd.TheVariants as ends
 use Rattle.invoke_proc.specs.Booting.{KeepsBoot, KeptSo}
-use Rattle.suit_cli.specs.Words.{Task, RunInit, RunUpdate, RunBoot, RunMigrate, task_said}
-use Rattle.suit_cli.specs.declared.words.Command.{Command}
+use Rattle.suit_cli.specs.Words.{Task, RunInit, RunUpdate, RunBoot, RunMigrate}
+use Rattle.command_words.specs.declared.command.Command.{Command}
+use Rattle.command_words.specs.Said.{said}
 use Rattle.suit_cli.specs.declared.reply.Outcome.{Outcome}
 use Rattle.suit_cli.specs.declared.reply.Outcome.TheVariants as outcomes
 use Rattle.suit_cli.specs.Outside.{Outside}
@@ -187,8 +188,8 @@ flash_by task t same l m b a ended old now passes = subst (λ (u : Option Task).
 
 -- by a command that is this one
 pub flash_as : (command one : Command) → command ≡ one → (l m : Launching) (b a : Outside) (ended : Ended) (old now : Flash)
-    → FlashPasses (Some (task_said one)) l m b a ended old now → FlashPasses (Some (task_said command)) l m b a ended old now
-flash_as command one same = flash_by _ _ (ap (λ (x : Command). Some (task_said x)) same)
+    → FlashPasses (Some (said one)) l m b a ended old now → FlashPasses (Some (said command)) l m b a ended old now
+flash_as command one same = flash_by _ _ (ap (λ (x : Command). Some (said x)) same)
 
 -- where nothing was done
 pub flash_unmoved : (laws : SoundLaws) (task : Option Task) (l m : Launching) (b : Outside) (ending : Ending) (a : Flash) → FlashPasses task l m b b (Answered ending) a a

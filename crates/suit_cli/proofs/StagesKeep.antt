@@ -6,12 +6,8 @@ use Rattle.suit_cli.specs.declared.reply.Reply.{Reply}
 use Rattle.suit_cli.specs.declared.reply.Object.{Object}
 use Rattle.suit_cli.specs.declared.reply.Object.TheVariants as objects
 use Rattle.suit_cli.specs.Outside.{Outside, Flashed, Quiet, Reads, ReadsInVain, Looks, LooksInVain, with_flash}
-use Rattle.suit_cli.specs.Stages.{Ending, Says, FaultOf, NoMemory, Answers, Stage, judging, reading, looking, at_host, at_flash, Then, Goes, Declines, Faults, Lacks, Last, Ends, EndsWithout, Said, IsSaid}
-use Rattle.flash_layout.specs.declared.key.Key.{Key}
-use Rattle.flash_layout.specs.declared.frame.Frame.{Frame}
-use Rattle.flash_layout.specs.declared.layout.Entry.{Entry}
-use Rattle.suit_cli.specs.Formatting.{formatting, FormatsInVain}
-use Rattle.suit_cli.specs.Migrating.{migrates, migrating, MigratesInVain}
+use Rattle.suit_cli.specs.Stages.{Ending, Says, FaultOf, NoMemory, Answers, Stage, judging, reading, looking, writing, at_host, at_flash, Then, Goes, Declines, Faults, Lacks, Last, Ends, EndsWithout, Said, IsSaid}
+use Rattle.suit_cli.specs.Migrating.{migrates}
 use Rattle.suit_cli.specs.Inputs.{longest_file, longest_device, longest_key}
 use Rattle.suit_cli.specs.Commands.{describes, shows, checks, inits, inits_as, begins_boot, tells_status, drills}
 use Rattle.suit_cli.specs.Program.{answers}
@@ -164,27 +160,16 @@ looking_keeps good bad = record {
   at_fault objects.Host b a f = absurd f
   at_fault objects.Flash b a f = record { quiet = beside_quiet 0 b a f.beside; faulted = flash_fault b a f.faulted f.beside }
 
-formatting_keeps : (frame : Frame) (layout : List Entry) (key : Key) → StageKeeps 0 (formatting frame layout key)
-formatting_keeps frame layout key = record {
-  gives = λ b a x g. beside_calm 0 b a g.beside g.faults;
+writing_keeps : (Written : Flashed → Flashed → Type 0) (K : ℕ → Type 0) (bad : Flashed → Reply → Type 0) → StageKeeps 0 (writing Written K bad)
+writing_keeps Written K bad = record {
+  gives = λ b a x g. beside_calm 0 b a g.beside g.counts;
   declines = λ b a r d. looks_calm b a d.0;
   faults = λ object b a f. at_fault object b a f;
   lacks = λ b a l. looks_calm b a l;
 } where
-  at_fault : (object : Object) (b a : Outside) → at_flash (FormatsInVain frame layout) object b a → Faulty 0 object b a
+  at_fault : (object : Object) (b a : Outside) → (writing Written K bad).faults object b a → Faulty 0 object b a
   at_fault objects.Host b a f = absurd f
-  at_fault objects.Flash b a f = record { quiet = beside_quiet 0 b a f.beside; faulted = flash_fault b a f.faulted f.beside }
-
-migrating_keeps : (base : ℕ) → StageKeeps 0 (migrating base)
-migrating_keeps base = record {
-  gives = λ b a x g. beside_calm 0 b a g.beside g.faults;
-  declines = λ b a r d. looks_calm b a d.0;
-  faults = λ object b a f. at_fault object b a f;
-  lacks = λ b a l. looks_calm b a l;
-} where
-  at_fault : (object : Object) (b a : Outside) → at_flash (MigratesInVain base) object b a → Faulty 0 object b a
-  at_fault objects.Host b a f = absurd f
-  at_fault objects.Flash b a f = record { quiet = beside_quiet 0 b a f.beside; faulted = flash_fault b a f.faulted f.beside }
+  at_fault objects.Flash b a f = record { quiet = beside_quiet 0 b a f.beside; faulted = flash_fault b a f.counts f.beside }
 
 said_keeps : (says : Reply → Type 0) → Keeps 0 (Said says)
 said_keeps says b a _ (IsSaid r same is) = record { quiet = same_quiet 0 b a same; counts = same_counts b a same }
@@ -214,7 +199,7 @@ shows_keeps name key_name =
 inits_as_keeps : (size : ℕ) (device key_name : List ℕ) → Keeps ((longest_device + 1) + (longest_key + 1)) (inits_as size device key_name)
 inits_as_keeps size device key_name =
     then_keeps 65537 65 _ _ (reading_keeps _ _ _ _) (λ bytes. then_keeps 0 65 _ _ (judging_keeps _ _) (λ described. then_keeps 65 0 _ _ (reading_keeps _ _ _ _) (λ key.
-    then_keeps 0 0 _ _ (formatting_keeps described.1 described.0 _) (λ u. said_keeps _))))
+    then_keeps 0 0 _ _ (writing_keeps _ _ _) (λ u. said_keeps _))))
 
 pub inits_keeps : (device key_name : List ℕ) → Keeps ((longest_device + 1) + (longest_key + 1)) (inits device key_name)
 inits_keeps device key_name = then_keeps 0 65602 _ _ (looking_keeps _ _) (λ size. inits_as_keeps size device key_name)
@@ -226,7 +211,7 @@ pub tells_keeps : Keeps 0 tells_status
 tells_keeps = then_keeps 0 0 _ _ (looking_keeps _ _) (λ config. then_keeps 0 0 _ _ (looking_keeps _ _) (λ installed. then_keeps 0 0 _ _ (looking_keeps _ _) (λ lines. last_keeps _)))
 
 pub migrates_keeps : (base : ℕ) → Keeps 0 (migrates base)
-migrates_keeps base = then_keeps 0 0 _ _ (migrating_keeps base) (λ u. said_keeps _)
+migrates_keeps base = then_keeps 0 0 _ _ (writing_keeps _ _ _) (λ u. said_keeps _)
 
 pub drills_keeps : (number : ℕ) → Keeps 0 (drills number)
 drills_keeps number = last_keeps _

@@ -21,12 +21,10 @@ use Rattle.suit_cli.specs.declared.reply.Object.TheVariants as objects
 use Rattle.suit_cli.specs.declared.reply.Reply.{Reply}
 use Rattle.suit_cli.specs.Words.{Task, Make, Describe, Show, Check, RunInit, RunUpdate, RunBoot, RunStatus, RunMigrate, Drill}
 use Rattle.suit_cli.specs.Outside.{Outside, Flashed}
-use Rattle.suit_cli.specs.Stages.{Ending, Says, FaultOf, NoMemory, Answers, Stage, judging, reading, looking, in_turn, Then, Goes, Lacks, Last, EndsWithout}
+use Rattle.suit_cli.specs.Stages.{Ending, Says, FaultOf, NoMemory, Answers, Stage, judging, reading, looking, writing, in_turn, ◌>>=◌, Then, Goes, Lacks, Last, EndsWithout, Said}
 use Rattle.suit_cli.specs.Statuses.{ending_status}
 use Rattle.suit_cli.specs.Authoring.{files_after, stores}
 use Rattle.suit_cli.specs.Acceptance.{accepts}
-use Rattle.suit_cli.specs.Formatting.{formats}
-use Rattle.suit_cli.specs.Migrating.{migrates}
 use Rattle.suit_cli.specs.Commands.{does}
 use Rattle.suit_cli.specs.Launching.{Launching, cause_status}
 use Rattle.suit_cli.specs.Booting.{boot_status}
@@ -81,13 +79,10 @@ stores_starves : (out envelope : List ℕ) → Starves (stores out envelope)
 stores_starves out envelope b a (Lacks l) = near_same b a l
 stores_starves out envelope b a (Goes u m _ s rest) = elim rest [ ]
 
-formats_starves : (frame : Frame) (layout : List Entry) (key : Key) → Starves (formats frame layout key)
-formats_starves frame layout key b a (Lacks l) = near_looks b a l
-formats_starves frame layout key b a (Goes u m _ g rest) = elim rest [ ]
-
-migrates_starves : (base : ℕ) → Starves (migrates base)
-migrates_starves base b a (Lacks l) = near_looks b a l
-migrates_starves base b a (Goes u m _ g rest) = elim rest [ ]
+writing_starves : (Written : Flashed → Flashed → Type 0) (K : ℕ → Type 0) (bad : Flashed → Reply → Type 0) (says : Reply → Type 0)
+    → Starves (writing Written K bad >>= λ _. Said says)
+writing_starves Written K bad says b a (Lacks l) = near_looks b a l
+writing_starves Written K bad says b a (Goes u m _ g rest) = elim rest [ ]
 
 accepts_nears : (frame : Frame) (layout : List Entry) (key : Key) (bytes : List ℕ) → Nears (accepts frame layout key bytes)
 accepts_nears frame layout key bytes = judging_nears _ _
@@ -108,13 +103,13 @@ does_starves (Check name) =
     then_starves _ _ (judging_nears _ _) (λ w. last_starves _)))))))
 does_starves (RunInit device key_name) =
     then_starves _ _ (looking_nears _ _) (λ size. then_starves _ _ (reading_nears _ _ _ _) (λ bytes. then_starves _ _ (judging_nears _ _) (λ described.
-    then_starves _ _ (reading_nears _ _ _ _) (λ key. formats_starves described.1 described.0 _))))
+    then_starves _ _ (reading_nears _ _ _ _) (λ key. writing_starves _ _ _ _))))
 does_starves (RunUpdate name uris) =
     then_starves _ _ (looking_nears _ _) (λ config. then_starves _ _ (reading_nears _ _ _ _) (λ bytes.
     then_starves _ _ (accepts_nears config.2 config.0 config.1 bytes) (λ accepted. last_starves _)))
 does_starves RunBoot = then_starves _ _ (looking_nears _ _) (λ config. last_starves _)
 does_starves RunStatus = then_starves _ _ (looking_nears _ _) (λ config. then_starves _ _ (looking_nears _ _) (λ installed. then_starves _ _ (looking_nears _ _) (λ lines. last_starves _)))
-does_starves (RunMigrate base) = migrates_starves base
+does_starves (RunMigrate base) = writing_starves _ _ _ _
 does_starves (Drill number) = last_starves _
 
 answers_starves : (words : List (List ℕ)) → Starves (answers words)
@@ -143,17 +138,17 @@ boot_not_eleven _ eleven = omega (arith, eleven)
 
 module _ (name : List ℕ) (uris : List (List ℕ × List ℕ)) (l m : Launching) (b a : Outside) where
   update_found : (lines : List ℕ) (u : Updates name uris l m b a update_ends.NoMemory lines)
-      → (IsTrue b.flash.told → (held : Option Record) × RecordOf u.frame (head_of u.frame b.flash.reads) held) → AsFound l m b a
+      → (IsTrue b.flash.told → (held : Option Record) × RecordOf u.o.frame (head_of u.o.frame b.flash.reads) held) → AsFound l m b a
   update_found lines u recorded =
-      let f = facts u.frame u.layout u.key u.bytes u.accepted u.is_accepted in
+      let f = facts u.o.frame u.o.layout u.o.key u.o.bytes u.o.accepted u.is_accepted in
       let digest : Digest = f.authentic.digest in
-      let states : WrapperSays u.accepted.said.wrapper digest f.authentic.blocks = f.authentic.says in
-      let payloads = payloads_in u.bytes u.accepted.said f.envelope in
+      let states : WrapperSays u.o.accepted.said.wrapper digest f.authentic.blocks = f.authentic.says in
+      let payloads = payloads_in u.o.bytes u.o.accepted.said f.envelope in
       let same_told = u.read.0.quiet.told ∙ ap (λ (o : Outside). o.told) u.held.0.beside in
       let flash_told = ap (λ (x : Flashed). x.told) u.read.0.flash ∙ u.held.0.still.told in
       let reads : IsTrue b.flash.told → u.middle.flash.reads ≡ b.flash.reads = λ t. ap (λ (x : Flashed). x.reads) u.read.0.flash ∙ u.held.0.still.reads t in
-      let there : (t : IsTrue b.flash.told) → RecordOf u.frame (head_of u.frame u.middle.flash.reads) (recorded t).0 =
-      λ t. subst (λ (x : List ℕ). RecordOf u.frame (head_of u.frame x) (recorded t).0) (sym (reads t)) (recorded t).1 in
+      let there : (t : IsTrue b.flash.told) → RecordOf u.o.frame (head_of u.o.frame u.middle.flash.reads) (recorded t).0 =
+      λ t. subst (λ (x : List ℕ). RecordOf u.o.frame (head_of u.o.frame x) (recorded t).0) (sym (reads t)) (recorded t).1 in
       record {
         files = λ t. update_files name uris l m b a update_ends.NoMemory lines u t;
         reads = λ t. u.update.left (subst IsTrue (sym flash_told) t) (recorded t).0 digest f.authentic.blocks (there t) states ∙ reads t;
@@ -162,6 +157,6 @@ module _ (name : List ℕ) (uris : List (List ℕ × List ℕ)) (l m : Launching
       }
 
   pub update_starved : SomeAnswer → (end : UpdateEnd) (lines : List ℕ) → Updates name uris l m b a end lines → update_status end ≡ 11 → AsFound l m b a
-  update_starved records update_ends.NoMemory lines u eleven = update_found lines u (λ t. records u.frame (head_of u.frame b.flash.reads))
+  update_starved records update_ends.NoMemory lines u eleven = update_found lines u (λ t. records u.o.frame (head_of u.o.frame b.flash.reads))
   update_starved records (update_ends.Stopped place cause) lines u eleven = absurd (cause_not_eleven cause eleven)
   update_starved records _ lines u eleven = absurd (omega (arith, eleven))

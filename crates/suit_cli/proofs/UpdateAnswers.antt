@@ -19,9 +19,9 @@ use Rattle.update_proc.specs.Updates.{PlaysToEnd}
 use Rattle.update_proc.proofs.Reread.{keeps_from, kept_from}
 use Rattle.suit_cli.specs.declared.reply.Reply.{Reply}
 use Rattle.suit_cli.specs.declared.reply.Stop.{Stop}
-use Rattle.suit_cli.specs.Words.{RunUpdate}
+use Rattle.suit_cli.specs.Words.{Named, RunUpdate, pairs_of}
 use Rattle.suit_cli.specs.Outside.{Files, Outside}
-use Rattle.suit_cli.specs.Stages.{Ending, Answers, Goes, Last, EndsWithout, Does, ending_of, ◌>>=◌}
+use Rattle.suit_cli.specs.Stages.{Ending, NoMemory, Answers, Goes, Lacks, Last, EndsWithout, Does, ending_of, ◌>>=◌}
 use Rattle.suit_cli.specs.Inputs.{longest_file, IsRead, file}
 use Rattle.suit_cli.specs.Installed.{config_in}
 use Rattle.suit_cli.specs.Launching.{Launching}
@@ -31,6 +31,7 @@ use Rattle.suit_cli.specs.Coming.{Comes, ByStages, ByUpdate, Ended, Answered, Bo
 use Rattle.suit_cli.specs.Updating.{IsDone, KeepsOffer, offer}
 use Rattle.suit_cli.proofs.AcceptedFacts.{facts}
 use Rattle.suit_cli.proofs.Chains.{stopped}
+use Rattle.suit_cli.proofs.Initing.{looks_self}
 use Rattle.suit_cli.proofs.UpdateSound.{has_offer}
 
 abbrev Nothing : Answers
@@ -41,7 +42,11 @@ OfFile frame layout key name = file longest_file name >>= λ bytes. accepts fram
 
 -- ---- in stages
 
-module _ (name : List ℕ) (uris : List (List ℕ × List ℕ)) (l : Launching) (b : Outside) where
+-- memory ran out before anything was done
+pub starved_update : (name : List ℕ) (uris : List Named) (l : Launching) (b : Outside) → Comes (does (RunUpdate name uris)) (λ task. RunUpdate name uris ≡ task) l l b b (Answered NoMemory)
+starved_update name uris l b = ByStages NoMemory (Lacks (looks_self b)) refl
+
+module _ (name : List ℕ) (uris : List Named) (l : Launching) (b : Outside) where
   abbrev Comes_to : Launching → Outside → Ended → Type 0
   Comes_to m a ended = Comes (does (RunUpdate name uris)) (λ task. RunUpdate name uris ≡ task) l m b a ended
 
@@ -63,21 +68,17 @@ module _ (name : List ℕ) (uris : List (List ℕ × List ℕ)) (l : Launching) 
 
       -- and behind that
       pub comes_updated : (m : Launching) (a : Outside) (accepted : Accepted) → IsAccepted frame layout key bytes accepted → (ended : Ended)
-          → UpdatesBy (offer frame layout bytes accepted uris) l m d a ended → Comes_to m a ended
+          → UpdatesBy (offer frame layout key bytes accepted) (pairs_of uris) l m d a ended → Comes_to m a ended
       comes_updated m a accepted is (Answered ending) by =
           ByStages ending (Goes (layout, key, frame) c ending held (Goes bytes d ending read (Goes accepted d ending (refl, is)
           (subst (λ (e : Ending). Last (λ (reply : Reply). ⊥) d a e) (sym by.0) (EndsWithout by.1))))) by.2
       comes_updated m a accepted is (Booted end lines) by = absurd by
       comes_updated m a accepted is (Updated end lines) by = ByUpdate name uris end lines refl (record {
-        layout = layout;
-        key = key;
-        frame = frame;
+        o = offer frame layout key bytes accepted;
         configured = c;
         held = held;
-        bytes = bytes;
         middle = d;
         read = read;
-        accepted = accepted;
         is_accepted = is;
         update = by.0;
         lines_are = by.1;
@@ -92,15 +93,22 @@ pub unaccepted_as : (frame : Frame) (layout : List Entry) (key : Key) (x y : Lis
 unaccepted_as frame layout key x y same stop found = subst (λ (bytes : List ℕ). (here : Outside) → Does (accepts frame layout key bytes) here here (Err stop)) same found
 
 -- and what it is offered as
-pub updates_as : (frame : Frame) (layout : List Entry) (x y : List ℕ) → x ≡ y → (a : Accepted) (uris : List (List ℕ × List ℕ)) (l m : Launching) (before after : Outside) (ended : Ended)
-    → UpdatesBy (offer frame layout x a uris) l m before after ended → UpdatesBy (offer frame layout y a uris) l m before after ended
-updates_as frame layout x y same a uris l m before after ended by = subst (λ (bytes : List ℕ). UpdatesBy (offer frame layout bytes a uris) l m before after ended) same by
+pub updates_as : (frame : Frame) (layout : List Entry) (key : Key) (x y : List ℕ) → x ≡ y → (a : Accepted) (u v : List (List ℕ × List ℕ)) → u ≡ v → (l m : Launching) (before after : Outside) (ended : Ended)
+    → UpdatesBy (offer frame layout key x a) u l m before after ended → UpdatesBy (offer frame layout key y a) v l m before after ended
+updates_as frame layout key x y same a u v is l m before after ended by =
+    subst (λ (uris : List (List ℕ × List ℕ)). UpdatesBy (offer frame layout key y a) uris l m before after ended) is
+    (subst (λ (bytes : List ℕ). UpdatesBy (offer frame layout key bytes a) u l m before after ended) same by)
 
 -- ---- at each moment
 
-pub keeps_as : (frame : Frame) (layout : List Entry) (x y : List ℕ) → x ≡ y → (a : Accepted) (uris : List (List ℕ × List ℕ)) (l m : Launching) (before : Outside) (ended : Ended) (old now : Flash)
-    → KeepsAccepted (offer frame layout x a uris) l m before ended old now → KeepsAccepted (offer frame layout y a uris) l m before ended old now
-keeps_as frame layout x y same a uris l m before ended old now kept = subst (λ (bytes : List ℕ). KeepsAccepted (offer frame layout bytes a uris) l m before ended old now) same kept
+pub keeps_as : (frame : Frame) (layout : List Entry) (key : Key) (x y : List ℕ) → x ≡ y → (a : Accepted) (uris : List (List ℕ × List ℕ)) (l m : Launching) (before : Outside) (ended : Ended) (old now : Flash)
+    → KeepsAccepted (offer frame layout key x a) uris l m before ended old now → KeepsAccepted (offer frame layout key y a) uris l m before ended old now
+keeps_as frame layout key x y same a uris l m before ended old now kept = subst (λ (bytes : List ℕ). KeepsAccepted (offer frame layout key bytes a) uris l m before ended old now) same kept
+
+-- by the same names for URIs
+pub keeps_named : (name : List ℕ) (u v : List (List ℕ × List ℕ)) → u ≡ v → (l m : Launching) (before : Outside) (ended : Ended) (old now : Flash)
+    → StaysOrKeeps name u l m before ended old now → StaysOrKeeps name v l m before ended old now
+keeps_named name u v is l m before ended old now keeps = subst (λ (uris : List (List ℕ × List ℕ)). StaysOrKeeps name uris l m before ended old now) is keeps
 
 -- behind the looks at the configuration and at the file
 
@@ -108,13 +116,13 @@ module _ (name : List ℕ) (uris : List (List ℕ × List ℕ)) (l m : Launching
     (size : ℕ) (is_size : before.flash.size ≡ size) (a b c : Flash) (law_a : IsFlash a size) (law_b : IsFlash b size) (same : IsSame a b)
     (layout : List Entry) (key : Key) (frame : Frame) (allowed : IsAllowed frame size layout key) (config : ConfigOf size a.reads (Configured layout key frame))
     (settled : Settled a) (bytes : List ℕ) (read : IsRead longest_file name before bytes) (x : Accepted) (is : IsAccepted frame layout key bytes x) (configs : OneAnswer) where
-  done_since : (held : Option Record) (made : List ℕ) → IsDone (offer frame layout bytes x uris) l m middle held b.reads made → IsDone (offer frame layout bytes x uris) l m before held a.reads made
+  done_since : (held : Option Record) (made : List ℕ) → IsDone (offer frame layout key bytes x) uris l m middle held b.reads made → IsDone (offer frame layout key bytes x) uris l m before held a.reads made
   done_since held made did host launcher =
       subst (λ (r : List ℕ). PlaysToEnd layout x.places (update_tree x.manifest x.members) held bytes uris before.files r l.launches m.launches made) same.reads
       (subst (λ (f : Files). PlaysToEnd layout x.places (update_tree x.manifest x.members) held bytes uris f b.reads l.launches m.launches made) (files_are host)
       (did (subst IsTrue (sym told_is) host) launcher))
 
-  kept_since : (end : UpdateEnd) → KeepsOffer (offer frame layout bytes x uris) l m middle end b c → KeepsOffer (offer frame layout bytes x uris) l m before end a c
+  kept_since : (end : UpdateEnd) → KeepsOffer (offer frame layout key bytes x) uris l m middle end b c → KeepsOffer (offer frame layout key bytes x) uris l m before end a c
   kept_since end kept held digest blocks there said =
       kept_from _ _ _ _
       (keeps_from a b c same frame size law_a layout allowed.layout_is x.places (update_tree x.manifest x.members) held key config settled there
@@ -122,17 +130,13 @@ module _ (name : List ℕ) (uris : List (List ℕ × List ℕ)) (l m : Launching
       (same_flash_then a b c size law_b same) end
       (kept held digest blocks (subst (λ (l : List ℕ). RecordOf frame (head_of frame l) held) (sym same.reads) there) said)
 
-  pub keeps_since : (ended : Ended) → KeepsAccepted (offer frame layout bytes x uris) l m middle ended b c → StaysOrKeeps name uris l m before ended a c
+  pub keeps_since : (ended : Ended) → KeepsAccepted (offer frame layout key bytes x) uris l m middle ended b c → StaysOrKeeps name uris l m before ended a c
   keeps_since (Answered ending) still = same_flash_then a b c size law_b same still
   keeps_since (Booted end lines) still = same_flash_then a b c size law_b same still
   keeps_since (Updated end lines) kept = record {
-    layout = layout;
-    key = key;
-    frame = frame;
+    o = offer frame layout key bytes x;
     config = subst (λ (n : ℕ). ConfigOf n a.reads (Configured layout key frame)) (sym is_size) config;
-    bytes = bytes;
     read = read;
-    accepted = x;
     is_accepted = is;
     offered =
         has_offer configs frame layout key a.reads (subst (λ (n : ℕ). ConfigOf n a.reads (Configured layout key frame)) (sym law_a.fits) config) bytes x

@@ -35,17 +35,17 @@ use Rattle.suit_cli.specs.UpdateEndLaws.{Beside, UpdateEnds, IsLower, IsOther, I
 use Rattle.suit_cli.proofs.AcceptedFacts.{facts}
 use Rattle.suit_cli.proofs.OneStage.{one_envelope, one_manifest, one_read}
 
-module _ (o : Offer) (launched now : Launching) (before after : Outside) where
+module _ (o : Offer) (uris : List (List ℕ × List ℕ)) (launched now : Launching) (before after : Outside) where
   abbrev IsJudgedSo : UpdateEnd → Type 0
   IsJudgedSo end = Beside o before (λ number digest held. JudgedSo number digest held end)
 
   abbrev IsPlayedSo : UpdateEnd → Type 0
   IsPlayedSo end =
       Beside o before (λ number digest held. (payloads : List (List ℕ × List ℕ)) → HasPayloads o.bytes payloads
-      → PlayedSo (λ made play. (since : List (List ℕ)) × PlaysUpdate o.layout o.accepted.places (tree_of o.accepted) held (sources payloads o.uris (hosted before.told before.files since after.asked)) before.flash.reads made launched.launches now.launches play)
+      → PlayedSo (λ made play. (since : List (List ℕ)) × PlaysUpdate o.layout o.accepted.places (tree_of o.accepted) held (sources payloads uris (hosted before.told before.files since after.asked)) before.flash.reads made launched.launches now.launches play)
       (after.flash.reads ≡ before.flash.reads) o.layout after.flash.reads launched.launches now.launches end)
 
-  of_end : (end : UpdateEnd) → IsJudgedSo end → IsPlayedSo end → UpdateEnds o launched now before after end
+  of_end : (end : UpdateEnd) → IsJudgedSo end → IsPlayedSo end → UpdateEnds o uris launched now before after end
   of_end (ends.Lower recorded offered) j p = IsLower recorded offered j
   of_end (ends.OtherDigest recorded offered) j p = IsOther recorded offered j
   of_end ends.Worn j p = IsWorn j
@@ -71,7 +71,7 @@ somewhere P Same layout after launched now ends.NoMemory since p = p
 module _ (name : List ℕ) (uris : List (List ℕ × List ℕ)) (launched now : Launching) (before after : Outside) (end : UpdateEnd) (lines : List ℕ) (told : IsTrue before.told) (flash_told : IsTrue before.flash.told)
     (launcher : IsTrue launched.told) (u : Updates name uris launched now before after end lines) where
   abbrev o : Offer
-  o = offer u.frame u.layout u.bytes u.accepted uris
+  o = u.o
 
   here_told : u.configured.told ≡ before.told
   here_told = ap (λ (x : Outside). x.told) u.held.0.beside
@@ -88,40 +88,40 @@ module _ (name : List ℕ) (uris : List (List ℕ × List ℕ)) (launched now : 
   reads : u.middle.flash.reads ≡ before.flash.reads
   reads = ap (λ (f : Flashed). f.reads) u.read.0.flash ∙ u.held.0.still.reads flash_told
 
-  read : IsRead longest_file name before u.bytes
+  read : IsRead longest_file name before u.o.bytes
   read =
-      let there : IsRead longest_file name (with_flash before u.configured.flash) u.bytes = subst (λ (x : Outside). IsRead longest_file name x u.bytes) u.held.0.beside u.read.1 in
+      let there : IsRead longest_file name (with_flash before u.configured.flash) u.o.bytes = subst (λ (x : Outside). IsRead longest_file name x u.o.bytes) u.held.0.beside u.read.1 in
       record { holds = there.holds; fits = there.fits }
 
-  judged : IsJudgedSo o launched now before after end
+  judged : IsJudgedSo o uris launched now before after end
   judged held digest blocks record_is says =
-      u.update.judged flash_tells held digest blocks (subst (λ (l : List ℕ). RecordOf u.frame (head_of u.frame l) held) (sym reads) record_is) says
+      u.update.judged flash_tells held digest blocks (subst (λ (l : List ℕ). RecordOf u.o.frame (head_of u.o.frame l) held) (sym reads) record_is) says
 
   abbrev Plays : Option Record → List (List ℕ × List ℕ) → Bool → (List ℕ → Option (List ℕ)) → List ℕ → Type 0
   Plays held payloads t f l =
-      PlayedSo (λ made play. PlaysUpdate u.layout u.accepted.places (tree_of u.accepted) held (sources payloads uris (hosted t f u.middle.asked after.asked)) l made launched.launches now.launches play)
-      (after.flash.reads ≡ l) u.layout after.flash.reads launched.launches now.launches end
+      PlayedSo (λ made play. PlaysUpdate u.o.layout u.o.accepted.places (tree_of u.o.accepted) held (sources payloads uris (hosted t f u.middle.asked after.asked)) l made launched.launches now.launches play)
+      (after.flash.reads ≡ l) u.o.layout after.flash.reads launched.launches now.launches end
 
-  played : IsPlayedSo o launched now before after end
+  played : IsPlayedSo o uris launched now before after end
   played held digest blocks record_is says payloads has =
-      somewhere (λ made play since. PlaysUpdate u.layout u.accepted.places (tree_of u.accepted) held (sources payloads uris (hosted before.told before.files since after.asked)) before.flash.reads made launched.launches now.launches play)
-      (after.flash.reads ≡ before.flash.reads) u.layout after.flash.reads launched.launches now.launches end u.middle.asked
+      somewhere (λ made play since. PlaysUpdate u.o.layout u.o.accepted.places (tree_of u.o.accepted) held (sources payloads uris (hosted before.told before.files since after.asked)) before.flash.reads made launched.launches now.launches play)
+      (after.flash.reads ≡ before.flash.reads) u.o.layout after.flash.reads launched.launches now.launches end u.middle.asked
       (subst (λ (t : Bool). Plays held payloads t before.files before.flash.reads) (u.read.0.quiet.told ∙ here_told)
       (subst (λ (f : List ℕ → Option (List ℕ)). Plays held payloads u.middle.told f before.flash.reads) files
       (subst (λ (l : List ℕ). Plays held payloads u.middle.told u.middle.files l) reads
-      (u.update.plays flash_tells launcher held digest blocks (subst (λ (l : List ℕ). RecordOf u.frame (head_of u.frame l) held) (sym reads) record_is) says payloads has))))
+      (u.update.plays flash_tells launcher held digest blocks (subst (λ (l : List ℕ). RecordOf u.o.frame (head_of u.o.frame l) held) (sym reads) record_is) says payloads has))))
 
   pub only : UpdateIsCaused name uris launched now before after end lines
   only = record {
-    layout = u.layout;
-    key = u.key;
-    frame = u.frame;
+    layout = u.o.layout;
+    key = u.o.key;
+    frame = u.o.frame;
     config = u.held.1;
-    bytes = u.bytes;
+    bytes = u.o.bytes;
     read = read;
-    accepted = u.accepted;
+    accepted = u.o.accepted;
     is_accepted = u.is_accepted;
-    ends = of_end o launched now before after end judged played;
+    ends = of_end o uris launched now before after end judged played;
     lines_are = u.lines_are;
   }
 
@@ -207,7 +207,7 @@ module _ (configs : OneAnswer) (envelopes : EnvelopeLaws) (manifests : ManifestL
     leads : (other : Judged) (e : UpdateEnd) → IsEndOf other e → IsJudged u.accepted.manifest.sequence f.digest f.held other → IsEndOf verdict e ⊎ IsNoEnd e
     leads other e is j = inl (subst (λ v. IsEndOf v e) (is_verdict other j) is)
 
-    by_end : (e : UpdateEnd) → UpdateEnds (offer u.frame u.layout u.bytes u.accepted uris) launched now before after e → IsEndOf verdict e ⊎ IsNoEnd e
+    by_end : (e : UpdateEnd) → UpdateEnds (offer u.frame u.layout u.key u.bytes u.accepted) uris launched now before after e → IsEndOf verdict e ⊎ IsNoEnd e
     by_end _ (IsLower recorded offered j) = leads (verdicts.Lower recorded offered) (ends.Lower recorded offered) refl (j f.held f.digest f.blocks recorded_there states)
     by_end _ (IsOther recorded offered j) = leads (verdicts.OtherDigest recorded offered) (ends.OtherDigest recorded offered) refl (j f.held f.digest f.blocks recorded_there states)
     by_end _ (IsWorn j) = leads verdicts.Worn ends.Worn refl (j f.held f.digest f.blocks recorded_there states)

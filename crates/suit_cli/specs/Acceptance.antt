@@ -12,17 +12,14 @@ use Rattle.flash_layout.specs.Placement.{ArePlaces}
 use Rattle.rollback_record.specs.SoundFlash.{key_bytes}
 use Rattle.admission.specs.declared.admitting.Admitted.{Admitted}
 use Rattle.admission.specs.declared.refusal.NotAdmitted.{NotAdmitted}
-use Rattle.admission.specs.Admission.{Admission, IsAdmitted, IsNotAdmitted, admission_of}
+use Rattle.admission.specs.Admission.{IsAdmitted, IsNotAdmitted, admission_of}
+pub use Rattle.admission.specs.Admission.{Admission as Accepted}
 use Rattle.suit_cli.specs.declared.reply.Reply.{Reply}
 use Rattle.suit_cli.specs.declared.reply.Stop.{Stop}
 use Rattle.suit_cli.specs.Refusals.{TellsRefusal}
 use Rattle.suit_cli.specs.Stages.{Stage, Finds, judging}
 use Rattle.suit_cli.specs.Envelopes.{AreBytes, IsShort, ManifestOf}
 use Rattle.suit_cli.specs.Judgement.{AreSafe, IsNarrow}
-
--- an installable envelope, its manifest, the places of the manifest's components in the layout, and its members
-abbrev pub Accepted : Type 0
-Accepted = Admission
 
 -- the bytes are admitted so, under the layout and the key of a flash with this frame, whose banks hold the envelope
 abbrev pub IsAccepted : Frame → List Entry → Key → List ℕ → Accepted → Type 0

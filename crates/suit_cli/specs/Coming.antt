@@ -10,7 +10,7 @@ use Rattle.invoke_proc.specs.Booting.{KeepsBoot, KeptSo}
 use Rattle.update_proc.specs.declared.update_end.UpdateEnd.{UpdateEnd}
 use Rattle.suit_cli.specs.declared.answer.Answer.{Answer}
 use Rattle.suit_cli.specs.declared.answer.Answer.TheVariants as said
-use Rattle.suit_cli.specs.Words.{Task, RunBoot, RunUpdate}
+use Rattle.suit_cli.specs.Words.{Named, Task, RunBoot, RunUpdate, pairs_of}
 use Rattle.suit_cli.specs.Outside.{Outside}
 use Rattle.suit_cli.specs.Stages.{Ending, NoMemory, Answers, ending_of}
 use Rattle.suit_cli.specs.Statuses.{ending_status, ending_text}
@@ -47,8 +47,9 @@ pub data Comes (stages : Answers) (Is : Task → Type 0) (launched now : Launchi
       → Comes stages Is launched now before after (Answered ending)
   ByBoot : (end : BootEnd) (lines : List ℕ) → Is RunBoot → Boots launched now before after end lines
       → Comes stages Is launched now before after (Booted end lines)
-  ByUpdate : (name : List ℕ) (uris : List (List ℕ × List ℕ)) (end : UpdateEnd) (lines : List ℕ)
-      → Is (RunUpdate name uris) → Updates name uris launched now before after end lines
+  ByUpdate : (name : List ℕ) (uris : List Named) (end : UpdateEnd) (lines : List ℕ)
+      → Is (RunUpdate name uris)
+      → Updates name (pairs_of uris) launched now before after end lines
       → Comes stages Is launched now before after (Updated end lines)
 
 -- each image that a power loss may leave on the way is sound, and goes on from what reads gave at the start
@@ -88,10 +89,11 @@ BootKeepsBy config ended old now =
     BootedSo (KeepsBoot config.2 config.0 config.1 old now) (IsSame old now) ended
 
 -- the same, once an envelope was accepted
-abbrev pub KeepsAccepted : Offer → Launching → Launching → Outside → Ended → Flash → Flash → Type 0
-KeepsAccepted o launched later before (Updated end lines) old now =
-    KeepsOffer o launched later before end old now
-KeepsAccepted o launched later before _ old now = IsSame old now
+abbrev pub KeepsAccepted : Offer → List (List ℕ × List ℕ) → Launching → Launching → Outside
+    → Ended → Flash → Flash → Type 0
+KeepsAccepted o uris launched later before (Updated end lines) old now =
+    KeepsOffer o uris launched later before end old now
+KeepsAccepted o uris launched later before _ old now = IsSame old now
 
 -- of a run of calls, no more than that
 abbrev pub PassesAny : Flash → Flash → Type 0
@@ -112,10 +114,11 @@ BootsBy config launched now before after (Booted end lines) =
 BootsBy config launched now before after (Updated end lines) = ⊥
 
 -- from what was accepted on: memory runs out for the lines; or it is an update
-abbrev pub UpdatesBy : Offer → Launching → Launching → Outside → Outside → Ended → Type 0
-UpdatesBy o launched now before after (Answered ending) =
+abbrev pub UpdatesBy : Offer → List (List ℕ × List ℕ) → Launching → Launching → Outside → Outside
+    → Ended → Type 0
+UpdatesBy o uris launched now before after (Answered ending) =
     IsUndone launched now before after ending
-UpdatesBy o launched now before after (Booted end lines) = ⊥
-UpdatesBy o launched now before after (Updated end lines) =
-    IsUpdate o launched now before after end
+UpdatesBy o uris launched now before after (Booted end lines) = ⊥
+UpdatesBy o uris launched now before after (Updated end lines) =
+    IsUpdate o uris launched now before after end
     × (lines ≡ update_line o.accepted.manifest.sequence end)

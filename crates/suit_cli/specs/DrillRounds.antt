@@ -9,30 +9,24 @@ use Rattle.suit_edge.specs.declared.launch.Launch.{Launch}
 use Rattle.suit_edge.specs.Faults.{Faulted}
 use Rattle.suit_edge.specs.MemoryHost.{HostState, file_in}
 use Rattle.suit_edge.specs.MemoryDisk.{DiskState, memory_flash}
-use Rattle.suit_envelope.specs.WrapperParts.{WrapperSays}
 use Rattle.suit_params.specs.declared.digest.Digest.{Digest}
-use Rattle.flash_layout.specs.declared.frame.Frame.{Frame}
-use Rattle.flash_layout.specs.declared.key.Key.{Key}
-use Rattle.flash_layout.specs.declared.layout.Entry.{Entry}
 use Rattle.flash_layout.specs.declared.slot.Record.{Record}
 use Rattle.flash_layout.specs.Configs.{ConfigOf, Configured}
-use Rattle.flash_layout.specs.Frames.{head_of}
-use Rattle.rollback_record.specs.HeadRecord.{RecordOf}
 use Rattle.rollback_record.specs.SoundFlash.{Follows, HoldsSame, Settled, Sound}
 use Rattle.update_proc.specs.declared.update_end.UpdateEnd.TheVariants as ends
 use Rattle.update_proc.specs.Choices.{AreChosen, active_slots}
 use Rattle.update_proc.specs.Moments.{IsNew, IsOld, KeepsContents}
 use Rattle.suit_cli.specs.declared.drill.tally.RoundEnd.{RoundEnd}
 use Rattle.suit_cli.specs.declared.drill.tally.RoundEnd.TheVariants.{Installed, Stopped, Cut}
-use Rattle.suit_cli.specs.Acceptance.{Accepted, IsAccepted}
+use Rattle.suit_cli.specs.Acceptance.{IsAccepted}
 use Rattle.suit_cli.specs.Beginnings.{begins_boot, begins_update}
 use Rattle.suit_cli.specs.Coming.{Comes, Ended, Updated, ended_status}
 use Rattle.suit_cli.specs.DrillDevice.{flash_size, key_bytes}
 use Rattle.suit_cli.specs.Inputs.{IsRead, longest_file}
 use Rattle.suit_cli.specs.Launching.{Launching}
 use Rattle.suit_cli.specs.Outside.{Files, Outside}
-use Rattle.suit_cli.specs.Updating.{IsDone, Offer, new_of, offer, tree_of}
-use Rattle.suit_cli.specs.Words.{RunBoot, RunUpdate, Task, task_of}
+use Rattle.suit_cli.specs.Updating.{HasOffer, IsDone, Offer, new_of, tree_of}
+use Rattle.suit_cli.specs.Words.{Named, RunBoot, RunUpdate, Task, pairs_of, task_of}
 
 -- ---- the outside of a round
 
@@ -69,7 +63,7 @@ pub record IsWhole (launched now : Launching) (before after : Outside) (ended : 
 
 -- `run update` of the envelope, with the round's words, on this image
 pub record UpdateComes (said : RoundSaid) (files : Files) (image : List ℕ) : Type 0 where
-  pub uris : List (List ℕ × List ℕ)
+  pub uris : List Named
   pub words :
       task_of (codes "run" ∷ codes "update" ∷ envelope_name ∷ said.words)
       ≡ Some (RunUpdate envelope_name uris)
@@ -99,8 +93,9 @@ pub record EndsWhole (said : RoundSaid) (files : Files) (image : List ℕ)
 
 -- The image has the old record, and no content changed but those of slots that may be written; or it has the new record,
 -- and the contents that the procedure made, which was done.
-pub record IsLeft (o : Offer) (launched now : Launching) (before : Outside) (held : Option Record)
-    (digest : Digest) (left : List ℕ) : Type 0 where
+pub record IsLeft (o : Offer) (uris : List (List ℕ × List ℕ)) (launched now : Launching)
+    (before : Outside) (held : Option Record) (digest : Digest) (left : List ℕ)
+    : Type 0 where
   pub numbers : List ℕ
   pub chosen :
       AreChosen o.layout o.accepted.places (tree_of o.accepted) (active_slots held) numbers
@@ -113,28 +108,19 @@ pub record IsLeft (o : Offer) (launched now : Launching) (before : Outside) (hel
       ⊎
       (IsNew o.frame o.layout (new_of o.frame o.accepted held before.flash.reads digest numbers)
       made left
-      × IsDone o launched now before held before.flash.reads made)
+      × IsDone o uris launched now before held before.flash.reads made)
 
 -- the update of an accepted envelope left it
 pub record IsCutOff (uris : List (List ℕ × List ℕ)) (launched now : Launching) (before : Outside)
     (left : List ℕ) : Type 0 where
-  pub layout : List Entry
-  pub key : Key
-  pub frame : Frame
+  pub o : Offer
   pub config :
       ConfigOf before.flash.size before.flash.reads
-      (Configured layout key frame)
-  pub bytes : List ℕ
-  pub read : IsRead longest_file envelope_name before bytes
-  pub accepted : Accepted
-  pub is_accepted : IsAccepted frame layout key bytes accepted
-  pub held : Option Record
-  pub record_is : RecordOf frame (head_of frame before.flash.reads) held
-  pub digest : Digest
-  pub blocks : List (List ℕ)
-  pub says : WrapperSays accepted.said.wrapper digest blocks
-  pub is_left :
-      IsLeft (offer frame layout bytes accepted uris) launched now before held digest left
+      (Configured o.layout o.key o.frame)
+  pub read : IsRead longest_file envelope_name before o.bytes
+  pub is_accepted : IsAccepted o.frame o.layout o.key o.bytes o.accepted
+  pub offered : HasOffer o.frame before.flash.reads o.accepted.said.wrapper
+  pub is_left : IsLeft o uris launched now before offered.0 offered.1 left
 
 -- The flash lost its power, as was wanted, and this image was left: by an update that had begun, or with the contents of
 -- before.
@@ -142,7 +128,7 @@ pub record EndsCut (said : RoundSaid) (files : Files) (image : List ℕ)
     (u : UpdateComes said files image) (left : List ℕ) (end : RoundEnd) : Type 0 where
   pub wanted : IsSome said.cut
   pub faulted : Faulted u.before.flash.faults u.after.flash.faults
-  pub stands : HoldsSame image left ⊎ IsCutOff u.uris u.launched u.now u.before left
+  pub stands : HoldsSame image left ⊎ IsCutOff (pairs_of u.uris) u.launched u.now u.before left
   pub end_is : end ≡ Cut
 
 -- it came to its end, or was cut
@@ -214,8 +200,16 @@ pub record HostsRound (said : RoundSaid) (host : HostState) : Type 0 where
 
 -- the names of files by their URIs, of an update
 abbrev pub uris_asked : Option Task → Option (List (List ℕ × List ℕ))
-uris_asked (Some (RunUpdate name uris)) = Some uris
+uris_asked (Some (RunUpdate name uris)) = Some (pairs_of uris)
 uris_asked _ = None
+
+-- these are the names by URIs that `run update` with these words has
+pub record AsksUpdate (words : List (List ℕ)) (uris : List (List ℕ × List ℕ)) : Type 0 where
+  pub named : List Named
+  pub asks :
+      task_of (codes "run" ∷ codes "update" ∷ envelope_name ∷ words)
+      ≡ Some (RunUpdate envelope_name named)
+  pub uris_are : uris ≡ pairs_of named
 
 -- the words of a shape
 abbrev pub AreWords : List (List ℕ) → Type 0

@@ -9,7 +9,8 @@ use Rattle.suit_manifest.specs.declared.manifest.Manifest.{Manifest}
 use Rattle.suit_manifest.specs.declared.manifest.Members.{Members}
 use Rattle.suit_manifest.specs.declared.members.MemberFault.{MemberFault}
 use Rattle.suit_manifest.specs.MembersApart.{HasMembers, LacksMembers}
-use Rattle.admission.specs.Opening.{HasManifest, HasNoManifest, trimmed_size}
+use Rattle.admission.specs.Opening.{trimmed_size}
+pub use Rattle.admission.specs.Opening.{HasManifest as ManifestOf, HasNoManifest as RefusesItsManifest}
 use Rattle.admission.specs.Refusals.{of_members}
 use Rattle.suit_cli.specs.declared.reply.Reply.{Reply}
 use Rattle.suit_cli.specs.declared.reply.Outcome.TheVariants as outcomes
@@ -47,12 +48,6 @@ abbrev pub short : ℕ → EnvelopeSays → Stage (Unit {0})
 short limit said = judging (λ _. IsShort limit said) (IsLong limit said)
 
 -- ---- its manifest
-
-abbrev pub ManifestOf : EnvelopeSays → Manifest → Type 0
-ManifestOf said manifest = HasManifest said manifest
-
-abbrev pub RefusesItsManifest : EnvelopeSays → Refusal → Type 0
-RefusesItsManifest said r = HasNoManifest said r
 
 abbrev pub manifest_in : EnvelopeSays → Stage Manifest
 manifest_in said = judging (ManifestOf said) (IsRefused (RefusesItsManifest said))

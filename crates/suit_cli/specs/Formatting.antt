@@ -1,8 +1,6 @@
 -- The stages that find a flash blank and format it, and what a power loss on the way leaves.
 use Rattle.std.specs.Prelude.{◌≡◌, ◌⊎◌, ℕ, IsTrue, List, codes}
-use Rattle.suit_edge.specs.Faults.{Faulted}
 use Rattle.suit_edge.specs.Flash.{Flash, Now}
-use Rattle.suit_edge.specs.Ranges.{SameOn}
 use Rattle.flash_layout.specs.declared.frame.Frame.{Frame}
 use Rattle.flash_layout.specs.declared.key.Key.{Key}
 use Rattle.flash_layout.specs.declared.layout.Entry.{Entry}
@@ -10,8 +8,8 @@ use Rattle.flash_layout.specs.Formats.{HasOpenGate, IsFormatted, IsBlankOrFormat
 use Rattle.suit_cli.specs.declared.reply.Reply.{Reply}
 use Rattle.suit_cli.specs.declared.reply.Outcome.TheVariants as outcomes
 use Rattle.suit_cli.specs.Replies.{IsReply}
-use Rattle.suit_cli.specs.Outside.{Outside, Flashed, Looks, with_flash}
-use Rattle.suit_cli.specs.Stages.{Stage, Answers, looking, at_flash, ◌>>=◌, Said}
+use Rattle.suit_cli.specs.Outside.{Outside, Flashed}
+use Rattle.suit_cli.specs.Stages.{Stage, Answers, looking, writing, ◌>>=◌, Said}
 use Rattle.suit_cli.specs.Inputs.{longest_device, IsRead, IsKey}
 use Rattle.suit_cli.specs.Devices.{IsDevice, key_of}
 
@@ -36,34 +34,14 @@ unused = looking IsUnused IsInUse
 -- ---- the format
 
 -- the flash has the layout and the key, no record, and each slot empty
-pub record Formats (frame : Frame) (layout : List Entry) (key : Key) (before after : Outside)
-    : Type 0 where
-  pub beside : after ≡ with_flash before after.flash
-  pub told : after.flash.told ≡ before.flash.told
-  pub size : after.flash.size ≡ before.flash.size
-  pub faults : after.flash.faults ≡ before.flash.faults
-  pub shut : IsShut before.flash
-  pub formatted : IsTrue before.flash.told
-      → IsFormatted frame before.flash.size layout key after.flash.reads
-
--- the flash counted a fault; nothing has changed but what formatting writes
-pub record FormatsInVain (frame : Frame) (layout : List Entry) (before after : Outside)
-    : Type 0 where
-  pub beside : after ≡ with_flash before after.flash
-  pub told : after.flash.told ≡ before.flash.told
-  pub size : after.flash.size ≡ before.flash.size
-  pub faulted : Faulted before.flash.faults after.flash.faults
-  pub kept : IsTrue before.flash.told
-      → SameOn (OutsideFormat frame layout) before.flash.reads after.flash.reads
+abbrev pub Formats : Frame → List Entry → Key → Flashed → Flashed → Type 0
+Formats frame layout key old new =
+    IsShut old × (IsTrue old.told → IsFormatted frame old.size layout key new.reads)
 
 -- it declines where a gate is open after all, which no flash that tells can do behind the stage that found both shut
 abbrev pub formatting : Frame → List Entry → Key → Stage (Unit {0})
-formatting frame layout key = record {
-  gives = λ before after _. Formats frame layout key before after;
-  declines = λ before after reply. Looks before after × IsInUse before.flash reply;
-  faults = at_flash (FormatsInVain frame layout);
-  lacks = Looks;
-}
+formatting frame layout key =
+    writing (Formats frame layout key) (OutsideFormat frame layout) IsInUse
 
 abbrev pub formats : Frame → List Entry → Key → Answers
 formats frame layout key =

@@ -35,7 +35,6 @@ pub mod DescribingCauses
 pub mod UpdateCauses
 pub mod Program
 pub mod Opening
-pub mod WordsLaws
 pub mod DrillLaws
 pub mod CommandLaws
 pub mod DescribingLaws

@@ -1,8 +1,6 @@
 -- The stage that migrates a flash to layout version 2, and how it keeps the flash.
-use Rattle.std.specs.Prelude.{◌≡◌, ◌⊎◌, ℕ, IsTrue, List, Result, Ok, Err, codes}
-use Rattle.suit_edge.specs.Faults.{Faulted}
+use Rattle.std.specs.Prelude.{◌≡◌, ◌⊎◌, ℕ, IsTrue, Result, Ok, Err, codes}
 use Rattle.suit_edge.specs.Flash.{Flash, IsSame, Passes}
-use Rattle.suit_edge.specs.Ranges.{SameOn}
 use Rattle.flash_layout.specs.declared.layout_fault.LayoutFault.TheVariants as faults
 use Rattle.flash_layout.specs.declared.moving.BaseFault.{BaseFault}
 use Rattle.flash_layout.specs.LayoutFaults.{IsBaseHeld, RefusesBase}
@@ -10,7 +8,7 @@ use Rattle.flash_layout.specs.Moving.{described_fault}
 use Rattle.flash_layout.specs.Roots.{second_frame}
 use Rattle.rollback_record.specs.declared.migrating.Migrated.{Migrated}
 use Rattle.rollback_record.specs.declared.migrating.Migrated.TheVariants as answers
-use Rattle.rollback_record.specs.Migrating.{HasFirst, HasSecond, IsMigrated, OutsideMigration, TellsAlike}
+use Rattle.rollback_record.specs.Migrating.{HasFirst, HasSecond, IsMigrated, OutsideMigration, IsSameInstallation}
 use Rattle.rollback_record.specs.SoundFlash.{Settled}
 use Rattle.suit_cli.specs.declared.reply.Object.TheVariants as objects
 use Rattle.suit_cli.specs.declared.reply.Outcome.{Outcome}
@@ -19,8 +17,8 @@ use Rattle.suit_cli.specs.declared.reply.Reply.{Reply}
 use Rattle.suit_cli.specs.declared.reply.Stop.{Stop}
 use Rattle.suit_cli.specs.declared.reply.Stop.TheVariants as stops
 use Rattle.suit_cli.specs.Replies.{IsReply}
-use Rattle.suit_cli.specs.Outside.{Outside, Flashed, Looks, with_flash}
-use Rattle.suit_cli.specs.Stages.{Stage, Answers, Ending, Says, FaultOf, NoMemory, at_flash, ◌>>=◌, Said}
+use Rattle.suit_cli.specs.Outside.{Flashed}
+use Rattle.suit_cli.specs.Stages.{Stage, Answers, Ending, Says, FaultOf, NoMemory, writing, ◌>>=◌, Said}
 use Rattle.suit_cli.specs.Devices.{TellsLayout}
 use Rattle.suit_cli.specs.Installed.{HoldsNone}
 
@@ -54,31 +52,12 @@ MayMigrate base flash =
     → HasFirst flash.size flash.reads (IsBaseHeld (second_frame base) flash.size)
 
 -- it has version 2 with that base, and tells what it told
-pub record Migrates (base : ℕ) (before after : Outside) : Type 0 where
-  pub beside : after ≡ with_flash before after.flash
-  pub told : after.flash.told ≡ before.flash.told
-  pub size : after.flash.size ≡ before.flash.size
-  pub faults : after.flash.faults ≡ before.flash.faults
-  pub first : MayMigrate base before.flash
-  pub migrated : IsTrue before.flash.told
-      → IsMigrated base before.flash.reads after.flash.reads
-
--- the flash counted a fault; nothing has changed but what migration writes
-pub record MigratesInVain (base : ℕ) (before after : Outside) : Type 0 where
-  pub beside : after ≡ with_flash before after.flash
-  pub told : after.flash.told ≡ before.flash.told
-  pub size : after.flash.size ≡ before.flash.size
-  pub faulted : Faulted before.flash.faults after.flash.faults
-  pub kept : IsTrue before.flash.told
-      → SameOn (OutsideMigration base) before.flash.reads after.flash.reads
+abbrev pub Migrates : ℕ → Flashed → Flashed → Type 0
+Migrates base old new =
+    MayMigrate base old × (IsTrue old.told → IsMigrated base old.reads new.reads)
 
 abbrev pub migrating : ℕ → Stage (Unit {0})
-migrating base = record {
-  gives = λ before after _. Migrates base before after;
-  declines = λ before after reply. Looks before after × IsLeft base before.flash reply;
-  faults = at_flash (MigratesInVain base);
-  lacks = Looks;
-}
+migrating base = writing (Migrates base) (OutsideMigration base) (IsLeft base)
 
 abbrev pub migrates : ℕ → Answers
 migrates base =
@@ -90,7 +69,7 @@ migrates base =
 -- the flash has version 1; where it was settled, a power loss since leaves an image that tells what reads gave
 pub record TellsOn (before : Flashed) (old now : Flash) : Type 0 where
   pub first : HasFirst before.size before.reads (λ layout. Unit {0})
-  pub alike : Settled old → Passes old now (TellsAlike old.reads)
+  pub alike : Settled old → Passes old now (IsSameInstallation old.reads)
 
 abbrev pub StaysOrTells : Flashed → Flash → Flash → Type 0
 StaysOrTells before old now = IsSame old now ⊎ TellsOn before old now

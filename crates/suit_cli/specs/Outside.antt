@@ -111,6 +111,15 @@ pub record LooksInVain (before after : Outside) : Type 0 where
   pub still : IsStill before.flash after.flash
   pub faulted : Faulted before.flash.faults after.flash.faults
 
+-- only the flash was written: it keeps its size, and it and its count of faults are so
+pub record Writes (Counts : ℕ → ℕ → Type 0) (Is : Flashed → Flashed → Type 0)
+    (before after : Outside) : Type 0 where
+  pub beside : after ≡ with_flash before after.flash
+  pub told : after.flash.told ≡ before.flash.told
+  pub size : after.flash.size ≡ before.flash.size
+  pub counts : Counts before.flash.faults after.flash.faults
+  pub is : Is before.flash after.flash
+
 -- the sink at a moment: the bytes that were put, where it tells of them
 pub record Sunk : Type 0 where
   pub told : Bool

@@ -9,7 +9,7 @@ use Rattle.rollback_record.specs.SoundFlash.{Settled}
 use Rattle.path_model.specs.Settings.{found_under}
 use Rattle.suit_cli.specs.declared.reply.Outcome.TheVariants as outcomes
 use Rattle.suit_cli.specs.Texts.{usage_line}
-use Rattle.suit_cli.specs.Words.{Task, Make, Describe, Show, Check, RunInit, RunUpdate, RunBoot, RunMigrate, task_of}
+use Rattle.suit_cli.specs.Words.{Task, Make, Describe, Show, Check, RunInit, RunUpdate, RunBoot, RunMigrate, pairs_of, task_of}
 use Rattle.suit_cli.specs.Replies.{IsReply}
 use Rattle.suit_cli.specs.Outside.{Outside, Files, Sunk, Leaves}
 use Rattle.suit_cli.specs.Stages.{Stage, judging, Answers, ◌>>=◌}
@@ -177,11 +177,11 @@ IsNamed uris name = (uri : List ℕ) × (found_under uris uri ≡ Some name)
 pub data AsksForUpdate (name : List ℕ) (uris : List (List ℕ × List ℕ)) (before after : Outside)
     : Type 0 where
   AsksNothing : after.asked ≡ before.asked
-      → after.pulled ≤ before.pulled + most_pulled (Some (RunUpdate name uris)) before.files
+      → after.pulled ≤ before.pulled + (longest_file + 1)
       → AsksForUpdate name uris before after
   AsksFile : (fetched : List (List ℕ)) → after.asked ≡ before.asked ++ name ∷ fetched
       → AllByRecursion (IsNamed uris) fetched
-      → after.pulled ≤ before.pulled + most_pulled (Some (RunUpdate name uris)) before.files
+      → after.pulled ≤ before.pulled + (longest_file + 1)
       + length fetched * (most_room before.flash.size + 1)
       → AsksForUpdate name uris before after
 
@@ -271,7 +271,7 @@ IfBoots _ P = Unit {0}
 -- procedure may write, of any flash. A migration keeps what a settled flash of version 1 tells, and any other flash as it is.
 abbrev pub KeepsFor : Option Task → Launching → Launching → Outside → Ended → Flash → Flash → Type 0
 KeepsFor (Some (RunUpdate name uris)) launched later before ended old now =
-    Settled old → StaysOrKeeps name uris launched later before ended old now
+    Settled old → StaysOrKeeps name (pairs_of uris) launched later before ended old now
 KeepsFor (Some RunBoot) launched later before ended old now = BootKeeps before ended old now
 KeepsFor (Some (RunMigrate base)) launched later before ended old now =
     MigrateKeeps before ended old now
@@ -294,14 +294,6 @@ pub record World : Type 1 where
   pub launcher : Launching
   pub sink : Sunk
   pub flash : Flash
-
-abbrev pub world : Outside → Launching → Sunk → Flash → World
-world outside launcher sink flash = record {
-  outside = outside;
-  launcher = launcher;
-  sink = sink;
-  flash = flash;
-}
 
 -- The words had an answer, which was put. A flash that tells was kept at each moment as that very answer says, and so that a
 -- power loss leaves no other image than these.

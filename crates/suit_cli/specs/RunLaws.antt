@@ -1,7 +1,7 @@
 -- Consequences of the answer to the words and its put, whatever the objects are.
 use Rattle.std.specs.Prelude.{◌≡◌, ℕ, IsTrue, List, Some, None}
 use Rattle.suit_commands.specs.Tree.{PlanTree}
-use Rattle.suit_cli.specs.Words.{RunBoot, RunUpdate, task_of}
+use Rattle.suit_cli.specs.Words.{Named, RunBoot, RunUpdate, pairs_of, task_of}
 use Rattle.suit_cli.specs.Outside.{Outside, Sunk}
 use Rattle.suit_cli.specs.Judgement.{AreSafe}
 use Rattle.suit_cli.specs.Launching.{Launching}
@@ -24,9 +24,9 @@ pub record HoldsOfRun (words : List (List ℕ)) (launched now : Launching) (befo
   -- No file changes but the one that `make` stores, and there is a limit to what is read.
   pub stays : LeavesBy (task_of words) before after
   -- `run update` asks for its file, and then only for files that its words name
-  pub asks : (name : List ℕ) (uris : List (List ℕ × List ℕ))
+  pub asks : (name : List ℕ) (uris : List Named)
       → task_of words ≡ Some (RunUpdate name uris) → IsTrue before.told
-      → AsksForUpdate name uris before after
+      → AsksForUpdate name (pairs_of uris) before after
   -- statuses 7 to 10 come of faults, and the counts stand otherwise
   pub counts : AreCounted words launched now before after sunk_before sunk_after result
   -- usage, only where the words are no command,

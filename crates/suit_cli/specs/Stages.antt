@@ -1,11 +1,13 @@
 -- An answer is made in stages, one after another.
-use Rattle.std.specs.Prelude.{◌≡◌, ◌⊎◌, ℕ, List, Result, Ok, Err}
+use Rattle.std.specs.Prelude.{◌≡◌, ◌⊎◌, ℕ, IsTrue, List, Result, Ok, Err}
+use Rattle.suit_edge.specs.Faults.{Faulted}
+use Rattle.suit_edge.specs.Ranges.{SameOn}
 use Rattle.suit_cli.specs.declared.reply.Object.{Object}
 use Rattle.suit_cli.specs.declared.reply.Object.TheVariants as objects
 use Rattle.suit_cli.specs.declared.reply.Reply.{Reply}
 use Rattle.suit_cli.specs.declared.reply.Stop.{Stop}
 use Rattle.suit_cli.specs.declared.reply.Stop.TheVariants as stops
-use Rattle.suit_cli.specs.Outside.{Outside, Flashed, Reads, ReadsInVain, Looks, LooksInVain}
+use Rattle.suit_cli.specs.Outside.{Outside, Flashed, Reads, ReadsInVain, Looks, LooksInVain, Writes}
 
 -- the ending of an answer
 pub data Ending : Type 0 where
@@ -59,6 +61,18 @@ looking good bad = record {
   gives = λ before after a. Looks before after × good before.flash a;
   declines = λ before after reply. Looks before after × bad before.flash reply;
   faults = at_flash LooksInVain;
+  lacks = Looks;
+}
+
+-- Writing changes nothing but the flash, and leaves it so. Where the flash counted a fault it keeps the places of K; where the
+-- stage declines, nothing was written.
+abbrev pub writing : (Flashed → Flashed → Type 0) → (ℕ → Type 0) → (Flashed → Reply → Type 0)
+    → Stage (Unit {0})
+writing Written K bad = record {
+  gives = λ before after _. Writes (λ faults now. now ≡ faults) Written before after;
+  declines = λ before after reply. Looks before after × bad before.flash reply;
+  faults =
+      at_flash (Writes Faulted (λ old new. IsTrue old.told → SameOn K old.reads new.reads));
   lacks = Looks;
 }
 

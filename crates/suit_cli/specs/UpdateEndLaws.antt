@@ -37,42 +37,43 @@ IsJudgedAs o before verdict =
     Beside o before (λ number digest held. IsJudged number digest held verdict)
 
 -- it may be recorded, and its update procedure was played to this end, with the payloads of the file
-abbrev pub PlayedBeside : Offer → Launching → Launching → Outside → Outside → PlanEnd → Type 0
-PlayedBeside o launched now before after end =
+abbrev pub PlayedBeside : Offer → List (List ℕ × List ℕ) → Launching → Launching → Outside
+    → Outside → PlanEnd → Type 0
+PlayedBeside o uris launched now before after end =
     Beside o before (λ number digest held.
     IsAcceptable number digest held
     × ((payloads : List (List ℕ × List ℕ)) → HasPayloads o.bytes payloads
     → PlaysAndLeaves
     (λ made play. (since : List (List ℕ))
     × PlaysUpdate o.layout o.accepted.places (tree_of o.accepted) held
-    (sources payloads o.uris (hosted before.told before.files since after.asked))
+    (sources payloads uris (hosted before.told before.files since after.asked))
     before.flash.reads made launched.launches now.launches play)
     o.layout after.flash.reads end))
 
-pub data UpdateEnds (o : Offer) (launched now : Launching) (before after : Outside)
-    : UpdateEnd → Type 0 where
+pub data UpdateEnds (o : Offer) (uris : List (List ℕ × List ℕ)) (launched now : Launching)
+    (before after : Outside) : UpdateEnd → Type 0 where
   -- status 5, `rollback: recorded N, offered M`
   IsLower : (recorded offered : ℕ) → IsJudgedAs o before (judged.Lower recorded offered)
-      → UpdateEnds o launched now before after (ends.Lower recorded offered)
+      → UpdateEnds o uris launched now before after (ends.Lower recorded offered)
   -- status 5, `rollback: number N has another manifest`
   IsOther : (recorded offered : Digest) → IsJudgedAs o before (judged.OtherDigest recorded offered)
-      → UpdateEnds o launched now before after (ends.OtherDigest recorded offered)
+      → UpdateEnds o uris launched now before after (ends.OtherDigest recorded offered)
   -- status 19, `record worn`
-  IsWorn : IsJudgedAs o before judged.Worn → UpdateEnds o launched now before after ends.Worn
+  IsWorn : IsJudgedAs o before judged.Worn → UpdateEnds o uris launched now before after ends.Worn
   -- status 0, `installed N`
-  IsInstalled : (installed : Record) → PlayedBeside o launched now before after plays.Done
-      → UpdateEnds o launched now before after (ends.Installed installed)
+  IsInstalled : (installed : Record) → PlayedBeside o uris launched now before after plays.Done
+      → UpdateEnds o uris launched now before after (ends.Installed installed)
   -- status 6, `stopped at P: condition failed`
   IsStopped : (place : ℕ)
-      → PlayedBeside o launched now before after (plays.ConditionFailed place)
-      → UpdateEnds o launched now before after (ends.Condition place)
+      → PlayedBeside o uris launched now before after (plays.ConditionFailed place)
+      → UpdateEnds o uris launched now before after (ends.Condition place)
   -- status 6, `stopped at P: WHY`; 7, 8 or 10 where an object failed in a directive
   IsFailed : (place : ℕ) (cause : Cause)
-      → PlayedBeside o launched now before after (plays.DirectiveFailed place cause)
-      → UpdateEnds o launched now before after (ends.Stopped place cause)
+      → PlayedBeside o uris launched now before after (plays.DirectiveFailed place cause)
+      → UpdateEnds o uris launched now before after (ends.Stopped place cause)
   -- status 8, where the flash failed outside of the procedure, or 11
-  FlashFailed : UpdateEnds o launched now before after ends.FlashFault
-  MemoryRanOut : UpdateEnds o launched now before after ends.NoMemory
+  FlashFailed : UpdateEnds o uris launched now before after ends.FlashFault
+  MemoryRanOut : UpdateEnds o uris launched now before after ends.NoMemory
 
 -- the file was accepted under the configuration of the flash, and its end has that cause and that line
 pub record UpdateIsCaused (name : List ℕ) (uris : List (List ℕ × List ℕ)) (launched now : Launching)
@@ -86,7 +87,7 @@ pub record UpdateIsCaused (name : List ℕ) (uris : List (List ℕ × List ℕ))
   pub accepted : Accepted
   pub is_accepted : IsAccepted frame layout key bytes accepted
   pub ends :
-      UpdateEnds (offer frame layout bytes accepted uris) launched now before after end
+      UpdateEnds (offer frame layout key bytes accepted) uris launched now before after end
   pub lines_are : lines ≡ update_line accepted.manifest.sequence end
 
 -- ---- where a cause stands

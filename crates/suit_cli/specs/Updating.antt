@@ -79,23 +79,13 @@ new_of frame a held image digest numbers =
 abbrev pub tree_of : Accepted → PlanTree
 tree_of a = update_tree a.manifest a.members
 
--- what is offered to a flash of a frame and a layout: the bytes of a file, the envelope in them, which was accepted, and names of files
--- for URIs.
+-- what is offered to a flash with this configuration: the bytes of a file, and the envelope in them
 pub record Offer : Type 0 where
-  pub frame : Frame
   pub layout : List Entry
+  pub key : Key
+  pub frame : Frame
   pub bytes : List ℕ
   pub accepted : Accepted
-  pub uris : List (List ℕ × List ℕ)
-
-abbrev pub offer : Frame → List Entry → List ℕ → Accepted → List (List ℕ × List ℕ) → Offer
-offer frame layout bytes accepted uris = record {
-  frame = frame;
-  layout = layout;
-  bytes = bytes;
-  accepted = accepted;
-  uris = uris;
-}
 
 -- No component has room for more on a flash of this size: a slot lies in it, and each working memory has at most 1,048,576
 -- bytes.
@@ -105,14 +95,14 @@ most_room size = max size 1048576
 -- The envelope was accepted, and installed so: how it was judged beside the record, how the procedure was played, what the
 -- flash is left with, which files were asked for, and whose fault was counted. Of the host nothing was asked where no fetch
 -- stands in the procedure, or it was not begun. Each launch has its digest, and its size where one is in force.
-pub record IsUpdate (o : Offer) (launched now : Launching) (before after : Outside)
-    (end : UpdateEnd) : Type 0 where
+pub record IsUpdate (o : Offer) (uris : List (List ℕ × List ℕ)) (launched now : Launching)
+    (before after : Outside) (end : UpdateEnd) : Type 0 where
   pub alone : LeavesAlone launched now before after
   pub counts :
       UpdateCounts end (counts_of before.faults before.flash.faults launched.faults)
       (counts_of after.faults after.flash.faults now.faults)
   pub asks : IsTrue before.told
-      → AsksAmong (tree_of o.accepted) o.uris (most_room before.flash.size)
+      → AsksAmong (tree_of o.accepted) uris (most_room before.flash.size)
       (asked_at before.asked before.pulled)
       (asked_at after.asked after.pulled)
   pub unasked : (HasFetch (tree_of o.accepted) → ⊥) ⊎ IsUnbegun end
@@ -125,7 +115,7 @@ pub record IsUpdate (o : Offer) (launched now : Launching) (before after : Outsi
       (payloads : List (List ℕ × List ℕ)) → HasPayloads o.bytes payloads
       → PlayedSo
       (λ made play. PlaysUpdate o.layout o.accepted.places (tree_of o.accepted) held
-      (sources payloads o.uris (hosted before.told before.files before.asked after.asked))
+      (sources payloads uris (hosted before.told before.files before.asked after.asked))
       before.flash.reads made launched.launches now.launches play)
       (after.flash.reads ≡ before.flash.reads) o.layout after.flash.reads launched.launches
       now.launches end)
@@ -144,40 +134,36 @@ pub record IsUpdate (o : Offer) (launched now : Launching) (before after : Outsi
 pub record Updates (name : List ℕ) (uris : List (List ℕ × List ℕ)) (launched now : Launching)
     (before after : Outside) (end : UpdateEnd) (lines : List ℕ)
     : Type 0 where
-  pub layout : List Entry
-  pub key : Key
-  pub frame : Frame
+  pub o : Offer
   pub configured : Outside
-  pub held : config_in.gives before configured (layout, key, frame)
-  pub bytes : List ℕ
+  pub held : config_in.gives before configured (o.layout, o.key, o.frame)
   pub middle : Outside
-  pub read : (file longest_file name).gives configured middle bytes
-  pub accepted : Accepted
-  pub is_accepted : IsAccepted frame layout key bytes accepted
-  pub update : IsUpdate (offer frame layout bytes accepted uris) launched now middle after end
-  pub lines_are : lines ≡ update_line accepted.manifest.sequence end
+  pub read : (file longest_file name).gives configured middle o.bytes
+  pub is_accepted : IsAccepted o.frame o.layout o.key o.bytes o.accepted
+  pub update : IsUpdate o uris launched now middle after end
+  pub lines_are : lines ≡ update_line o.accepted.manifest.sequence end
 
 -- ---- at each moment
 
 -- Where the host and the launcher tell, the update procedure of what was accepted is played to its end, and makes those
 -- contents.
-abbrev pub IsDone : Offer → Launching → Launching → Outside → Option Record → List ℕ → List ℕ
-    → Type 0
-IsDone o launched later before held reads made =
+abbrev pub IsDone : Offer → List (List ℕ × List ℕ) → Launching → Launching → Outside
+    → Option Record → List ℕ → List ℕ → Type 0
+IsDone o uris launched later before held reads made =
     IsTrue before.told → IsTrue launched.told
-    → PlaysToEnd o.layout o.accepted.places (tree_of o.accepted) held o.bytes o.uris before.files
+    → PlaysToEnd o.layout o.accepted.places (tree_of o.accepted) held o.bytes uris before.files
     reads launched.launches later.launches made
 
 -- At each moment of an update that ended so, the flash had the old record, and no content changed but those of slots that
 -- may be written; or it had the new record, and the contents that its procedure made, which was done. Where it was not done
 -- the old record stood at each moment, and where it was not run nothing changed.
-abbrev pub KeepsOffer : Offer → Launching → Launching → Outside → UpdateEnd → Flash → Flash
-    → Type 0
-KeepsOffer o launched later before end old now =
+abbrev pub KeepsOffer : Offer → List (List ℕ × List ℕ) → Launching → Launching → Outside
+    → UpdateEnd → Flash → Flash → Type 0
+KeepsOffer o uris launched later before end old now =
     ForOffer o.frame old.reads o.accepted.said.wrapper (λ held digest.
     KeptSo
     (KeepsUpdate o.frame o.layout o.accepted.places (tree_of o.accepted)
-    (IsDone o launched later before held old.reads) held
+    (IsDone o uris launched later before held old.reads) held
     (new_of o.frame o.accepted held old.reads digest) old now end)
     (IsSame old now) end)
 
@@ -190,17 +176,22 @@ HasOffer frame image wrapper =
 
 -- The file with that name was accepted, and so the flash was kept. This holds of a settled flash.
 pub record KeepsFlash (name : List ℕ) (uris : List (List ℕ × List ℕ)) (launched later : Launching)
-    (before : Outside) (end : UpdateEnd)
-    (old now : Flash) : Type 0 where
-  pub layout : List Entry
-  pub key : Key
-  pub frame : Frame
+    (before : Outside) (end : UpdateEnd) (old now : Flash) : Type 0 where
+  pub o : Offer
   pub config :
-      ConfigOf before.flash.size old.reads (Configured layout key frame)
-  pub bytes : List ℕ
-  pub read : IsRead longest_file name before bytes
-  pub accepted : Accepted
-  pub is_accepted : IsAccepted frame layout key bytes accepted
-  pub offered : HasOffer frame old.reads accepted.said.wrapper
-  pub kept :
-      KeepsOffer (offer frame layout bytes accepted uris) launched later before end old now
+      ConfigOf before.flash.size old.reads (Configured o.layout o.key o.frame)
+  pub read : IsRead longest_file name before o.bytes
+  pub is_accepted : IsAccepted o.frame o.layout o.key o.bytes o.accepted
+  pub offered : HasOffer o.frame old.reads o.accepted.said.wrapper
+  pub kept : KeepsOffer o uris launched later before end old now
+
+-- ---- inside
+
+abbrev pub offer : Frame → List Entry → Key → List ℕ → Accepted → Offer
+offer frame layout key bytes accepted = record {
+  layout = layout;
+  key = key;
+  frame = frame;
+  bytes = bytes;
+  accepted = accepted;
+}

@@ -10,10 +10,8 @@ ghost use Rattle.suit_cli.specs.DrillLaws.{DrillLaws};
 ghost use Rattle.suit_cli.specs.FlashLaws.{InitLaws, StatusLaws};
 ghost use Rattle.suit_cli.specs.UpdateEndLaws.{UpdateEndLaws};
 ghost use Rattle.suit_cli.specs.UpdateLaws.{UpdateLaws};
-ghost use Rattle.suit_cli.specs.WordsLaws.{WordsLaws};
 
 use admission::admission_laws;
-use command_words::word_laws;
 use flash_layout::config_laws;
 use invoke_proc::boot_laws;
 use rollback_record::record_laws;
@@ -86,15 +84,6 @@ pub fn migrate_laws()
     ensures { MigrateLaws }
 {
     config_laws();
-}
-
-/// Does nothing. Its contract has the laws of the words: each command that is built comes of the words that spell it and
-/// of no others, and words that spell none of them are usage. A word that says which file answers a URI is the URI, `=`
-/// and the name, which has no `=`; there are at most 64, none begins with a dash, and no two have one URI.
-pub fn words_laws()
-    ensures { WordsLaws }
-{
-    word_laws();
 }
 
 /// Does nothing. Its contract has the laws of `run update FILE` over a host and a flash that tell what they hold,

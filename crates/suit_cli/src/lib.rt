@@ -31,7 +31,7 @@ mod words;
 
 pub use law::{
     boot_end_laws, check_laws, describing_laws, drill_laws, init_laws, make_laws, migrate_laws,
-    run_laws, show_laws, status_laws, update_end_laws, update_laws, words_laws,
+    run_laws, show_laws, status_laws, update_end_laws, update_laws,
 };
 pub use life::{
     launched_laws, launched_update_laws, life_laws, new_flash_laws, restart_laws, soundness_laws,

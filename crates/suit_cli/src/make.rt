@@ -1,6 +1,6 @@
 //! The command `make`: makes the envelope of a description.
 
-ghost use Rattle.std.specs.Prelude.{◌≡◌, IfOk, IsTrue, length, string_bytes};
+ghost use Rattle.std.specs.Prelude.{IfOk, IsTrue, length, string_bytes};
 ghost use Rattle.author.specs.FileNames.{file_names};
 ghost use Rattle.author.specs.Files.{has_files};
 ghost use Rattle.author.specs.Held.{value_of};

@@ -2,7 +2,8 @@
 
 ghost use Rattle.std.specs.Prelude.{◌≡◌, ◌≤◌, IsTrue, Some};
 ghost use Rattle.flash_layout.specs.declared.frame.TheConstants.{HEAD_SIZE};
-ghost use Rattle.suit_cli.specs.Words.{RunBoot, task_of, task_said};
+ghost use Rattle.command_words.specs.Said.{said};
+ghost use Rattle.suit_cli.specs.Words.{RunBoot, task_of};
 ghost use Rattle.suit_cli.specs.Stages.{ending_of};
 ghost use Rattle.suit_cli.specs.Commands.{does};
 ghost use Rattle.suit_cli.specs.Program.{
@@ -14,7 +15,6 @@ ghost use Rattle.suit_cli.specs.Program.{
   Puts,
   PutsText,
   Runs,
-  world,
 };
 ghost use Rattle.suit_cli.specs.Settling.{LeavesSound};
 ghost use Rattle.suit_cli.specs.Coming.{Answered, Comes, ended_of};
@@ -31,12 +31,13 @@ use crate::migrate::run_migrate;
 use crate::outside::{SeenDisk, SeenHost, SeenLauncher, SeenSink};
 use crate::reply::{Outcome, Reply, Stop, declined};
 use crate::run_boot::run_boot;
-use crate::run_update::run_update;
+use crate::run_update::run_update_by;
 use crate::show::show;
 use crate::show_description::show_description;
 use crate::status::status;
 use crate::update_lines::update_status;
-use crate::words::{Command, command_of, lent};
+use crate::words::lent;
+use command_words::{Command, command_of};
 use det_cbor::Names;
 use rollback_record::sound_laws;
 use std::alloc::Global;
@@ -60,31 +61,35 @@ fn perform<H: Host, D: Disk, L: Launcher>(
     launcher: &mut L,
 ) -> Answer
     requires { HEAD_SIZE ≤ D.extent flash.old }
-    ensures answer { Comes (does (task_said command.entry)) (λ task. task_said command.entry ≡ task)
+    ensures answer { Comes (does (said command.entry)) (λ task. said command.entry ≡ task)
         (⟦<L as SeenLauncher>⟧.seen launcher.old) (⟦<L as SeenLauncher>⟧.seen launcher.new)
         (⟦<H as SeenHost>⟧.seen host.old (⟦<D as SeenDisk>⟧.seen flash.old))
         (⟦<H as SeenHost>⟧.seen host.new (⟦<D as SeenDisk>⟧.seen flash.new)) (ended_of result) }
-    ensures unasked { IfBoots (Some (task_said command.entry)) (host.new ≡ host.old) }
+    ensures unasked { IfBoots (Some (said command.entry)) (host.new ≡ host.old) }
     ensures extent { D.extent flash.new ≡ D.extent flash.old }
-    ensures flash { IsTrue D.told → FlashPasses (Some (task_said command.entry))
+    ensures flash { IsTrue D.told → FlashPasses (Some (said command.entry))
         (⟦<L as SeenLauncher>⟧.seen launcher.old) (⟦<L as SeenLauncher>⟧.seen launcher.new)
         (⟦<H as SeenHost>⟧.seen host.old (⟦<D as SeenDisk>⟧.seen flash.old))
         (⟦<H as SeenHost>⟧.seen host.new (⟦<D as SeenDisk>⟧.seen flash.new))
         (ended_of result) (D.flash flash.old) (D.flash flash.new) }
 {
     match command {
-        Command::Make(description, key, out) => {
-            Answer::Said(make_envelope(alloc, description, key, out, host))
+        Command::Make {
+            description,
+            key,
+            out,
+        } => Answer::Said(make_envelope(alloc, description, key, out, host)),
+        Command::Describe { file } => Answer::Said(show_description(alloc, file, host)),
+        Command::Show { file, key } => Answer::Said(show(alloc, file, key, host)),
+        Command::Check { file } => Answer::Said(check(alloc, file, host)),
+        Command::Init { device, key } => Answer::Said(init(alloc, device, key, host, flash)),
+        Command::Update { file, uris } => {
+            run_update_by(alloc, file, &uris, host, flash, launcher)
         }
-        Command::Describe(name) => Answer::Said(show_description(alloc, name, host)),
-        Command::Show(name, key) => Answer::Said(show(alloc, name, key, host)),
-        Command::Check(name) => Answer::Said(check(alloc, name, host)),
-        Command::RunInit(device, key) => Answer::Said(init(alloc, device, key, host, flash)),
-        Command::RunUpdate(name, uris) => { run_update(alloc, name, &uris, host, flash, launcher) }
-        Command::RunBoot => run_boot(alloc, host, flash, launcher),
-        Command::RunStatus => Answer::Said(status(alloc, flash)),
-        Command::RunMigrate(base) => Answer::Said(run_migrate(alloc, base, flash)),
-        Command::Drill(number) => Answer::Said(drill(alloc, number)),
+        Command::Boot => run_boot(alloc, host, flash, launcher),
+        Command::Status => Answer::Said(status(alloc, flash)),
+        Command::Migrate { base } => Answer::Said(run_migrate(alloc, base, flash)),
+        Command::Drill { number } => Answer::Said(drill(alloc, number)),
     }
 }
 
@@ -179,12 +184,18 @@ pub fn run<H: Host, D: Disk, L: Launcher, K: Sink>(
     // played to its end; where it was not, the old record stands. `run boot` leaves all but slots that its procedure may write.
     // `run migrate` leaves layout version 1 or 2, each telling what the flash told.
     ensures runs { Runs words.now
-        (world (⟦<H as SeenHost>⟧.seen host.old (⟦<D as SeenDisk>⟧.seen flash.old))
-        (⟦<L as SeenLauncher>⟧.seen launcher.old) (⟦<K as SeenSink>⟧.seen out.old)
-        (D.flash flash.old))
-        (world (⟦<H as SeenHost>⟧.seen host.new (⟦<D as SeenDisk>⟧.seen flash.new))
-        (⟦<L as SeenLauncher>⟧.seen launcher.new) (⟦<K as SeenSink>⟧.seen out.new)
-        (D.flash flash.new)) result.0 }
+        (record {
+          outside = ⟦<H as SeenHost>⟧.seen host.old (⟦<D as SeenDisk>⟧.seen flash.old);
+          launcher = ⟦<L as SeenLauncher>⟧.seen launcher.old;
+          sink = ⟦<K as SeenSink>⟧.seen out.old;
+          flash = D.flash flash.old;
+        })
+        (record {
+          outside = ⟦<H as SeenHost>⟧.seen host.new (⟦<D as SeenDisk>⟧.seen flash.new);
+          launcher = ⟦<L as SeenLauncher>⟧.seen launcher.new;
+          sink = ⟦<K as SeenSink>⟧.seen out.new;
+          flash = D.flash flash.new;
+        }) result.0 }
 
     // The headline: yes exactly where each invoke is covered on every path of both procedures, and otherwise a path
     // where one is not.

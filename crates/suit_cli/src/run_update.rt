@@ -1,6 +1,6 @@
 //! The command `run update`: an envelope is accepted, its update procedure run, and the envelope installed.
 
-ghost use Rattle.std.specs.Prelude.{◌≡◌, ◌<◌, ◌^◌, IsTrue, length};
+ghost use Rattle.std.specs.Prelude.{◌≡◌, ◌<◌, ◌^◌, IsTrue, List, length};
 ghost use Rattle.flash_layout.specs.Configs.{ConfigOf, Configured, IsAllowed};
 ghost use Rattle.flash_layout.specs.Placement.{HaveOtherPlaces};
 ghost use Rattle.rollback_record.specs.SoundFlash.{Settled};
@@ -14,10 +14,11 @@ ghost use Rattle.suit_cli.specs.Coming.{
   UpdatesBy,
   ended_of,
 };
+ghost use Rattle.suit_cli.specs.Beginnings.{begins_update};
 ghost use Rattle.suit_cli.specs.Commands.{does};
 ghost use Rattle.suit_cli.specs.Settling.{StaysInOrder};
 ghost use Rattle.suit_cli.specs.Updating.{offer};
-ghost use Rattle.suit_cli.specs.Words.{RunUpdate};
+ghost use Rattle.suit_cli.specs.Words.{Named, RunUpdate, pairs_of};
 
 use crate::accept::accept;
 use crate::answer::Answer;
@@ -26,7 +27,9 @@ use crate::outside::{SeenDisk, SeenHost, SeenLauncher};
 use crate::reply::Stop;
 use crate::status::{Config, config_in};
 use crate::update_lines::{UPDATE_ROOM, update_line};
+use crate::words::uris_named;
 use admission::Admitted;
+use command_words::UriWords;
 use flash_layout::config_laws;
 use path_model::play_laws;
 use place_laws::installation_laws;
@@ -57,15 +60,16 @@ fn update_by<H: Host, D: Disk, L: Launcher>(
     requires wrapper { HasWrapper accepted.now.envelope.wrapper.now }
     requires other { HaveOtherPlaces accepted.now.manifest.components accepted.now.places }
     requires fits { length accepted.now.envelope.whole.now < 2 ^ 64 }
-    ensures answer { UpdatesBy (offer config.now.2 config.now.0 accepted.now.envelope.whole.now
-        (admission_of accepted.now) uris.now)
+    ensures answer { UpdatesBy
+        (offer config.now.2 config.now.0 config.now.1 accepted.now.envelope.whole.now
+        (admission_of accepted.now)) uris.now
         (⟦<L as SeenLauncher>⟧.seen launcher.old) (⟦<L as SeenLauncher>⟧.seen launcher.new)
         (⟦<H as SeenHost>⟧.seen host.old (⟦<D as SeenDisk>⟧.seen flash.old))
         (⟦<H as SeenHost>⟧.seen host.new (⟦<D as SeenDisk>⟧.seen flash.new)) (ended_of result) }
     ensures keeps { IsTrue D.told → Settled (D.flash flash.old)
         → KeepsAccepted
-        (offer config.now.2 config.now.0 accepted.now.envelope.whole.now (admission_of accepted.now)
-        uris.now)
+        (offer config.now.2 config.now.0 config.now.1 accepted.now.envelope.whole.now
+        (admission_of accepted.now)) uris.now
         (⟦<L as SeenLauncher>⟧.seen launcher.old) (⟦<L as SeenLauncher>⟧.seen launcher.new)
         (⟦<H as SeenHost>⟧.seen host.old (⟦<D as SeenDisk>⟧.seen flash.old))
         (ended_of result) (D.flash flash.old) (D.flash flash.new) }
@@ -103,7 +107,7 @@ fn update_by<H: Host, D: Disk, L: Launcher>(
     Answer::Updated(end, text)
 }
 
-/// The answer to `run update NAME [URI=NAME]...`.
+/// The answer to `run update NAME [URI=NAME]...`, with the names of files by their URIs.
 pub(crate) fn run_update<H: Host, D: Disk, L: Launcher>(
     alloc: Global,
     name: &str,
@@ -112,8 +116,8 @@ pub(crate) fn run_update<H: Host, D: Disk, L: Launcher>(
     flash: &mut D,
     launcher: &mut L,
 ) -> Answer
-    ensures answer { Comes (does (RunUpdate name.now uris.now))
-        (λ task. RunUpdate name.now uris.now ≡ task)
+    ensures answer { (named : List Named) → uris.now ≡ pairs_of named
+        → Comes (begins_update name.now) (λ task. RunUpdate name.now named ≡ task)
         (⟦<L as SeenLauncher>⟧.seen launcher.old) (⟦<L as SeenLauncher>⟧.seen launcher.new)
         (⟦<H as SeenHost>⟧.seen host.old (⟦<D as SeenDisk>⟧.seen flash.old))
         (⟦<H as SeenHost>⟧.seen host.new (⟦<D as SeenDisk>⟧.seen flash.new)) (ended_of result) }
@@ -141,4 +145,34 @@ pub(crate) fn run_update<H: Host, D: Disk, L: Launcher>(
         Err(stop) => return Answer::Said(Err(stop)),
     };
     update_by(alloc, host, flash, launcher, &config, &accepted, uris)
+}
+
+/// The answer to `run update NAME [URI=NAME]...`.
+pub(crate) fn run_update_by<H: Host, D: Disk, L: Launcher>(
+    alloc: Global,
+    name: &str,
+    words: &UriWords<'_>,
+    host: &mut H,
+    flash: &mut D,
+    launcher: &mut L,
+) -> Answer
+    ensures answer { Comes (does (RunUpdate name.now words.now))
+        (λ task. RunUpdate name.now words.now ≡ task)
+        (⟦<L as SeenLauncher>⟧.seen launcher.old) (⟦<L as SeenLauncher>⟧.seen launcher.new)
+        (⟦<H as SeenHost>⟧.seen host.old (⟦<D as SeenDisk>⟧.seen flash.old))
+        (⟦<H as SeenHost>⟧.seen host.new (⟦<D as SeenDisk>⟧.seen flash.new)) (ended_of result) }
+    ensures extent { D.extent flash.new ≡ D.extent flash.old }
+    ensures flash { IsTrue D.told → StaysInOrder (D.flash flash.old) (D.flash flash.new)
+        (D.faults flash.old) (D.faults flash.new) }
+    ensures keeps { IsTrue D.told → Settled (D.flash flash.old)
+        → StaysOrKeeps name.now (pairs_of words.now)
+        (⟦<L as SeenLauncher>⟧.seen launcher.old) (⟦<L as SeenLauncher>⟧.seen launcher.new)
+        (⟦<H as SeenHost>⟧.seen host.old (⟦<D as SeenDisk>⟧.seen flash.old))
+        (ended_of result) (D.flash flash.old) (D.flash flash.new) }
+{
+    sound_laws();
+    match uris_named(alloc, words.as_slice()) {
+        Ok(uris) => run_update(alloc, name, &uris, host, flash, launcher),
+        Err(_) => Answer::Said(Err(Stop::NoMemory)),
+    }
 }

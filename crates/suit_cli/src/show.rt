@@ -1,8 +1,8 @@
 //! The command `show` with a key: what an envelope holds, and whether it is authentic.
 
-ghost use Rattle.std.specs.Prelude.{◌≡◌, ◌+◌, ℕ, List, ◌++◌, IfOk, OnOk, string_bytes};
+ghost use Rattle.std.specs.Prelude.{◌≡◌, IfOk, OnOk, string_bytes};
 ghost use Rattle.suit_envelope.specs.Said.{said_by};
-ghost use Rattle.suit_envelope.specs.WrapperParts.{WrapperSays, HasWrapper};
+ghost use Rattle.suit_envelope.specs.WrapperParts.{HasWrapper};
 ghost use Rattle.suit_cli.specs.Texts.{tagged_line, block_line, authenticity_line};
 ghost use Rattle.suit_cli.specs.Shown.{HasKind, kind_text, AddsBlocks, IsShown, authenticity_outcome};
 ghost use Rattle.suit_cli.specs.Outside.{Flashed};

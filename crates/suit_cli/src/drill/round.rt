@@ -1,7 +1,7 @@
 //! A round of a drill: an update, which may be cut by a loss of power, and a boot.
 
 ghost use Rattle.std.specs.Bool.{OnTrue};
-ghost use Rattle.std.specs.Prelude.{◌≡◌, IfOk, IsSome, IsTrue, OnOk, Some, codes, option_map, ◌∷◌};
+ghost use Rattle.std.specs.Prelude.{◌≡◌, IfOk, IsSome, IsTrue, OnOk, option_map};
 ghost use Rattle.author.specs.FileNames.{file_names};
 ghost use Rattle.author.specs.Files.{has_files};
 ghost use Rattle.author.specs.Held.{value_of};
@@ -13,6 +13,7 @@ ghost use Rattle.suit_cli.specs.Coming.{ended_of, ended_status};
 ghost use Rattle.suit_cli.specs.DrillDevice.{key_bytes};
 ghost use Rattle.suit_cli.specs.DrillRounds.{
   AreWords,
+  AsksUpdate,
   BootsRound,
   HostsRound,
   IsReady,
@@ -20,11 +21,10 @@ ghost use Rattle.suit_cli.specs.DrillRounds.{
   RunsRound,
   UpdatesRound,
   ends_so,
-  envelope_name,
   is_whole,
   uris_asked,
 };
-ghost use Rattle.suit_cli.specs.Words.{RunUpdate, task_of, task_said};
+ghost use Rattle.command_words.specs.Said.{said};
 
 use crate::answer::Answer;
 use crate::drill::device::KEY;
@@ -32,8 +32,9 @@ use crate::drill::judging::{answer_status, is_installed};
 use crate::drill::tally::RoundEnd;
 use crate::run_boot::run_boot;
 use crate::run_update::run_update;
-use crate::words::{Command, command_of};
+use crate::words::uris_named;
 use author::{MakeFault, bytes_of, make};
+use command_words::{Command, command_of};
 use conformance::{Draw, Round, round};
 use det_cbor::{Bytes, Names};
 use rollback_record::sound_laws;
@@ -76,32 +77,30 @@ fn host_of(alloc: Global, round: &Round) -> Result<MemoryHost, AllocError>
 }
 
 // The names of files by their URIs, of an update.
-fn uris_asked(command: Option<Command<'_>>) -> Option<Uris>
-    ensures { result ≡ uris_asked (option_map task_said command.entry) }
+fn uris_asked(alloc: Global, command: Option<Command<'_>>) -> Result<Option<Uris>, AllocError>
+    ensures { IfOk result (λ uris. uris ≡ uris_asked (option_map said command.entry)) }
 {
-    match command {
-        Some(Command::RunUpdate(_, uris)) => Some(uris),
+    Ok(match command {
+        Some(Command::Update { uris, .. }) => Some(uris_named(alloc, uris.as_slice())?),
         Some(
-            Command::Make(..)
-            | Command::Describe(_)
-            | Command::Show(..)
-            | Command::Check(_)
-            | Command::RunInit(..)
-            | Command::RunBoot
-            | Command::RunStatus
-            | Command::RunMigrate(_)
-            | Command::Drill(_),
+            Command::Make { .. }
+            | Command::Describe { .. }
+            | Command::Show { .. }
+            | Command::Check { .. }
+            | Command::Init { .. }
+            | Command::Boot
+            | Command::Status
+            | Command::Migrate { .. }
+            | Command::Drill { .. },
         )
         | None => None,
-    }
+    })
 }
 
 // The names of files by their URIs, as `run update` with these words has them.
 fn uris_of(alloc: Global, words: &Names) -> Result<Uris, AllocError>
     requires { AreWords words.now }
-    ensures { IfOk result
-        (λ uris. task_of (codes "run" ∷ codes "update" ∷ envelope_name ∷ words.now)
-        ≡ Some (RunUpdate envelope_name uris)) }
+    ensures { IfOk result (AsksUpdate words.now) }
 {
     let mut all = Vec::new(alloc);
     all.push("run")?;
@@ -111,7 +110,8 @@ fn uris_of(alloc: Global, words: &Names) -> Result<Uris, AllocError>
         all.push(word.as_str())?;
     }
     let command = command_of(alloc, all.as_slice())?;
-    match uris_asked(command) {
+    let uris = uris_asked(alloc, command)?;
+    match uris {
         Some(uris) => Ok(uris),
         None => unreachable!(),
     }

@@ -1,6 +1,6 @@
 //! What is counted of the rounds.
 
-ghost use Rattle.std.specs.Prelude.{◌≡◌, ◌<◌, ◌+◌, ◌^◌};
+ghost use Rattle.std.specs.Prelude.{◌≡◌, ◌<◌, ◌+◌};
 ghost use Rattle.suit_cli.specs.Drilling.{counted_round, is_wrong, no_rounds, rounds_counted, wrong_in};
 
 use suit_edge::Launch;

@@ -24,9 +24,8 @@ returns-in-Done-clause-formats g c here =
       beside = refl;
       told = refl;
       size = c.in-Done.ensures.size;
-      faults = c.in-Done.ensures.counts;
-      shut = λ t. c.in-Done.ensures.not_blank t;
-      formatted = λ t. c.in-Done.ensures.formatted t;
+      counts = c.in-Done.ensures.counts;
+      is = ((λ t. c.in-Done.ensures.not_blank t), (λ t. c.in-Done.ensures.formatted t));
     }) (IsSaid _ refl c.in_ok-ready.ensures)
 
 pub returns-in-Done-clause-any_moment : goal.returns-in-Done-clause-any_moment
@@ -51,8 +50,8 @@ returns-in-FlashFault-clause-formats g c here =
       beside = refl;
       told = refl;
       size = c.in-FlashFault.ensures.size;
-      faulted = c.in-FlashFault.ensures.counts;
-      kept = λ t. (c.in-FlashFault.ensures.keeps t).reads;
+      counts = c.in-FlashFault.ensures.counts;
+      is = λ t. (c.in-FlashFault.ensures.keeps t).reads;
     })
 
 pub returns-in-FlashFault-clause-any_moment : goal.returns-in-FlashFault-clause-any_moment

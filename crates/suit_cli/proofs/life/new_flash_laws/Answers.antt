@@ -1,4 +1,4 @@
-use Rattle.rollback_record.specs.SettledLaws.{settles}
+use Rattle.rollback_record.proofs.SettledLaws.{settles}
 use Rattle.suit_cli.proofs.LifeLawProofs.{zeros_sound}
 use Rattle.suit_cli.proofs.life.new_flash_laws.Goals as goal
 

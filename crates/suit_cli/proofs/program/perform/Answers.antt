@@ -1,5 +1,5 @@
 use Rattle.std.proofs.Common.{Some}
-use Rattle.suit_cli.specs.Words.{task_said}
+use Rattle.command_words.specs.Said.{said}
 use Rattle.suit_cli.proofs.Chains.{anywhere, outside_at}
 use Rattle.suit_cli.proofs.BootAnswers.{comes_command, comes_same}
 use Rattle.suit_cli.proofs.Leaving.{still}
@@ -19,53 +19,53 @@ returns-in-Show-clause-answer g c = comes_command c.args.command _ c.in-Show.is 
 pub returns-in-Check-clause-answer : goal.returns-in-Check-clause-answer
 returns-in-Check-clause-answer g c = comes_command c.args.command _ c.in-Check.is _ _ _ _ (c.check.ensures _)
 
-pub returns-in-RunInit-clause-answer : goal.returns-in-RunInit-clause-answer
-returns-in-RunInit-clause-answer g c = comes_command c.args.command _ c.in-RunInit.is _ _ _ _ c.init.ensures.answer
+pub returns-in-Init-clause-answer : goal.returns-in-Init-clause-answer
+returns-in-Init-clause-answer g c = comes_command c.args.command _ c.in-Init.is _ _ _ _ c.init.ensures.answer
 
-pub returns-in-RunStatus-clause-answer : goal.returns-in-RunStatus-clause-answer
-returns-in-RunStatus-clause-answer g c =
+pub returns-in-Status-clause-answer : goal.returns-in-Status-clause-answer
+returns-in-Status-clause-answer g c =
     let h = g.H.Host in
     let here = outside_at h.told (h.file c.args.host.now) (h.pulled c.args.host.now) (h.asked c.args.host.now) (h.faults c.args.host.now) anywhere.flash in
-    comes_command c.args.command _ c.in-RunStatus.is _ _ _ _ (c.status.ensures.answer here)
+    comes_command c.args.command _ c.in-Status.is _ _ _ _ (c.status.ensures.answer here)
 
-pub returns-in-RunBoot-clause-answer : goal.returns-in-RunBoot-clause-answer
-returns-in-RunBoot-clause-answer g c = comes_same c.args.command _ c.in-RunBoot.is _ _ _ _ _ c.run_boot.ensures.answer
+pub returns-in-Boot-clause-answer : goal.returns-in-Boot-clause-answer
+returns-in-Boot-clause-answer g c = comes_same c.args.command _ c.in-Boot.is _ _ _ _ _ c.run_boot.ensures.answer
 
-pub returns-in-RunBoot-clause-unasked : goal.returns-in-RunBoot-clause-unasked
-returns-in-RunBoot-clause-unasked g c = if_boots (Some (task_said c.args.command)) _ c.run_boot.ensures.unasked
+pub returns-in-Boot-clause-unasked : goal.returns-in-Boot-clause-unasked
+returns-in-Boot-clause-unasked g c = if_boots (Some (said c.args.command)) _ c.run_boot.ensures.unasked
 
-pub returns-in-RunUpdate-clause-answer : goal.returns-in-RunUpdate-clause-answer
-returns-in-RunUpdate-clause-answer g c = comes_same c.args.command _ c.in-RunUpdate.is _ _ _ _ _ c.run_update.ensures.answer
+pub returns-in-Update-clause-answer : goal.returns-in-Update-clause-answer
+returns-in-Update-clause-answer g c = comes_same c.args.command _ c.in-Update.is _ _ _ _ _ c.run_update_by.ensures.answer
 
-pub returns-in-RunInit-clause-flash : goal.returns-in-RunInit-clause-flash
-returns-in-RunInit-clause-flash g c told =
-    flash_as c.args.command _ c.in-RunInit.is _ _ _ _ _ _ _
+pub returns-in-Init-clause-flash : goal.returns-in-Init-clause-flash
+returns-in-Init-clause-flash g c told =
+    flash_as c.args.command _ c.in-Init.is _ _ _ _ _ _ _
     (record { any_moment = c.init.ensures.any_moment told; sound = tt; settled = c.init.ensures.settled told; keeps = tt })
 
-pub returns-in-RunUpdate-clause-flash : goal.returns-in-RunUpdate-clause-flash
-returns-in-RunUpdate-clause-flash g c told =
-    flash_as c.args.command _ c.in-RunUpdate.is _ _ _ _ _ _ _
-    (record { any_moment = (c.run_update.ensures.flash told).any_moment; sound = (c.run_update.ensures.flash told).sound; settled = (c.run_update.ensures.flash told).settled; keeps = c.run_update.ensures.keeps told })
+pub returns-in-Update-clause-flash : goal.returns-in-Update-clause-flash
+returns-in-Update-clause-flash g c told =
+    flash_as c.args.command _ c.in-Update.is _ _ _ _ _ _ _
+    (record { any_moment = (c.run_update_by.ensures.flash told).any_moment; sound = (c.run_update_by.ensures.flash told).sound; settled = (c.run_update_by.ensures.flash told).settled; keeps = c.run_update_by.ensures.keeps told })
 
-pub returns-in-RunBoot-clause-flash : goal.returns-in-RunBoot-clause-flash
-returns-in-RunBoot-clause-flash g c told =
-    flash_as c.args.command _ c.in-RunBoot.is _ _ _ _ _ _ _
+pub returns-in-Boot-clause-flash : goal.returns-in-Boot-clause-flash
+returns-in-Boot-clause-flash g c told =
+    flash_as c.args.command _ c.in-Boot.is _ _ _ _ _ _ _
     (record { any_moment = (c.run_boot.ensures.flash told).any_moment; sound = (c.run_boot.ensures.flash told).sound; settled = (c.run_boot.ensures.flash told).settled; keeps = c.run_boot.ensures.keeps told })
 
-pub returns-in-RunStatus-clause-flash : goal.returns-in-RunStatus-clause-flash
-returns-in-RunStatus-clause-flash g c told =
-    flash_as c.args.command _ c.in-RunStatus.is _ _ _ _ _ _ _
+pub returns-in-Status-clause-flash : goal.returns-in-Status-clause-flash
+returns-in-Status-clause-flash g c told =
+    flash_as c.args.command _ c.in-Status.is _ _ _ _ _ _ _
     (record { any_moment = (c.status.ensures.same told).images; sound = tt; settled = looked _ _ _ _ _ (g.met.D.Disk.obeys c.status.new.flash told) (c.status.ensures.same told); keeps = tt })
 
-pub returns-in-RunMigrate-clause-answer : goal.returns-in-RunMigrate-clause-answer
-returns-in-RunMigrate-clause-answer g c =
+pub returns-in-Migrate-clause-answer : goal.returns-in-Migrate-clause-answer
+returns-in-Migrate-clause-answer g c =
     let h = g.H.Host in
     let here = outside_at h.told (h.file c.args.host.now) (h.pulled c.args.host.now) (h.asked c.args.host.now) (h.faults c.args.host.now) anywhere.flash in
-    comes_command c.args.command _ c.in-RunMigrate.is _ _ _ _ (c.run_migrate.ensures.answer here)
+    comes_command c.args.command _ c.in-Migrate.is _ _ _ _ (c.run_migrate.ensures.answer here)
 
-pub returns-in-RunMigrate-clause-flash : goal.returns-in-RunMigrate-clause-flash
-returns-in-RunMigrate-clause-flash g c told =
-    flash_as c.args.command _ c.in-RunMigrate.is _ _ _ _ _ _ _
+pub returns-in-Migrate-clause-flash : goal.returns-in-Migrate-clause-flash
+returns-in-Migrate-clause-flash g c told =
+    flash_as c.args.command _ c.in-Migrate.is _ _ _ _ _ _ _
     (record { any_moment = c.run_migrate.ensures.any_moment told; sound = c.run_migrate.ensures.sound told; settled = c.run_migrate.ensures.settled told; keeps = c.run_migrate.ensures.keeps told })
 
 pub returns-in-Drill-clause-answer : goal.returns-in-Drill-clause-answer

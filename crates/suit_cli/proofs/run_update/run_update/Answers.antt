@@ -1,4 +1,4 @@
-use Rattle.std.proofs.Common.{List, ℕ, ◌<◌, ◌≤◌, ◌^◌, length, arith, refl, sym, subst, ◌∙◌}
+use Rattle.std.proofs.Common.{List, ℕ, ◌<◌, ◌^◌, length, arith, refl, sym, subst, ◌∙◌}
 use Rattle.suit_edge.specs.Flash.{IsFlash}
 use Rattle.suit_cli.specs.Launching.{Launching}
 use Rattle.suit_cli.specs.Coming.{ended_of}
@@ -11,28 +11,28 @@ use Rattle.suit_cli.proofs.Settling.{order_looked, order_then}
 use Rattle.suit_cli.proofs.run_update.run_update.Goals as goal
 
 pub returns-in-Err-clause-answer : goal.returns-in-Err-clause-answer
-returns-in-Err-clause-answer g c =
+returns-in-Err-clause-answer g c named is =
     let h = g.H.Host in
     let here = outside_at h.told (h.file c.args.host.now) (h.pulled c.args.host.now) (h.asked c.args.host.now) (h.faults c.args.host.now) anywhere.flash in
-    unconfigured_update c.args.name.now c.args.uris.now _ _ _ c.in-Err.stop (c.in-Err.ensures.finds here)
+    unconfigured_update c.args.name.now named _ _ _ c.in-Err.stop (c.in-Err.ensures.finds here)
 
 pub returns-in-Err-clause-keeps : goal.returns-in-Err-clause-keeps
 returns-in-Err-clause-keeps g c told settled = c.in-Err.ensures.same told
 
 pub returns-in-Err-read-clause-answer : goal.returns-in-Err-read-clause-answer
-returns-in-Err-read-clause-answer g c =
+returns-in-Err-read-clause-answer g c named is =
     let h = g.H.Host in
     let here = outside_at h.told (h.file c.args.host.now) (h.pulled c.args.host.now) (h.asked c.args.host.now) (h.faults c.args.host.now) anywhere.flash in
-    unread_update c.args.name.now c.args.uris.now _ _ c.in-Ok.config.0 c.in-Ok.config.1 c.in-Ok.config.2 _ (c.in-Ok.ensures.finds here) _ c.in-Err-read.stop (c.in-Err-read.ensures _)
+    unread_update c.args.name.now named _ _ c.in-Ok.config.0 c.in-Ok.config.1 c.in-Ok.config.2 _ (c.in-Ok.ensures.finds here) _ c.in-Err-read.stop (c.in-Err-read.ensures _)
 
 pub returns-in-Err-read-clause-keeps : goal.returns-in-Err-read-clause-keeps
 returns-in-Err-read-clause-keeps g c told settled = c.in-Ok.ensures.same told
 
 pub returns-in-Err-accept-clause-answer : goal.returns-in-Err-accept-clause-answer
-returns-in-Err-accept-clause-answer g c =
+returns-in-Err-accept-clause-answer g c named is =
     let h = g.H.Host in
     let here = outside_at h.told (h.file c.args.host.now) (h.pulled c.args.host.now) (h.asked c.args.host.now) (h.faults c.args.host.now) anywhere.flash in
-    unaccepted_update c.args.name.now c.args.uris.now _ _ c.in-Ok.config.0 c.in-Ok.config.1 c.in-Ok.config.2 _ (c.in-Ok.ensures.finds here) c.in-Ok-read.bytes _ (c.in-Ok-read.ensures _) c.in-Err-accept.stop
+    unaccepted_update c.args.name.now named _ _ c.in-Ok.config.0 c.in-Ok.config.1 c.in-Ok.config.2 _ (c.in-Ok.ensures.finds here) c.in-Ok-read.bytes _ (c.in-Ok-read.ensures _) c.in-Err-accept.stop
     (unaccepted_as c.in-Ok.config.2 c.in-Ok.config.0 c.in-Ok.config.1 _ _ c.as_slice.ensures c.in-Err-accept.stop c.in-Err-accept.ensures.finds _)
 
 pub returns-in-Err-accept-clause-keeps : goal.returns-in-Err-accept-clause-keeps
@@ -68,12 +68,12 @@ update_by-requires-clause-fits g c =
     subst (λ (bytes : List ℕ). length bytes < 2 ^ 64) (sym (c.in-Ok-accept.ensures.whole ∙ c.as_slice.ensures)) fits
 
 pub returns-clause-answer : goal.returns-clause-answer
-returns-clause-answer g c =
+returns-clause-answer g c named is =
     let h = g.H.Host in
     let here = outside_at h.told (h.file c.args.host.now) (h.pulled c.args.host.now) (h.asked c.args.host.now) (h.faults c.args.host.now) anywhere.flash in
-    comes_updated c.args.name.now c.args.uris.now _ _ c.in-Ok.config.0 c.in-Ok.config.1 c.in-Ok.config.2 _ (c.in-Ok.ensures.finds here) c.in-Ok-read.bytes _ (c.in-Ok-read.ensures _) _ _ (admission_of c.in-Ok-accept.accepted)
+    comes_updated c.args.name.now named _ _ c.in-Ok.config.0 c.in-Ok.config.1 c.in-Ok.config.2 _ (c.in-Ok.ensures.finds here) c.in-Ok-read.bytes _ (c.in-Ok-read.ensures _) _ _ (admission_of c.in-Ok-accept.accepted)
     (accepted_as c.in-Ok.config.2 c.in-Ok.config.0 c.in-Ok.config.1 _ _ c.as_slice.ensures (admission_of c.in-Ok-accept.accepted) (c.in-Ok-accept.ensures.finds anywhere).1) _
-    (updates_as c.in-Ok.config.2 c.in-Ok.config.0 _ _ (c.in-Ok-accept.ensures.whole ∙ c.as_slice.ensures) (admission_of c.in-Ok-accept.accepted) c.args.uris.now _ _ _ _ _ c.update_by.ensures.answer)
+    (updates_as c.in-Ok.config.2 c.in-Ok.config.0 c.in-Ok.config.1 _ _ (c.in-Ok-accept.ensures.whole ∙ c.as_slice.ensures) (admission_of c.in-Ok-accept.accepted) _ _ is _ _ _ _ _ c.update_by.ensures.answer)
 
 pub returns-clause-keeps : goal.returns-clause-keeps
 returns-clause-keeps g c told settled =
@@ -89,7 +89,7 @@ returns-clause-keeps g c told settled =
     (g.D.Disk.flash c.args.flash.now) (g.D.Disk.flash c.config_in.new.flash) (g.D.Disk.flash c.update_by.new.flash)
     (g.met.D.Disk.obeys c.args.flash.now told) law same c.in-Ok.config.0 c.in-Ok.config.1 c.in-Ok.config.2 c.in-Ok.ensures.allowed ((c.in-Ok.ensures.finds anywhere).1 told) settled c.in-Ok-read.bytes (c.in-Ok-read.ensures _).1
     (admission_of c.in-Ok-accept.accepted) (accepted_as c.in-Ok.config.2 c.in-Ok.config.0 c.in-Ok.config.1 _ _ c.as_slice.ensures (admission_of c.in-Ok-accept.accepted) (c.in-Ok-accept.ensures.finds anywhere).1)
-    c.config_laws.ensures.answer (ended_of c.update_by.result) (keeps_as c.in-Ok.config.2 c.in-Ok.config.0 _ _ (c.in-Ok-accept.ensures.whole ∙ c.as_slice.ensures) (admission_of c.in-Ok-accept.accepted) c.args.uris.now l m middle (ended_of c.update_by.result)
+    c.config_laws.ensures.answer (ended_of c.update_by.result) (keeps_as c.in-Ok.config.2 c.in-Ok.config.0 c.in-Ok.config.1 _ _ (c.in-Ok-accept.ensures.whole ∙ c.as_slice.ensures) (admission_of c.in-Ok-accept.accepted) c.args.uris.now l m middle (ended_of c.update_by.result)
     (g.D.Disk.flash c.config_in.new.flash) (g.D.Disk.flash c.update_by.new.flash)
     (c.update_by.ensures.keeps told (settled_later _ _ _ law same settled)))
 

@@ -1,4 +1,4 @@
-use Rattle.std.proofs.Common.{◌≤◌, ℕ, ◌^◌, inr, ⊎_elim, length, refl, sym, ap, subst, arith}
+use Rattle.std.proofs.Common.{ℕ, ◌^◌, inr, ⊎_elim, refl, sym, ap, subst}
 use Rattle.suit_edge.specs.FlashLaws.{same_flash}
 use Rattle.flash_layout.specs.Configs.{ConfigOf, Configured}
 use Rattle.rollback_record.specs.SoundFlash.{Settled}
