@@ -1,6 +1,16 @@
-//! Bytes in hexadecimal.
+//! Parts of texts, and bytes in hexadecimal.
 
 use std::alloc::{AllocError, Global};
+
+/// What stands before the first of these letters, and what behind it.
+pub(crate) fn halves(text: &str, letter: char) -> (&str, &str) {
+    text.split_once(letter).unwrap_or((text, ""))
+}
+
+/// Whether both are the same bytes.
+pub(crate) fn are_same(one: &[u8], other: &[u8]) -> bool {
+    one == other
+}
 
 // The bytes of digits. Digits that are none end a test as running out of memory does.
 fn bytes_of(alloc: Global, digits: &str) -> Result<Vec<u8>, AllocError> {
@@ -40,6 +50,13 @@ pub(crate) fn pieces_of(alloc: Global, pieces: &str) -> Result<Vec<u8>, AllocErr
     Ok(bytes)
 }
 
+fn joined(alloc: Global, front: &[u8], middle: &[u8], back: &[u8]) -> Result<Vec<u8>, AllocError> {
+    let mut joined = front.to_vec(alloc)?;
+    joined.extend_from_slice(middle)?;
+    joined.extend_from_slice(back)?;
+    Ok(joined)
+}
+
 // The bytes with these pieces in the place of so many bytes.
 fn replaced(
     alloc: Global,
@@ -48,20 +65,18 @@ fn replaced(
     count: usize,
     pieces: &str,
 ) -> Result<Vec<u8>, AllocError> {
-    let middle = pieces_of(alloc, pieces)?;
+    let front = bytes.get(..place).unwrap_or(b"");
     let back = bytes.get(place.saturating_add(count)..).unwrap_or(b"");
-    let mut changed = bytes.get(..place).unwrap_or(b"").to_vec(alloc)?;
-    changed.extend_from_slice(middle.as_slice())?;
-    changed.extend_from_slice(back)?;
-    Ok(changed)
+    let middle = pieces_of(alloc, pieces)?;
+    joined(alloc, front, middle.as_slice(), back)
 }
 
 // The bytes after a change: its place, how many bytes are taken out, and the pieces that come there.
 fn changed_once(alloc: Global, bytes: &[u8], change: &str) -> Result<Vec<u8>, AllocError> {
-    let (place, rest) = change.split_once(' ').unwrap_or((change, ""));
-    let (count, pieces) = rest.split_once(' ').unwrap_or((rest, ""));
-    match (place.parse::<usize>(), count.parse::<usize>()) {
-        (Ok(place), Ok(count)) => replaced(alloc, bytes, place, count, pieces),
+    let (place, rest) = halves(change, ' ');
+    let (count, pieces) = halves(rest, ' ');
+    match (place.parse::<u32>(), count.parse::<u32>()) {
+        (Ok(place), Ok(count)) => replaced(alloc, bytes, place as usize, count as usize, pieces),
         _ => Err(AllocError),
     }
 }
@@ -69,7 +84,7 @@ fn changed_once(alloc: Global, bytes: &[u8], change: &str) -> Result<Vec<u8>, Al
 /// The bytes after changes, each in a line, as `50 1 02`. They are done in turn.
 pub(crate) fn changed(alloc: Global, bytes: &[u8], changes: &str) -> Result<Vec<u8>, AllocError> {
     let mut changed = bytes.to_vec(alloc)?;
-    for change in changes.lines() {
+    for change in changes.split('\n') {
         changed = changed_once(alloc, changed.as_slice(), change)?;
     }
     Ok(changed)

@@ -21,18 +21,18 @@ pub(crate) enum Object {
 impl<'a> Fails<'a> {
     /// These calls of one object.
     pub(crate) fn of(object: Object, calls: &'a [u64]) -> Fails<'a> {
-        let mut fails = Fails {
-            host: &[],
-            flash: &[],
-            launcher: &[],
-            sink: &[],
+        let none: &[u64] = &[];
+        let (host, flash, launcher, sink) = match object {
+            Object::Host => (calls, none, none, none),
+            Object::Flash => (none, calls, none, none),
+            Object::Launcher => (none, none, calls, none),
+            Object::Sink => (none, none, none, calls),
         };
-        match object {
-            Object::Host => fails.host = calls,
-            Object::Flash => fails.flash = calls,
-            Object::Launcher => fails.launcher = calls,
-            Object::Sink => fails.sink = calls,
+        Fails {
+            host,
+            flash,
+            launcher,
+            sink,
         }
-        fails
     }
 }

@@ -119,25 +119,36 @@ fn add_updates(alloc: Global, rows: &str, host: &mut MemoryHost) -> Result<(), A
     Ok(())
 }
 
+fn add_all(alloc: Global, host: &mut MemoryHost) -> Result<(), AllocError> {
+    add_files(FILES, host)?;
+    add_images(host)?;
+    add_updates(alloc, UPDATES, host)
+}
+
 /// A host with the files, of which these calls fail.
 pub(crate) fn with_files(alloc: Global, fails: &[u64]) -> Result<MemoryHost, AllocError> {
     let mut host = MemoryHost::new(alloc, fails)?;
-    add_files(FILES, &mut host)?;
-    add_images(&mut host)?;
-    add_updates(alloc, UPDATES, &mut host)?;
+    add_all(alloc, &mut host)?;
     Ok(host)
+}
+
+// A flash of so many zero bytes, of which these calls fail. Over any size the prover counts no zeros.
+fn zeros(alloc: Global, size: usize, fails: &[u64]) -> Result<MemoryDisk, AllocError>
+    ensures { IfOk result (λ flash. length flash.first ≡ size) }
+{
+    MemoryDisk::new(alloc, size, fails)
 }
 
 /// A flash of 65,536 zero bytes, of which these calls fail.
 pub(crate) fn blank(alloc: Global, fails: &[u64]) -> Result<MemoryDisk, AllocError>
     ensures { IfOk result (λ flash. length flash.first ≡ 65536) }
 {
-    MemoryDisk::new(alloc, 65_536, fails)
+    zeros(alloc, 65_536, fails)
 }
 
 /// A flash of 327,680 zero bytes, which has room for layout version 2.
 pub(crate) fn blank_large(alloc: Global) -> Result<MemoryDisk, AllocError>
     ensures { IfOk result (λ flash. length flash.first ≡ 327680) }
 {
-    MemoryDisk::new(alloc, 327_680, &[])
+    zeros(alloc, 327_680, &[])
 }

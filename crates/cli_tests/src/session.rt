@@ -10,6 +10,7 @@
 
 ghost use Rattle.std.specs.Prelude.{◌≡◌, ◌≤◌};
 
+use crate::bytes::{are_same, halves};
 use crate::laws::run_by_laws;
 use crate::steps::{file_goes, stands, writes};
 use det_cbor::{Bytes, Names, Text};
@@ -41,7 +42,7 @@ const USAGE: &str =
 #[derive(Clone, Copy)]
 struct Row<'a> {
     command: &'a str,
-    status: u8,
+    status: u32,
     /// The lines that are put, without the end of the last one; none where the sink fails.
     lines: Option<&'a str>,
 }
@@ -58,11 +59,14 @@ fn named(lines: &str) -> &str {
 // The row of this text: the command, the status, and what is put.
 fn row_of(text: &str) -> Option<Row<'_>> {
     let (command, rest) = text.split_once('\n')?;
-    let (digits, lines) = match rest.split_once('\n') {
-        Some((digits, lines)) => (digits, Some(named(lines))),
-        None => (rest, None),
-    };
-    match digits.parse::<u8>() {
+    match rest.split_once('\n') {
+        Some((digits, lines)) => row_with(command, digits, Some(named(lines))),
+        None => row_with(command, rest, None),
+    }
+}
+
+fn row_with<'a>(command: &'a str, digits: &str, lines: Option<&'a str>) -> Option<Row<'a>> {
+    match digits.parse::<u32>() {
         Ok(status) => Some(Row {
             command,
             status,
@@ -100,7 +104,7 @@ pub(crate) fn status_of<H: Host, D: Disk, L: Launcher, K: Sink>(
 // Whether these lines were put.
 fn are_put(put: &[u8], lines: Option<&str>) -> bool {
     match (put.strip_suffix(b"\n"), lines) {
-        (Some(text), Some(lines)) => text == lines.as_bytes(),
+        (Some(text), Some(lines)) => are_same(text, lines.as_bytes()),
         (None, None) => put.is_empty(),
         _ => false,
     }
@@ -120,7 +124,7 @@ fn ends_so<H: Host, D: Disk, L: Launcher>(
     let fails: &[u64] = if row.lines.is_some() { &[] } else { &[0] };
     let mut sink = MemorySink::new(alloc, fails)?;
     let status = status_of(alloc, host, flash, launcher, row.command, &mut sink)?;
-    Ok(status == row.status && are_put(sink.bytes(), row.lines))
+    Ok(status as u32 == row.status && are_put(sink.bytes(), row.lines))
 }
 
 // Whether a step goes so.
@@ -134,8 +138,8 @@ fn goes<H: Host, D: Disk, L: Launcher>(
     requires { 49152 ≤ D.extent flash.old }
     ensures { D.extent flash.new ≡ D.extent flash.old }
 {
-    let (first, rest) = text.split_once('\n').unwrap_or((text, ""));
-    let (step, name) = first.split_once(' ').unwrap_or((first, ""));
+    let (first, rest) = halves(text, '\n');
+    let (step, name) = halves(first, ' ');
     match step {
         "flash" => return writes(alloc, flash, name, rest),
         "stands" => return stands(alloc, flash, name, rest),
@@ -189,7 +193,7 @@ pub(crate) fn goes_after<H: Host, D: Disk, L: Launcher>(
 // Whether the digest of this image is named.
 fn is_digest_of(digest: &Option<Bytes>, image: &[u8]) -> bool {
     match digest {
-        Some(digest) => digest.as_slice() == Sha256::digest(image).as_slice(),
+        Some(digest) => are_same(digest.as_slice(), Sha256::digest(image).as_slice()),
         None => false,
     }
 }
@@ -197,9 +201,9 @@ fn is_digest_of(digest: &Option<Bytes>, image: &[u8]) -> bool {
 // Whether this image was launched by its digest and size, and without arguments.
 fn is_launched(launch: &Launch, image: &[u8]) -> bool {
     launch.component == 0
-        && launch.bytes.as_slice() == image
+        && are_same(launch.bytes.as_slice(), image)
         && is_digest_of(&launch.digest, image)
-        && launch.size == Some(image.len() as u64)
+        && matches!(launch.size, Some(size) if size == image.len() as u64)
         && launch.args.is_none()
 }
 

@@ -2,7 +2,7 @@
 
 ghost use Rattle.std.specs.Prelude.{◌≡◌};
 
-use crate::bytes::{changed, pieces_of};
+use crate::bytes::{are_same, changed, halves, pieces_of};
 use std::alloc::{AllocError, Global};
 use suit_edge::{Disk, Edge, Host, Started, Taken, take_all};
 
@@ -37,10 +37,24 @@ fn changes<H: Host>(
     names: &str,
     change: &str,
 ) -> Result<bool, AllocError> {
-    let (name, other) = names.split_once(' ').unwrap_or((names, ""));
+    let (name, other) = halves(names, ' ');
     match take_all(alloc, host, other, LONGEST) {
         Taken::Got(bytes) => stores_changed(alloc, host, name, bytes.as_slice(), change),
         _ => Ok(false),
+    }
+}
+
+/// Whether the file of a name is taken, and has these bytes.
+pub(crate) fn takes<H: Host>(
+    alloc: Global,
+    host: &mut H,
+    name: &str,
+    limit: u64,
+    bytes: &[u8],
+) -> bool {
+    match take_all(alloc, host, name, limit) {
+        Taken::Got(file) => are_same(file.as_slice(), bytes),
+        _ => false,
     }
 }
 
@@ -51,10 +65,7 @@ fn holds<H: Host>(
     pieces: &str,
 ) -> Result<bool, AllocError> {
     let wanted = pieces_of(alloc, pieces)?;
-    match take_all(alloc, host, name, LONGEST) {
-        Taken::Got(bytes) => Ok(bytes.as_slice() == wanted.as_slice()),
-        _ => Ok(false),
-    }
+    Ok(takes(alloc, host, name, LONGEST, wanted.as_slice()))
 }
 
 /// Whether a step on a file goes so; none where it is no such step.
@@ -95,8 +106,8 @@ pub(crate) fn writes<D: Disk>(
     ensures { D.extent flash.new ≡ D.extent flash.old }
 {
     let bytes = pieces_of(alloc, pieces)?;
-    match place.parse::<u64>() {
-        Ok(place) => Ok(writes_at(flash, place, bytes.as_slice())),
+    match place.parse::<u32>() {
+        Ok(place) => Ok(writes_at(flash, place as u64, bytes.as_slice())),
         Err(_) => Ok(false),
     }
 }
@@ -115,7 +126,7 @@ fn stands_at<D: Disk>(
     }
     let mut room = vec![in alloc; 0u8; wanted.len()]?;
     let edge = flash.read_at(place, room.as_mut_slice());
-    Ok(edge == Edge::Done && room.as_slice() == wanted)
+    Ok(edge == Edge::Done && are_same(room.as_slice(), wanted))
 }
 
 /// Whether the flash gives these bytes.
@@ -128,8 +139,8 @@ pub(crate) fn stands<D: Disk>(
     ensures { D.extent flash.new ≡ D.extent flash.old }
 {
     let wanted = pieces_of(alloc, pieces)?;
-    match place.parse::<u64>() {
-        Ok(place) => stands_at(alloc, flash, place, wanted.as_slice()),
+    match place.parse::<u32>() {
+        Ok(place) => stands_at(alloc, flash, place as u64, wanted.as_slice()),
         Err(_) => Ok(false),
     }
 }

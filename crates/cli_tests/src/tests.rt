@@ -12,7 +12,7 @@ mod failing;
 mod goes;
 mod installed;
 mod make;
-pub(crate) mod migrated;
+mod migrated;
 mod nor;
 mod procedures;
 mod real_files;

@@ -1,7 +1,8 @@
-//! The file steps of a session, beside the program.
+//! What a session puts beside the program: its lines, and what its steps on files tell.
 
 use crate::memory::told;
 use det_cbor::Bytes;
+use itoa::Buffer;
 use std::alloc::Global;
 use suit_edge::{Host, Sink, Taken, take_all};
 
@@ -14,6 +15,26 @@ fn content<H: Host>(alloc: Global, host: &mut H, name: &str) -> Option<Bytes> {
         Taken::Got(bytes) => Some(bytes),
         _ => None,
     }
+}
+
+/// Puts a line.
+pub(crate) fn tell<K: Sink>(out: &mut K, line: &str) {
+    out.put(line.as_bytes());
+    out.put(b"\n");
+}
+
+/// Puts a line of the session behind a dollar sign.
+pub(crate) fn tell_line<K: Sink>(out: &mut K, line: &str) {
+    out.put(b"$ ");
+    tell(out, line);
+}
+
+/// Puts a line on a status.
+pub(crate) fn tell_status<K: Sink>(out: &mut K, status: u8) {
+    let mut digits = Buffer::new();
+    out.put(b"[status ");
+    out.put(digits.format(status).as_bytes());
+    out.put(b"]\n");
 }
 
 /// Puts the bytes of a file.

@@ -8,7 +8,7 @@ mod memory;
 mod step;
 
 use det_cbor::{Names, Text};
-use files::{compare, print, tell_memory};
+use files::{compare, print, tell, tell_line, tell_memory, tell_status};
 use folder::FolderHost;
 use std::alloc::{AllocError, Global};
 use std::io;
@@ -37,12 +37,10 @@ fn suit<H: Host, K: Sink>(
     words: &Names,
     host: &mut H,
     out: &mut K,
-) -> io::Result<()> {
+) {
     let status = status_of(rt, alloc, words, host, out);
-    if status == 0 {
-        Ok(())
-    } else {
-        println!(rt; "[status {status}]")
+    if status != 0 {
+        tell_status(out, status);
     }
 }
 
@@ -53,23 +51,21 @@ fn perform_with<H: Host, K: Sink>(
     step: &Step,
     host: &mut H,
     out: &mut K,
-) -> io::Result<()> {
+) {
     match step {
-        Step::Suit(words) => return suit(rt, alloc, words, host, out),
-        Step::Unknown => return println!(rt; "no such command"),
+        Step::Suit(words) => suit(rt, alloc, words, host, out),
+        Step::Unknown => tell(out, "no such command"),
         Step::Print(name) => print(alloc, host, out, name.as_str()),
         Step::Compare(one, other) => compare(alloc, host, out, one.as_str(), other.as_str()),
         Step::Memory => tell_memory(alloc, &mut FileHost::new(rt), out),
         Step::Empty | Step::Enter(_) => {}
     }
-    Ok(())
 }
 
 // Does a step in a folder.
-fn perform(rt: &HostRuntime, alloc: Global, step: Step, folder: &str) -> io::Result<()> {
+fn perform(rt: &HostRuntime, alloc: Global, step: &Step, folder: &str) {
     let mut host = FolderHost::new(alloc, folder, rt);
-    let mut out = StdSink::new(rt);
-    perform_with(rt, alloc, &step, &mut host, &mut out)
+    perform_with(rt, alloc, step, &mut host, &mut StdSink::new(rt));
 }
 
 // Goes on in a folder of that one.
@@ -79,11 +75,14 @@ fn enter(folder: &mut Text, name: &str) -> Result<(), AllocError> {
 }
 
 // Does a line of the session.
-fn go_on(rt: &HostRuntime, alloc: Global, folder: &mut Text, line: &str) -> io::Result<()> {
-    println!(rt; "$ {line}")?;
+fn go_on(rt: &HostRuntime, alloc: Global, folder: &mut Text, line: &str) -> Result<(), AllocError> {
+    tell_line(&mut StdSink::new(rt), line);
     match step_of(alloc, line)? {
-        Step::Enter(name) => Ok(enter(folder, name.as_str())?),
-        step => perform(rt, alloc, step, folder.as_str()),
+        Step::Enter(name) => enter(folder, name.as_str()),
+        step => {
+            perform(rt, alloc, &step, folder.as_str());
+            Ok(())
+        }
     }
 }
 

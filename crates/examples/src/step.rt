@@ -22,28 +22,32 @@ pub(crate) enum Step {
     Unknown,
 }
 
-/// The step of a line, whose words stand apart by blanks.
+/// The step of a line, whose words stand apart by a blank.
 pub(crate) fn step_of(alloc: Global, line: &str) -> Result<Step, AllocError> {
-    let mut words = line.split_whitespace();
-    match (words.next(), words.next(), words.next(), words.next()) {
-        (None, _, _, _) => Ok(Step::Empty),
-        (Some("suit"), _, _, _) => suit(alloc, line),
-        (Some("cd"), Some(name), None, None) => Ok(Step::Enter(Text::from_str(alloc, name)?)),
-        (Some("cat"), Some(name), None, None) => Ok(Step::Print(Text::from_str(alloc, name)?)),
-        (Some("cmp"), Some(one), Some(other), None) => Ok(Step::Compare(
-            Text::from_str(alloc, one)?,
-            Text::from_str(alloc, other)?,
-        )),
-        (Some("memory"), None, None, None) => Ok(Step::Memory),
+    let (command, rest) = line.split_once(' ').unwrap_or((line, ""));
+    match command {
+        "" => Ok(Step::Empty),
+        "suit" => suit(alloc, rest),
+        "cd" => Ok(Step::Enter(Text::from_str(alloc, rest)?)),
+        "cat" => Ok(Step::Print(Text::from_str(alloc, rest)?)),
+        "cmp" => comparison(alloc, rest),
+        "memory" => Ok(Step::Memory),
         _ => Ok(Step::Unknown),
     }
 }
 
 // The words behind `suit`.
-fn suit(alloc: Global, line: &str) -> Result<Step, AllocError> {
+fn suit(alloc: Global, rest: &str) -> Result<Step, AllocError> {
     let mut words = Names::new(alloc);
-    for word in line.split_whitespace().skip(1) {
+    for word in rest.split_whitespace() {
         words.push(Text::from_str(alloc, word)?)?;
     }
     Ok(Step::Suit(words))
+}
+
+// The names behind `cmp`.
+fn comparison(alloc: Global, rest: &str) -> Result<Step, AllocError> {
+    let (one, other) = rest.split_once(' ').unwrap_or((rest, ""));
+    let one = Text::from_str(alloc, one)?;
+    Ok(Step::Compare(one, Text::from_str(alloc, other)?))
 }

@@ -1,1 +1,2 @@
 mod FirstSlots
+mod Slots

@@ -5,4 +5,6 @@ mod drawing;
 mod drawn;
 mod no_trail;
 mod player;
+mod quiet;
 mod spelled;
+mod swaps;

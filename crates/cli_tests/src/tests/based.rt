@@ -1,11 +1,7 @@
 //! Sessions on a flash whose layout has a base: version 2.
 
-ghost use Rattle.std.specs.Prelude.{◌<◌};
-
-use crate::files::{blank_large, with_files};
-use crate::session::{are_launched, goes_after};
-use std::alloc::{AllocError, Global};
-use suit_edge::{MemoryHost, MemoryLauncher};
+use crate::tests::goes::both_launch_on_large;
+use std::alloc::AllocError;
 
 /// Bases that are refused leave the flash blank: too low and too high by one, over a slot, and no number.
 const REFUSED: &str = r#"text r.json
@@ -42,7 +38,25 @@ blank"#;
 
 /// As many components as there may be, with the highest base; one more is refused. Then a base that lies between two slots,
 /// and the lowest one, before both: nothing is left between them.
-const TAKEN: &str = r#"run init 33.json k
+const TAKEN: &str = r#"text 33.json
+{"base":102400,"components":[
+{"capacity":1,"id":["10"],"kind":"ram"},{"capacity":1,"id":["11"],"kind":"ram"},{"capacity":1,"id":["12"],"kind":"ram"},
+{"capacity":1,"id":["13"],"kind":"ram"},{"capacity":1,"id":["14"],"kind":"ram"},{"capacity":1,"id":["15"],"kind":"ram"},
+{"capacity":1,"id":["16"],"kind":"ram"},{"capacity":1,"id":["17"],"kind":"ram"},{"capacity":1,"id":["18"],"kind":"ram"},
+{"capacity":1,"id":["19"],"kind":"ram"},{"capacity":1,"id":["20"],"kind":"ram"},{"capacity":1,"id":["21"],"kind":"ram"},
+{"capacity":1,"id":["22"],"kind":"ram"},{"capacity":1,"id":["23"],"kind":"ram"},{"capacity":1,"id":["24"],"kind":"ram"},
+{"capacity":1,"id":["25"],"kind":"ram"},{"capacity":1,"id":["26"],"kind":"ram"},{"capacity":1,"id":["27"],"kind":"ram"},
+{"capacity":1,"id":["28"],"kind":"ram"},{"capacity":1,"id":["29"],"kind":"ram"},{"capacity":1,"id":["30"],"kind":"ram"},
+{"capacity":1,"id":["31"],"kind":"ram"},{"capacity":1,"id":["32"],"kind":"ram"},{"capacity":1,"id":["33"],"kind":"ram"},
+{"capacity":1,"id":["34"],"kind":"ram"},{"capacity":1,"id":["35"],"kind":"ram"},{"capacity":1,"id":["36"],"kind":"ram"},
+{"capacity":1,"id":["37"],"kind":"ram"},{"capacity":1,"id":["38"],"kind":"ram"},{"capacity":1,"id":["39"],"kind":"ram"},
+{"capacity":1,"id":["40"],"kind":"ram"},{"capacity":1,"id":["41"],"kind":"ram"},{"capacity":1,"id":["42"],"kind":"ram"}
+]}
+
+change 32.json 33.json
+30 40 20
+
+run init 33.json k
 3
 33 components
 
@@ -240,59 +254,16 @@ const NOTHING: &str = "run boot
 15
 nothing installed";
 
-// A device of so many components in working memory, with the highest base.
-fn device_of(alloc: Global, count: usize) -> Result<String, AllocError>
-    requires { count < 90 }
-{
-    let mut text = String::new(alloc);
-    text.push_str(r#"{"base":102400,"components":["#)?;
-    for k in 0..count {
-        let comma = if k == 0 { "" } else { "," };
-        let id = 10 + k;
-        let component = format!(in alloc; r#"{comma}{{"capacity":1,"id":["{id}"],"kind":"ram"}}"#)?;
-        text.push_str(component.as_str())?;
-    }
-    text.push_str("]}")?;
-    Ok(text)
-}
-
-fn add_device(
-    alloc: Global,
-    name: &str,
-    count: usize,
-    host: &mut MemoryHost,
-) -> Result<(), AllocError>
-    requires { count < 90 }
-{
-    let text = device_of(alloc, count)?;
-    host.add(name, text.as_bytes())
-}
-
-// Whether two sessions go so, one after the other, on a blank flash with room for a base, and launch these images.
-fn both_launch(
-    alloc: Global,
-    sessions: (&str, &str),
-    images: &[&[u8]],
-) -> Result<bool, AllocError> {
-    let mut host = with_files(alloc, &[])?;
-    add_device(alloc, "32.json", 32, &mut host)?;
-    add_device(alloc, "33.json", 33, &mut host)?;
-    let mut flash = blank_large(alloc)?;
-    let mut launcher = MemoryLauncher::new(alloc, &[])?;
-    let goes = goes_after(alloc, &mut host, &mut flash, &mut launcher, sessions)?;
-    Ok(goes && are_launched(launcher.launches(), images))
-}
-
 #[test]
 fn a_flash_is_formatted_with_a_base(rt: HostRuntime) -> Result<(), AllocError> {
-    assert!(rt; both_launch(rt.alloc(), (REFUSED, TAKEN), &[])?);
-    assert!(rt; both_launch(rt.alloc(), (FORMATTED, DAMAGED), &[])?);
+    assert!(rt; both_launch_on_large(rt.alloc(), (REFUSED, TAKEN), &[])?);
+    assert!(rt; both_launch_on_large(rt.alloc(), (FORMATTED, DAMAGED), &[])?);
     Ok(())
 }
 
 #[test]
 fn what_is_installed_behind_a_base_is_started(rt: HostRuntime) -> Result<(), AllocError> {
-    assert!(rt; both_launch(rt.alloc(), (INSTALLED, LONG), &[b"abc", b"abd"])?);
-    assert!(rt; both_launch(rt.alloc(), (TOO_LONG, NOTHING), &[])?);
+    assert!(rt; both_launch_on_large(rt.alloc(), (INSTALLED, LONG), &[b"abc", b"abd"])?);
+    assert!(rt; both_launch_on_large(rt.alloc(), (TOO_LONG, NOTHING), &[])?);
     Ok(())
 }

@@ -1,7 +1,7 @@
-//! A second update that is cut off, or of which a call fails, at each call in turn; then a boot, and the update again.
+//! A second update, or a migration, that is cut off, or of which a call fails, at each call in turn; then a boot, and the same
+//! again.
 
 pub(crate) mod after;
 mod faults;
-pub(crate) mod losses;
-mod migrations;
+mod losses;
 pub(crate) mod recorded;

@@ -3,66 +3,86 @@
 use conformance::{Draw, Drawn, Shape, draw_round};
 use std::alloc::{AllocError, Global};
 
-/// Numbers, and what each draws first.
-const FIRSTS: [(u64, u64); 3] = [
-    (7, 1_059_165_278),
-    (0, 167_951_807),
-    (18_446_744_073_709_551_615, 1_574_552_488),
-];
+// Whether a number draws these first.
+fn draws(number: u64, wanted: &[u64]) -> bool {
+    let mut draw = Draw::new(number);
+    for next in wanted {
+        if draw.next() != *next {
+            return false;
+        }
+    }
+    true
+}
 
 #[test]
 fn draws_are_those_of_another_program(rt: HostRuntime) {
-    for (number, first) in &FIRSTS {
-        assert!(rt; Draw::new(*number).next() == *first);
+    assert!(rt; draws(7, &[1_059_165_278, 2_052_263_231, 1_946_856_753]));
+    assert!(rt; draws(0, &[167_951_807]));
+    assert!(rt; draws(u64::MAX, &[1_574_552_488]));
+}
+
+// Whether this is the first round of 7.
+fn is_first_of_seven(drawn: &Drawn) -> bool {
+    drawn.shape == Shape::Loaded
+        && drawn.payload.len() == 49_028
+        && !drawn.wrong_payload
+        && !drawn.wants_cut
+        && drawn.passes == 103
+        && drawn.choice == 2_977_844_157_744_241_824
+}
+
+/// What a round wants.
+#[derive(Clone, Copy)]
+enum Kind {
+    /// Neither a cut nor a wrong payload.
+    Plain,
+    /// No cut, and a wrong payload, which is fetched in any case.
+    Stopped,
+    Other,
+}
+
+fn kind_of(drawn: &Drawn) -> Kind {
+    if drawn.wants_cut {
+        Kind::Other
+    } else if !drawn.wrong_payload {
+        Kind::Plain
+    } else if drawn.shape != Shape::FetchedIfOther {
+        Kind::Stopped
+    } else {
+        Kind::Other
     }
-    let mut draw = Draw::new(7);
-    let three = [draw.next(), draw.next(), draw.next()];
-    assert!(rt; three == [1_059_165_278, 2_052_263_231, 1_946_856_753]);
 }
 
-#[test]
-fn the_first_round_of_seven(rt: HostRuntime) -> Result<(), AllocError> {
-    let drawn = draw_round(rt.alloc(), &mut Draw::new(7))?;
-    assert!(rt; drawn.shape == Shape::Loaded);
-    assert!(rt; drawn.payload.len() == 49_028);
-    assert!(rt; !drawn.wrong_payload);
-    assert!(rt; !drawn.wants_cut);
-    assert!(rt; drawn.passes == 103);
-    assert!(rt; drawn.choice == 2_977_844_157_744_241_824);
-    Ok(())
+fn next_kind(alloc: Global, draw: &mut Draw) -> Result<Kind, AllocError> {
+    let drawn = draw_round(alloc, draw)?;
+    Ok(kind_of(&drawn))
 }
 
-// How many of 200 rounds want neither a cut nor a wrong payload, and how many without a cut want a wrong payload where it
-// is fetched in any case.
-fn counts(alloc: Global, number: u64) -> Result<(usize, usize), AllocError> {
+// Whether so many of 200 rounds are plain, and so many stopped.
+fn are_counted(alloc: Global, number: u64, plain: u64, stopped: u64) -> Result<bool, AllocError> {
     let mut draw = Draw::new(number);
-    let mut plain: usize = 0;
-    let mut stopped: usize = 0;
-    for _ in 0..200usize {
-        let drawn: Drawn = draw_round(alloc, &mut draw)?;
-        if drawn.wants_cut {
-            continue;
-        }
-        if !drawn.wrong_payload {
-            plain = plain.saturating_add(1);
-        } else if drawn.shape != Shape::FetchedIfOther {
-            stopped = stopped.saturating_add(1);
+    let mut found_plain = 0u64;
+    let mut found_stopped = 0u64;
+    for _ in 0..200u64 {
+        match next_kind(alloc, &mut draw)? {
+            Kind::Plain => found_plain = found_plain.saturating_add(1),
+            Kind::Stopped => found_stopped = found_stopped.saturating_add(1),
+            Kind::Other => {}
         }
     }
-    Ok((plain, stopped))
+    Ok(found_plain == plain && found_stopped == stopped)
 }
 
-/// Numbers, and these counts of the rounds that are drawn from each.
-const COUNTS: [(u64, (usize, usize)); 3] = [
-    (7, (65, 25)),
-    (0, (73, 14)),
-    (18_446_744_073_709_551_615, (60, 16)),
-];
+fn starts_with_first_of_seven(alloc: Global) -> Result<bool, AllocError> {
+    let drawn = draw_round(alloc, &mut Draw::new(7))?;
+    Ok(is_first_of_seven(&drawn))
+}
 
 #[test]
-fn two_hundred_rounds(rt: HostRuntime) -> Result<(), AllocError> {
-    for (number, wanted) in &COUNTS {
-        assert!(rt; counts(rt.alloc(), *number)? == *wanted);
-    }
+fn rounds_are_those_of_another_program(rt: HostRuntime) -> Result<(), AllocError> {
+    assert!(rt; starts_with_first_of_seven(rt.alloc())?);
+    assert!(rt; are_counted(rt.alloc(), 7, 65, 25)?);
+    assert!(rt; are_counted(rt.alloc(), 0, 73, 14)?);
+    assert!(rt; are_counted(rt.alloc(), u64::MAX, 60, 16)?);
     Ok(())
 }

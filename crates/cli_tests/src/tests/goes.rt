@@ -1,13 +1,13 @@
 //! Sessions on the files and a blank flash.
 
 use crate::fails::{Fails, Object};
-use crate::files::{blank, with_files};
+use crate::files::{blank, blank_large, with_files};
 use crate::session::{BEGUN, are_launched, goes_after};
 use std::alloc::{AllocError, Global};
 use suit_edge::{Host, Launcher, MemoryLauncher};
 
-/// Whether two sessions go so, one after the other, on a blank flash, of which these calls fail.
-pub(crate) fn goes_on_blank<H: Host, L: Launcher>(
+// Whether two sessions go so, one after the other, on a blank flash, of which these calls fail.
+fn goes_on_blank<H: Host, L: Launcher>(
     alloc: Global,
     sessions: (&str, &str),
     fails: &[u64],
@@ -59,4 +59,34 @@ pub(crate) fn launches_past(
 /// The same where no call fails.
 pub(crate) fn launches(alloc: Global, session: &str, images: &[&[u8]]) -> Result<bool, AllocError> {
     launches_past(alloc, session, Fails::of(Object::Host, &[]), images)
+}
+
+fn goes_on_large<H: Host, L: Launcher>(
+    alloc: Global,
+    sessions: (&str, &str),
+    host: &mut H,
+    launcher: &mut L,
+) -> Result<bool, AllocError> {
+    let mut flash = blank_large(alloc)?;
+    goes_after(alloc, host, &mut flash, launcher, sessions)
+}
+
+fn goes_on_large_with_files<L: Launcher>(
+    alloc: Global,
+    sessions: (&str, &str),
+    launcher: &mut L,
+) -> Result<bool, AllocError> {
+    let mut host = with_files(alloc, &[])?;
+    goes_on_large(alloc, sessions, &mut host, launcher)
+}
+
+/// Whether two sessions go so on a blank flash with room for layout version 2, and launch these images.
+pub(crate) fn both_launch_on_large(
+    alloc: Global,
+    sessions: (&str, &str),
+    images: &[&[u8]],
+) -> Result<bool, AllocError> {
+    let mut launcher = MemoryLauncher::new(alloc, &[])?;
+    let goes = goes_on_large_with_files(alloc, sessions, &mut launcher)?;
+    Ok(goes && are_launched(launcher.launches(), images))
 }

@@ -1,9 +1,8 @@
 //! Sessions of `run migrate`.
 
-use crate::files::{blank_large, with_files};
-use crate::session::{BEGUN, are_launched, goes_after};
-use std::alloc::{AllocError, Global};
-use suit_edge::{Host, MemoryLauncher};
+use crate::session::BEGUN;
+use crate::tests::goes::both_launch_on_large;
+use std::alloc::AllocError;
 
 /// A device of two slots is formatted, and two envelopes are made.
 const BLANK: &str = "run migrate 65536
@@ -22,13 +21,13 @@ make 2.json k 2.suit
 0
 made 175";
 
-/// The first image is installed.
-pub(crate) const FIRST: &str = "run update 1.suit img=abc.img
+/// The first image is installed. Bases that are refused, too low and too high by one, over a slot, and no number, leave all as
+/// it was. Then the root and the configuration page are at the base, with what is installed, and what comes after it.
+const INSTALLED: &str = "run update 1.suit img=abc.img
 0
-installed 1";
+installed 1
 
-/// Bases that are refused: too low and too high by one, over a slot, and no number. All stays as it was.
-const REFUSED: &str = "run migrate 49151
+run migrate 49151
 3
 base is outside
 
@@ -57,10 +56,9 @@ stands 45056
 
 run status
 0
-FIRST UPDATE";
+FIRST UPDATE
 
-/// The root and the configuration page at the base; what is installed, and what comes after it.
-const MIGRATED: &str = "run migrate 65536
+run migrate 65536
 0
 migrated
 
@@ -156,46 +154,11 @@ run migrate 65536
 13
 bad config";
 
-// Whether two sessions go so on a blank flash with room for a base, and launch these images.
-fn both_launch(
-    alloc: Global,
-    sessions: (&str, &str),
-    images: &[&[u8]],
-) -> Result<bool, AllocError> {
-    let mut host = with_files(alloc, &[])?;
-    launches_on(alloc, &mut host, sessions, images)
-}
-
-fn launches_on<H: Host>(
-    alloc: Global,
-    host: &mut H,
-    sessions: (&str, &str),
-    images: &[&[u8]],
-) -> Result<bool, AllocError> {
-    let mut flash = blank_large(alloc)?;
-    let mut launcher = MemoryLauncher::new(alloc, &[])?;
-    let goes = goes_after(alloc, host, &mut flash, &mut launcher, sessions)?;
-    Ok(goes && are_launched(launcher.launches(), images))
-}
-
-// Two sessions as one.
-fn joined(alloc: Global, first: &str, second: &str) -> Result<String, AllocError> {
-    let mut text = String::new(alloc);
-    text.push_str(first)?;
-    text.push_str("\n\n")?;
-    text.push_str(second)?;
-    Ok(text)
-}
-
 #[test]
 fn what_is_installed_moves(rt: HostRuntime) -> Result<(), AllocError> {
-    let alloc = rt.alloc();
-    let installed = joined(alloc, BLANK, FIRST)?;
-    let refused = joined(alloc, REFUSED, MIGRATED)?;
-    let sessions = (installed.as_str(), refused.as_str());
-    assert!(rt; both_launch(alloc, sessions, &[b"abc", b"abd"])?);
-    assert!(rt; both_launch(alloc, (BLANK, SECOND), &[b"abd"])?);
-    assert!(rt; both_launch(alloc, (BLANK, EMPTY), &[])?);
-    assert!(rt; both_launch(alloc, (BEGUN, BAD), &[])?);
+    assert!(rt; both_launch_on_large(rt.alloc(), (BLANK, INSTALLED), &[b"abc", b"abd"])?);
+    assert!(rt; both_launch_on_large(rt.alloc(), (BLANK, SECOND), &[b"abd"])?);
+    assert!(rt; both_launch_on_large(rt.alloc(), (BLANK, EMPTY), &[])?);
+    assert!(rt; both_launch_on_large(rt.alloc(), (BEGUN, BAD), &[])?);
     Ok(())
 }

@@ -1,4 +1,4 @@
 //! Tests of items.
 
-mod reading;
+pub(crate) mod reading;
 mod writing;

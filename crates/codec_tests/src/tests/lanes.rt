@@ -1,6 +1,6 @@
 //! Comparisons by lanes beside plain loops, at each length up to 130.
 
-ghost use Rattle.std.specs.Prelude.{◌≤◌};
+ghost use Rattle.std.specs.Prelude.{◌≡◌, ◌<◌, ◌≤◌, length};
 
 use lane_bytes::{first_other, only_clears, same};
 
@@ -32,21 +32,38 @@ fn agree(old: &[u8], new: &[u8], differ: bool) -> bool {
         && only_clears(old, new) == plain_only_clears(old, new)
 }
 
-/// Whether all agree at this length, with no byte changed and with each one changed in turn.
+/// Whether all agree where a byte is changed. It is as it was then.
+fn agree_with(old: &[u8], new: &mut [u8], place: usize, byte: u8) -> bool
+    requires { place < length new.old }
+    ensures { length new.new ≡ length new.old }
+{
+    let was = new[place];
+    new[place] = byte;
+    let agrees = agree(old, new, true);
+    new[place] = was;
+    agrees
+}
+
+/// Whether all agree with no byte changed, and with each one changed in turn.
+fn agree_each(old: &[u8], new: &mut [u8]) -> bool {
+    if !agree(old, new, false) {
+        return false;
+    }
+    for place in 0..new.len() {
+        if !agree_with(old, new, place, 0x3e) || !agree_with(old, new, place, 0x7f) {
+            return false;
+        }
+    }
+    true
+}
+
+/// Whether all agree at this length.
 fn agree_at(n: usize) -> bool
     requires { n ≤ 130 }
 {
     let old = [0x7e_u8; 130];
     let mut new = [0x7e_u8; 130];
-    let mut good = agree(&old[..n], &new[..n], false);
-    for k in 0..n {
-        for byte in [0x3e, 0x7f] {
-            new[k] = byte;
-            good = good && agree(&old[..n], &new[..n], true);
-        }
-        new[k] = 0x7e;
-    }
-    good
+    agree_each(&old[..n], &mut new[..n])
 }
 
 #[test]
@@ -54,17 +71,5 @@ fn all_lengths_agree_with_plain_loops(rt: HostRuntime) {
     for n in 0..131 {
         assert!(rt; agree_at(n));
     }
-}
-
-#[test]
-fn stated_answers(rt: HostRuntime) {
-    let mut bytes = [0xff_u8; 65];
-    assert!(rt; first_other(&bytes, 0xff) == None);
-    bytes[64] = 0;
-    assert!(rt; first_other(&bytes, 0xff) == Some(64));
-    assert!(rt; !same(&bytes, &[0xff; 65]));
-    assert!(rt; !same(&bytes, &bytes[..64]));
-    assert!(rt; only_clears(&[0xf0], &[0x70]));
-    assert!(rt; !only_clears(&[0xf0], &[0xf8]));
-    assert!(rt; only_clears(&[], &[]));
+    assert!(rt; !same(b"ab", b"a"));
 }

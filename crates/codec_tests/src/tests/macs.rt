@@ -1,7 +1,8 @@
 //! Codes of messages, against vectors from outside.
 
-use crate::tests::rows::{bytes_of, split_field};
+use crate::tests::rows::fields_of;
 use hmac_mac0::{Mac, Mac512, hmac, hmac512};
+use lane_bytes::same;
 use std::alloc::{AllocError, Global};
 
 // Keys, messages and their codes by SHA-256 and SHA-512 in hexadecimal (RFC 4231, section 4, which gives one code cut to 16 bytes).
@@ -43,22 +44,25 @@ fn is_code(found: &[u8], code: &[u8]) -> bool {
     code.len() >= 16 && found.starts_with(code)
 }
 
+fn is_coded(key: &[u8], message: &[u8], code: &[u8]) -> bool {
+    let whole = hmac(key, message);
+    is_code(&whole, code) && same(&whole, &in_two_pieces(key, message))
+}
+
+fn is_coded_512(key: &[u8], message: &[u8], code: &[u8]) -> bool {
+    let whole = hmac512(key, message);
+    is_code(&whole, code) && same(&whole, &in_two_pieces_512(key, message))
+}
+
 fn is_vector(alloc: Global, row: &str) -> Result<bool, AllocError> {
-    let (key, rest) = split_field(row);
-    let (message, rest) = split_field(rest);
-    let (code, code_512) = split_field(rest);
-    let key = bytes_of(alloc, key)?;
-    let message = bytes_of(alloc, message)?;
-    let code = bytes_of(alloc, code)?;
-    let code_512 = bytes_of(alloc, code_512)?;
-    let whole = hmac(key.as_slice(), message.as_slice());
-    let whole_512 = hmac512(key.as_slice(), message.as_slice());
-    Ok(
-        is_code(&whole, code.as_slice())
-            && is_code(&whole_512, code_512.as_slice())
-            && whole == in_two_pieces(key.as_slice(), message.as_slice())
-            && whole_512 == in_two_pieces_512(key.as_slice(), message.as_slice()),
-    )
+    let fields = fields_of(alloc, row)?;
+    match fields.as_slice() {
+        [key, message, code, code_512] => Ok(
+            is_coded(key.as_slice(), message.as_slice(), code.as_slice())
+                && is_coded_512(key.as_slice(), message.as_slice(), code_512.as_slice()),
+        ),
+        _ => Ok(false),
+    }
 }
 
 #[test]

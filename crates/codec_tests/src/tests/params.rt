@@ -2,9 +2,10 @@
 
 use crate::tests::rows::bytes_of;
 use det_cbor::{Bytes, Cursor};
+use lane_bytes::same;
 use std::alloc::{AllocError, Global};
 use suit_params::{
-    Fault, ParamList, Refusal, Why, push_digest, read_digest, read_params, write_params,
+    Digest, Fault, ParamList, Refusal, Why, push_digest, read_digest, read_params, write_params,
 };
 
 // Each parameter, by the numbers of the draft.
@@ -35,7 +36,7 @@ fn is_written(alloc: Global, list: &ParamList, bytes: &[u8]) -> Result<bool, All
     let copies = copied(alloc, list)?;
     let mut written = Bytes::new(alloc);
     write_params(alloc, &copies, &mut written)?;
-    Ok(written.as_slice() == bytes)
+    Ok(same(written.as_slice(), bytes))
 }
 
 // Whether the bytes are each parameter, and written again.
@@ -71,73 +72,63 @@ fn other_maps_are_refused(rt: HostRuntime) {
     assert!(rt; is_refused(rt.alloc(), b"\xa1\x03\x43\x82\x2e\x40", 103, Why::Algorithm));
 }
 
-// The heads of a digest's array by each hash function (RFC 9054, section 2), and how many bytes follow them.
-const DIGESTS: [(&[u8], usize); 3] = [
-    (b"\x82\x2f\x58\x20", 32),
-    (b"\x82\x38\x2a\x58\x30", 48),
-    (b"\x82\x38\x2b\x58\x40", 64),
-];
+// The arrays of digests by each hash function (RFC 9054, section 2), and a byte behind each.
+const DIGESTS: &str = "
+822f5820070707070707070707070707070707070707070707070707070707070707070700
+82382a583007070707070707070707070707070707070707070707070707070707070707070707070707070707070707070707070700
+82382b58400707070707070707070707070707070707070707070707070707070707070707070707070707070707070707070707070707070707070707070707070707070700
+";
 
 // Digests of another length than that of their hash function, and two numbers of no hash function.
-const OTHERS: [(&[u8], usize); 6] = [
-    (b"\x82\x2f\x58\x30", 48),
-    (b"\x82\x38\x2a\x58\x20", 32),
-    (b"\x82\x38\x2b\x58\x30", 48),
-    (b"\x82\x38\x2a\x58\x40", 64),
-    (b"\x82\x38\x2c\x58\x40", 64),
-    (b"\x82\x18\x2b\x58\x40", 64),
-];
+const OTHERS: &str = "
+822f5830070707070707070707070707070707070707070707070707070707070707070707070707070707070707070707070707
+82382a58200707070707070707070707070707070707070707070707070707070707070707
+82382b5830070707070707070707070707070707070707070707070707070707070707070707070707070707070707070707070707
+82382a584007070707070707070707070707070707070707070707070707070707070707070707070707070707070707070707070707070707070707070707070707070707
+82382c584007070707070707070707070707070707070707070707070707070707070707070707070707070707070707070707070707070707070707070707070707070707
+82182b584007070707070707070707070707070707070707070707070707070707070707070707070707070707070707070707070707070707070707070707070707070707
+";
 
-fn array_of(alloc: Global, heads: &[u8], count: usize) -> Result<Bytes, AllocError> {
-    let mut bytes = Bytes::new(alloc);
-    bytes.extend(heads)?;
-    for _ in 0..count {
-        bytes.push(7)?;
-    }
-    Ok(bytes)
+// Whether a digest and the byte behind it are written so.
+fn is_written_so(alloc: Global, digest: &Digest, bytes: &[u8]) -> Result<bool, AllocError> {
+    let mut out = Bytes::new(alloc);
+    push_digest(&mut out, digest)?;
+    out.push(0)?;
+    Ok(same(out.as_slice(), bytes))
 }
 
-// Whether a digest is read up to the byte behind it, and written as it was.
-fn is_read(alloc: Global, heads: &[u8], count: usize) -> Result<bool, AllocError> {
-    let mut bytes = array_of(alloc, heads, count)?;
-    bytes.push(0)?;
+// Whether a row's digest is read up to the byte behind it, and written as it was.
+fn is_read(alloc: Global, row: &str) -> Result<bool, AllocError> {
+    let bytes = bytes_of(alloc, row)?;
     let mut cursor = Cursor::new(bytes.as_slice(), 100);
     match read_digest(&mut cursor) {
-        Ok(digest) => {
-            let mut out = Bytes::new(alloc);
-            push_digest(&mut out, &digest)?;
-            out.push(0)?;
-            Ok(cursor.left() == 1 && out.as_slice() == bytes.as_slice())
-        }
+        Ok(digest) => { Ok(cursor.left() == 1 && is_written_so(alloc, &digest, bytes.as_slice())?) }
         Err(_) => Ok(false),
     }
 }
 
 #[test]
 fn digests_of_three_lengths_are_read(rt: HostRuntime) -> Result<(), AllocError> {
-    for (heads, count) in DIGESTS {
-        assert!(rt; is_read(rt.alloc(), heads, count)?, "{count}");
+    for row in DIGESTS.trim().lines() {
+        assert!(rt; is_read(rt.alloc(), row)?, "{row}");
     }
     Ok(())
 }
 
-// Whether a digest is refused for its algorithm, at its array.
-fn is_of_no_algorithm(alloc: Global, heads: &[u8], count: usize) -> Result<bool, AllocError> {
-    let bytes = array_of(alloc, heads, count)?;
+// Whether a row's digest is refused for its algorithm, at its array.
+fn is_of_no_algorithm(alloc: Global, row: &str) -> Result<bool, AllocError> {
+    let bytes = bytes_of(alloc, row)?;
     let mut cursor = Cursor::new(bytes.as_slice(), 100);
-    Ok(
-        read_digest(&mut cursor)
-            == Err(Refusal {
-                place: 100,
-                why: Why::Algorithm,
-            }),
-    )
+    match read_digest(&mut cursor) {
+        Err(found) => Ok(found.place == 100 && matches!(found.why, Why::Algorithm)),
+        Ok(_) => Ok(false),
+    }
 }
 
 #[test]
 fn other_lengths_and_numbers_are_refused(rt: HostRuntime) -> Result<(), AllocError> {
-    for (heads, count) in OTHERS {
-        assert!(rt; is_of_no_algorithm(rt.alloc(), heads, count)?, "{count}");
+    for row in OTHERS.trim().lines() {
+        assert!(rt; is_of_no_algorithm(rt.alloc(), row)?, "{row}");
     }
     Ok(())
 }

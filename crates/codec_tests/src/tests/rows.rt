@@ -16,6 +16,15 @@ pub(crate) fn split_field(row: &str) -> (&str, &str) {
     row.split_once(' ').unwrap_or((row, ""))
 }
 
+/// The fields of a row between spaces, in hexadecimal.
+pub(crate) fn fields_of(alloc: Global, row: &str) -> Result<Vec<Vec<u8>>, AllocError> {
+    let mut fields = Vec::new(alloc);
+    for text in row.split(' ') {
+        fields.push(bytes_of(alloc, text)?)?;
+    }
+    Ok(fields)
+}
+
 /// The name of a reason in a row.
 pub(crate) fn name_of(reason: Reason) -> &'static str {
     match reason {

@@ -36,31 +36,65 @@ fn is_same_set(of: u32, param: &Param, other: &Event) -> bool {
     }
 }
 
-// A word for the kind of an event, and its component or place. None for a parameter that is set.
-fn telling(event: &Event) -> Option<(&'static str, u64)> {
-    match event {
-        Event::Set { .. } => None,
-        Event::Tried { component, .. } => Some(("tried", *component as u64)),
-        Event::Matched { component, .. } => Some(("matched", *component as u64)),
-        Event::Missed { component } => Some(("missed", *component as u64)),
-        Event::Wrote { component } => Some(("wrote", *component as u64)),
-        Event::Invoked { component, .. } => Some(("invoked", *component as u64)),
-        Event::Failed { place } => Some(("failed", *place)),
+fn is_same_size(one: Option<u64>, other: Option<u64>) -> bool {
+    match one {
+        Some(size) => matches!(other, Some(found) if found == size),
+        None => other.is_none(),
     }
 }
 
-// The kind of condition, the digest, the size and the success that an event tells.
-fn details(event: &Event) -> (Option<TestKind>, Option<Digest>, Option<u64>, bool) {
-    match event {
-        Event::Tried { kind, passed, .. } => (Some(*kind), None, None, *passed),
-        Event::Matched { digest, size, .. } => (None, Some(*digest), *size, true),
+fn is_same_digest(one: &Option<Digest>, other: &Option<Digest>) -> bool {
+    match one {
+        Some(digest) => matches!(other, Some(found) if found == digest),
+        None => other.is_none(),
+    }
+}
+
+// Whether the other tells the same attempt.
+fn is_same_attempt(of: u32, kind: TestKind, passed: bool, other: &Event) -> bool {
+    match other {
+        Event::Tried {
+            component,
+            kind: found,
+            passed: also,
+        } => *component == of && *found == kind && *also == passed,
+        _ => false,
+    }
+}
+
+// Whether the other tells the same match.
+fn is_same_match(of: u32, digest: &Digest, size: Option<u64>, other: &Event) -> bool {
+    match other {
+        Event::Matched {
+            component,
+            digest: found,
+            size: length,
+        } => *component == of && found == digest && is_same_size(*length, size),
+        _ => false,
+    }
+}
+
+// Whether the other tells the same invoke.
+fn is_same_invoke(
+    of: u32,
+    digest: &Option<Digest>,
+    size: Option<u64>,
+    passed: bool,
+    other: &Event,
+) -> bool {
+    match other {
         Event::Invoked {
-            digest,
-            size,
-            passed,
-            ..
-        } => (None, *digest, *size, *passed),
-        _ => (None, None, None, true),
+            component,
+            digest: found,
+            size: length,
+            passed: also,
+        } => {
+            *component == of
+                && *also == passed
+                && is_same_digest(found, digest)
+                && is_same_size(*length, size)
+        }
+        _ => false,
     }
 }
 
@@ -68,6 +102,28 @@ fn details(event: &Event) -> (Option<TestKind>, Option<Digest>, Option<u64>, boo
 pub(crate) fn is_same_event(one: &Event, other: &Event) -> bool {
     match one {
         Event::Set { component, param } => is_same_set(*component, param, other),
-        _ => telling(one) == telling(other) && details(one) == details(other),
+        Event::Tried {
+            component,
+            kind,
+            passed,
+        } => is_same_attempt(*component, *kind, *passed, other),
+        Event::Matched {
+            component,
+            digest,
+            size,
+        } => is_same_match(*component, digest, *size, other),
+        Event::Missed { component } => {
+            matches!(other, Event::Missed { component: of } if of == component)
+        }
+        Event::Wrote { component } => {
+            matches!(other, Event::Wrote { component: of } if of == component)
+        }
+        Event::Invoked {
+            component,
+            digest,
+            size,
+            passed,
+        } => is_same_invoke(*component, digest, *size, *passed, other),
+        Event::Failed { place } => matches!(other, Event::Failed { place: at } if at == place),
     }
 }

@@ -7,10 +7,12 @@ ghost use Rattle.suit_commands.specs.Numbers.{work_number};
 
 use crate::tests::player::{CAPACITIES, FILE, VENDOR};
 use det_cbor::{Bytes, Text};
-use flash_layout::{Entry, Layout, MOST_ENTRIES, Memory, Places, Trail, VERSION_1, is_layout};
+use flash_layout::{
+    Entry, Layout, MOST_ENTRIES, Memory, NoTrail, Places, Trail, VERSION_1, is_layout,
+};
 use std::alloc::{AllocError, Global};
 use step_machine::{PlanEnd, Program, SlotChoice, Uris, World, run_plan};
-use suit_edge::{Disk, Edge, MemoryDisk, MemoryHost, MemoryLauncher};
+use suit_edge::{Disk, Edge, Host, Launcher, MemoryDisk, MemoryHost};
 use suit_params::Identifier;
 
 // Where the slots of the components in flash begin.
@@ -27,16 +29,6 @@ const SLOTS: SlotChoice = SlotChoice {
     number: [0; MOST_ENTRIES],
 };
 
-/// The objects of a device that tell what they have.
-#[derive(Drop)]
-pub(crate) struct Device {
-    layout: Layout,
-    uris: Uris,
-    host: MemoryHost,
-    pub(crate) disk: MemoryDisk,
-    pub(crate) launcher: MemoryLauncher,
-}
-
 fn identifier_of(alloc: Global, byte: u8) -> Result<Identifier, AllocError> {
     let mut part = Bytes::new(alloc);
     part.push(byte)?;
@@ -45,15 +37,16 @@ fn identifier_of(alloc: Global, byte: u8) -> Result<Identifier, AllocError> {
     Ok(identifier)
 }
 
-// A component that has the identifier of this one byte.
-fn component(
+// Adds a component that has the identifier of this one byte.
+fn push_component(
     alloc: Global,
     byte: u8,
     memory: Memory,
     start: u64,
     capacity: u64,
-) -> Result<Entry, AllocError> {
-    Ok(Entry {
+    layout: &mut Layout,
+) -> Result<(), AllocError> {
+    let entry = Entry {
         identifier: identifier_of(alloc, byte)?,
         memory,
         slots: 1,
@@ -62,14 +55,30 @@ fn component(
         vendor: Some(VENDOR),
         class: None,
         device: None,
-    })
+    };
+    layout.push(entry)?;
+    Ok(())
 }
 
 fn layout_of_three(alloc: Global) -> Result<Layout, AllocError> {
     let mut layout = Layout::new(alloc);
-    layout.push(component(alloc, 0, Memory::Flash, STARTS[0], CAPACITIES[0])?)?;
-    layout.push(component(alloc, 1, Memory::Flash, STARTS[1], CAPACITIES[1])?)?;
-    layout.push(component(alloc, 2, Memory::Ram, 0, CAPACITIES[2])?)?;
+    push_component(
+        alloc,
+        0,
+        Memory::Flash,
+        STARTS[0],
+        CAPACITIES[0],
+        &mut layout,
+    )?;
+    push_component(
+        alloc,
+        1,
+        Memory::Flash,
+        STARTS[1],
+        CAPACITIES[1],
+        &mut layout,
+    )?;
+    push_component(alloc, 2, Memory::Ram, 0, CAPACITIES[2], &mut layout)?;
     Ok(layout)
 }
 
@@ -81,60 +90,63 @@ fn uris_of_one(alloc: Global) -> Result<Uris, AllocError> {
     Ok(uris)
 }
 
-fn host_of_one(alloc: Global) -> Result<MemoryHost, AllocError> {
+/// A host with the one file.
+pub(crate) fn host_of_one(alloc: Global) -> Result<MemoryHost, AllocError> {
     let mut host = MemoryHost::new(alloc, &[])?;
     host.add(FILE.0, FILE.1)?;
     Ok(host)
 }
 
-impl Device {
-    /// A device without contents. The calls of its disk with these numbers fail, counted from 0.
-    pub(crate) fn new(alloc: Global, fails: &[u64]) -> Result<Device, AllocError> {
-        Ok(Device {
-            layout: layout_of_three(alloc)?,
-            uris: uris_of_one(alloc)?,
-            host: host_of_one(alloc)?,
-            disk: MemoryDisk::new(alloc, SIZE, fails)?,
-            launcher: MemoryLauncher::new(alloc, &[])?,
-        })
-    }
+/// A disk without contents.
+pub(crate) fn empty_disk(alloc: Global) -> Result<MemoryDisk, AllocError> {
+    MemoryDisk::new(alloc, SIZE, &[])
+}
 
-    /// Runs a procedure.
-    pub(crate) fn run<T: Trail>(
-        &mut self,
-        alloc: Global,
-        program: Program<'_>,
-        trail: &mut T,
-    ) -> Result<PlanEnd, AllocError>
-        requires plan { IsPlan (program_tree program) }
-        requires count { program.count ≡ 3 }
-        requires ranges { T.ranges trail.old ≡ [] }
-        requires holds { (image : List ℕ) → T.holds trail.old (T.list trail.old) image }
-        requires room { IsTrue T.told → IfSome (T.room trail.old)
-            (λ room. length (T.list trail.old) + work_number (program_tree program) ≤ room) }
-    {
-        if self.layout.len() != 3 {
-            return Err(AllocError);
-        }
-        if !is_layout(VERSION_1, self.disk.size(), &self.layout) {
-            return Err(AllocError);
-        }
-        let layout = &self.layout;
-        let mut world = World::new(alloc, layout, VERSION_1, &PLACES, &SLOTS, &self.uris, None)?;
-        let end = run_plan(
-            &mut self.host,
-            &mut self.disk,
-            &mut self.launcher,
-            &mut world,
-            program,
-            trail,
-        );
-        Ok(end)
+// Runs a procedure on components of this layout.
+fn run_on<H: Host, D: Disk, L: Launcher, T: Trail>(
+    alloc: Global,
+    program: Program<'_>,
+    layout: &Layout,
+    host: &mut H,
+    disk: &mut D,
+    launcher: &mut L,
+    trail: &mut T,
+) -> Result<PlanEnd, AllocError>
+    requires plan { IsPlan (program_tree program) }
+    requires count { program.count ≡ 3 }
+    requires ranges { T.ranges trail.old ≡ [] }
+    requires holds { (image : List ℕ) → T.holds trail.old (T.list trail.old) image }
+    requires room { IsTrue T.told → IfSome (T.room trail.old)
+        (λ room. length (T.list trail.old) + work_number (program_tree program) ≤ room) }
+{
+    if layout.len() != 3 {
+        return Err(AllocError);
     }
+    if !is_layout(VERSION_1, disk.size(), layout) {
+        return Err(AllocError);
+    }
+    let uris = uris_of_one(alloc)?;
+    let mut world = World::new(alloc, layout, VERSION_1, &PLACES, &SLOTS, &uris, None)?;
+    Ok(run_plan(host, disk, launcher, &mut world, program, trail))
+}
+
+/// Runs a procedure with these objects.
+pub(crate) fn run<H: Host, D: Disk, L: Launcher>(
+    alloc: Global,
+    program: Program<'_>,
+    host: &mut H,
+    disk: &mut D,
+    launcher: &mut L,
+) -> Result<PlanEnd, AllocError>
+    requires plan { IsPlan (program_tree program) }
+    requires count { program.count ≡ 3 }
+{
+    let layout = layout_of_three(alloc)?;
+    run_on(alloc, program, &layout, host, disk, launcher, &mut NoTrail)
 }
 
 /// Whether the slot of a component in the flash has this content.
-pub(crate) fn has(disk: &mut MemoryDisk, component: usize, content: &[u8]) -> bool {
+pub(crate) fn has<D: Disk>(disk: &mut D, component: usize, content: &[u8]) -> bool {
     let Some(start) = STARTS.get(component) else {
         return false;
     };

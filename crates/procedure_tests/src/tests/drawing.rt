@@ -94,19 +94,32 @@ fn push_held(bytes: &mut Vec<u8>, held: &[u8]) -> Result<(), AllocError> {
     Ok(bytes.extend_from_slice(held)?)
 }
 
+// One of two values, or nothing.
+fn value_of(draws: &mut Draws, values: &[&'static [u8]; 2]) -> &'static [u8] {
+    match draws.below(8) {
+        0..5 => b"",
+        5 | 6 => values[0],
+        _ => values[1],
+    }
+}
+
+// Some parameters, and the head of a map of them.
+fn push_params(draws: &mut Draws, params: &mut Vec<u8>) -> Result<u8, AllocError> {
+    let mut head: u8 = 0xa0;
+    for values in &PARAMS {
+        let value = value_of(draws, values);
+        if !value.is_empty() {
+            params.extend_from_slice(value)?;
+            head = head.wrapping_add(1);
+        }
+    }
+    Ok(head)
+}
+
 // An override of some parameters.
 fn push_override(draws: &mut Draws, bytes: &mut Vec<u8>) -> Result<(), AllocError> {
     let mut params = Vec::new(draws.alloc);
-    let mut head: u8 = 0xa0;
-    for values in &PARAMS {
-        let value = match draws.below(8) {
-            0..5 => continue,
-            5 | 6 => values[0],
-            _ => values[1],
-        };
-        params.extend_from_slice(value)?;
-        head = head.wrapping_add(1);
-    }
+    let head = push_params(draws, &mut params)?;
     bytes.extend_from_slice(&[0x14, head])?;
     Ok(bytes.extend_from_slice(&params)?)
 }
@@ -170,18 +183,23 @@ pub(crate) fn drawn_shared(draws: &mut Draws) -> Result<Vec<u8>, AllocError> {
     drawn(draws, true, SETS, inner)
 }
 
-/// A member, with inner sequences inside others.
-pub(crate) fn drawn_member(draws: &mut Draws) -> Result<Vec<u8>, AllocError> {
-    let one = drawn(draws, false, b"", NO_INNER)?;
-    let other = drawn(draws, false, b"", NO_INNER)?;
-    let inner = Inner {
-        one: &one,
-        other: &other,
-    };
+fn drawn_around(draws: &mut Draws, inner: Inner<'_>) -> Result<Vec<u8>, AllocError> {
     let outer = drawn(draws, false, b"", inner)?;
     let inner = Inner {
         one: &outer,
-        other: &other,
+        other: inner.other,
     };
     drawn(draws, false, b"", inner)
+}
+
+fn drawn_beside(draws: &mut Draws, one: &[u8]) -> Result<Vec<u8>, AllocError> {
+    let other = drawn(draws, false, b"", NO_INNER)?;
+    let inner = Inner { one, other: &other };
+    drawn_around(draws, inner)
+}
+
+/// A member, with inner sequences inside others.
+pub(crate) fn drawn_member(draws: &mut Draws) -> Result<Vec<u8>, AllocError> {
+    let one = drawn(draws, false, b"", NO_INNER)?;
+    drawn_beside(draws, &one)
 }

@@ -1,13 +1,14 @@
 //! Procedures that are drawn, run over their bytes beside a plain player of their trees.
 
-use crate::tests::device::{Device, has};
+ghost use Rattle.std.specs.Prelude.{◌<◌};
+
+use crate::tests::device::{empty_disk, has, host_of_one, run};
 use crate::tests::drawing::{Draws, drawn_member, drawn_shared};
 use crate::tests::player::{COUNT, Stage, Stop, play};
 use crate::tests::spelled::{Spelled, Trees};
-use flash_layout::NoTrail;
 use std::alloc::{AllocError, Global};
 use step_machine::PlanEnd;
-use suit_edge::{Launch, MemoryDisk};
+use suit_edge::{Disk, Host, Launch, MemoryLauncher};
 
 // The end of a procedure that the player ended so.
 fn end_of(ended: Result<(), Stop>) -> PlanEnd {
@@ -19,8 +20,8 @@ fn end_of(ended: Result<(), Stop>) -> PlanEnd {
 }
 
 // Whether the player comes to the same end, contents and launches.
-fn is_played<'a>(
-    disk: &mut MemoryDisk,
+fn is_played<'a, D: Disk>(
+    disk: &mut D,
     launches: &'a [Launch],
     trees: &'a Trees,
     end: PlanEnd,
@@ -40,48 +41,97 @@ fn is_played<'a>(
     alike && end_of(ended) == end && has(disk, 0, one) && has(disk, 1, other)
 }
 
+fn end_if_played<D: Disk>(
+    alloc: Global,
+    spelled: &Spelled<'_>,
+    disk: &mut D,
+    launches: &[Launch],
+    end: PlanEnd,
+) -> Result<Option<PlanEnd>, AllocError> {
+    let trees = spelled.trees(alloc)?;
+    Ok(is_played(disk, launches, &trees, end).then_some(end))
+}
+
+fn end_on<H: Host, D: Disk>(
+    alloc: Global,
+    spelled: &Spelled<'_>,
+    host: &mut H,
+    disk: &mut D,
+) -> Result<Option<PlanEnd>, AllocError> {
+    let mut launcher = MemoryLauncher::new(alloc, &[])?;
+    let end = run(alloc, spelled.program(), host, disk, &mut launcher)?;
+    end_if_played(alloc, spelled, disk, launcher.launches().as_slice(), end)
+}
+
+fn end_with<H: Host>(
+    alloc: Global,
+    spelled: &Spelled<'_>,
+    host: &mut H,
+) -> Result<Option<PlanEnd>, AllocError> {
+    let mut disk = empty_disk(alloc)?;
+    end_on(alloc, spelled, host, &mut disk)
+}
+
 // The end of a procedure on an empty device, where it, the contents and the launches are those of the player.
 fn beside(alloc: Global, spelled: &Spelled<'_>) -> Result<Option<PlanEnd>, AllocError> {
-    let trees = spelled.trees(alloc)?;
-    let mut device = Device::new(alloc, &[])?;
-    let end = device.run(alloc, spelled.program(), &mut NoTrail)?;
-    let launches = device.launcher.launches().as_slice();
-    if is_played(&mut device.disk, launches, &trees, end) {
-        Ok(Some(end))
-    } else {
-        Ok(None)
+    let mut host = host_of_one(alloc)?;
+    end_with(alloc, spelled, &mut host)
+}
+
+// The bytes of a procedure's four parts.
+fn drawn_parts(draws: &mut Draws) -> Result<Vec<Vec<u8>>, AllocError> {
+    let mut parts = Vec::new(draws.alloc);
+    parts.push(drawn_shared(draws)?)?;
+    for _ in 0..3 {
+        parts.push(drawn_member(draws)?)?;
     }
+    Ok(parts)
 }
 
 fn drawn_beside(draws: &mut Draws) -> Result<Option<PlanEnd>, AllocError> {
-    let shared = drawn_shared(draws)?;
-    let first = drawn_member(draws)?;
-    let second = drawn_member(draws)?;
-    let third = drawn_member(draws)?;
-    let spelled = Spelled {
-        shared: &shared,
-        first: &first,
-        second: &second,
-        third: &third,
-    };
-    beside(draws.alloc, &spelled)
+    let parts = drawn_parts(draws)?;
+    match parts.as_slice() {
+        [shared, first, second, third] => beside(
+            draws.alloc,
+            &Spelled {
+                shared: shared.as_slice(),
+                first: first.as_slice(),
+                second: second.as_slice(),
+                third: third.as_slice(),
+            },
+        ),
+        _ => Ok(None),
+    }
+}
+
+// The kind of an end.
+fn kind(end: PlanEnd) -> usize
+    ensures { result < 3 }
+{
+    match end {
+        PlanEnd::Done => 0,
+        PlanEnd::ConditionFailed { .. } => 1,
+        PlanEnd::DirectiveFailed { .. } => 2,
+    }
+}
+
+// How many of 300 procedures that are drawn end in each kind; none where one is not played so.
+fn counts(alloc: Global) -> Result<[u32; 3], AllocError> {
+    let mut draws = Draws { alloc, state: 1 };
+    let mut counts = [0u32; 3];
+    for _ in 0..300 {
+        let Some(end) = drawn_beside(&mut draws)? else {
+            return Ok([0; 3]);
+        };
+        let kind = kind(end);
+        counts[kind] = counts[kind].wrapping_add(1);
+    }
+    Ok(counts)
 }
 
 #[test]
 fn procedures_run_as_their_trees_are_played(rt: HostRuntime) -> Result<(), AllocError> {
-    let alloc = rt.alloc();
-    let mut draws = Draws { alloc, state: 1 };
-    let mut done: u32 = 0;
-    let mut conditions: u32 = 0;
-    let mut directives: u32 = 0;
-    for _ in 0..300 {
-        match drawn_beside(&mut draws)? {
-            Some(PlanEnd::Done) => done = done.wrapping_add(1),
-            Some(PlanEnd::ConditionFailed { .. }) => conditions = conditions.wrapping_add(1),
-            Some(PlanEnd::DirectiveFailed { .. }) => directives = directives.wrapping_add(1),
-            None => assert!(rt; false),
-        }
-    }
+    let [done, conditions, directives] = counts(rt.alloc())?;
     // each kind of end is among them
     assert!(rt; done > 20);
     assert!(rt; conditions > 20);

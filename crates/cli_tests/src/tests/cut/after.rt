@@ -1,17 +1,20 @@
-//! The flash after a second update that was cut off.
+//! The flash after a second update, or a migration, that was cut off.
 
 ghost use Rattle.std.specs.Prelude.{◌≡◌, ◌≤◌};
 
+use crate::bytes::are_same;
 use crate::session::{are_launched, status_of};
-use crate::tests::cut::recorded::UPDATE;
+use crate::tests::cut::recorded::{MIGRATION, UPDATE};
 use std::alloc::{AllocError, Global};
-use suit_edge::{Disk, Host, MemoryLauncher, MemorySink};
+use suit_edge::{Disk, Host, Launcher, MemoryLauncher, MemorySink};
 
 /// How a command ends.
-#[derive(Clone, Copy, PartialEq, Eq)]
+#[derive(Clone, Copy)]
 pub(crate) enum Ending {
     Booted,
     Installed,
+    /// The layout is version 2 now, or was before.
+    Migrated,
     /// The first update is recorded, or the second.
     First,
     Second,
@@ -28,17 +31,20 @@ fn ending_of(status: u8, lines: &[u8]) -> Ending {
             Ending::ConditionFailed
         }
         8 => Ending::FlashFault,
+        22 => Ending::Migrated,
         _ => Ending::Other,
     }
 }
 
 // How a run with these lines ended.
 fn done_of(lines: &[u8]) -> Ending {
-    if lines == b"ended\n".as_slice() {
+    if are_same(lines, b"ended\n") {
         Ending::Booted
-    } else if lines == b"installed 2\n".as_slice() {
+    } else if are_same(lines, b"installed 2\n") {
         Ending::Installed
-    } else if lines.starts_with(b"sequence 1\n") {
+    } else if are_same(lines, b"migrated\n") {
+        Ending::Migrated
+    } else if lines.starts_with(b"sequence 1\ngeneration 1\nbank 0\n") {
         Ending::First
     } else if lines.starts_with(b"sequence 2\n") {
         Ending::Second
@@ -48,11 +54,11 @@ fn done_of(lines: &[u8]) -> Ending {
 }
 
 // How a command ends with this launcher.
-fn ended<H: Host, D: Disk>(
+fn ended<H: Host, D: Disk, L: Launcher>(
     alloc: Global,
     host: &mut H,
     flash: &mut D,
-    launcher: &mut MemoryLauncher,
+    launcher: &mut L,
     command: &'static str,
 ) -> Result<Ending, AllocError>
     requires { 49152 ≤ D.extent flash.old }
@@ -79,16 +85,16 @@ pub(crate) fn end_of_run<H: Host, D: Disk>(
 
 // Whether a boot starts this image alone.
 fn is_started(ending: Ending, launcher: &MemoryLauncher, image: &[u8]) -> bool {
-    ending == Ending::Booted && are_launched(launcher.launches(), &[image])
+    matches!(ending, Ending::Booted) && are_launched(launcher.launches(), &[image])
 }
 
 // Whether a boot is stopped at a condition and starts nothing.
 fn is_stopped(ending: Ending, launcher: &MemoryLauncher) -> bool {
-    ending == Ending::ConditionFailed && launcher.launches().is_empty()
+    matches!(ending, Ending::ConditionFailed) && launcher.launches().is_empty()
 }
 
 /// How many slots the device has.
-#[derive(Clone, Copy, PartialEq, Eq)]
+#[derive(Clone, Copy)]
 pub(crate) enum Slots {
     One,
     Two,
@@ -107,7 +113,7 @@ fn boots<H: Host, D: Disk>(
 {
     let mut launcher = MemoryLauncher::new(alloc, &[])?;
     let ending = ended(alloc, host, flash, &mut launcher, "run boot")?;
-    let stops = slots == Slots::One && is_stopped(ending, &launcher);
+    let stops = matches!(slots, Slots::One) && is_stopped(ending, &launcher);
     Ok(stops || is_started(ending, &launcher, image))
 }
 
@@ -139,7 +145,7 @@ fn installs<H: Host, D: Disk>(
 {
     let mut launcher = MemoryLauncher::new(alloc, &[])?;
     let ending = ended(alloc, host, flash, &mut launcher, UPDATE)?;
-    Ok(ending == Ending::Installed && are_launched(launcher.launches(), at_once))
+    Ok(matches!(ending, Ending::Installed) && are_launched(launcher.launches(), at_once))
 }
 
 /// Whether a boot does as is recorded; the update given again is installed, and launches these images itself; and a boot
@@ -158,5 +164,21 @@ pub(crate) fn goes_on<H: Host, D: Disk>(
         boots_recorded(alloc, host, flash, slots)?
             && installs(alloc, host, flash, at_once)?
             && boots(alloc, host, flash, b"abd", Slots::Two)?,
+    )
+}
+
+/// Whether a boot starts what is recorded; a migration is done then, unless it was; and a boot starts the same.
+pub(crate) fn stays<H: Host, D: Disk>(
+    alloc: Global,
+    host: &mut H,
+    flash: &mut D,
+) -> Result<bool, AllocError>
+    requires { 49152 ≤ D.extent flash.old }
+    ensures { D.extent flash.new ≡ D.extent flash.old }
+{
+    Ok(
+        boots_recorded(alloc, host, flash, Slots::Two)?
+            && matches!(end_of_run(alloc, MIGRATION, host, flash)?, Ending::Migrated)
+            && boots_recorded(alloc, host, flash, Slots::Two)?,
     )
 }

@@ -11,7 +11,7 @@ use std::alloc::{AllocError, Global};
 use suit_edge::{Disk, Host};
 
 /// How the second update ended.
-#[derive(Clone, Copy, PartialEq, Eq)]
+#[derive(Clone, Copy)]
 enum Ended {
     /// It was not begun: what stands before it failed.
     Before,
@@ -74,7 +74,7 @@ fn faults(alloc: Global, object: Object, status: u8) -> Result<u64, AllocError> 
 fn fails_once(alloc: Global, object: Object, status: u8) -> Result<bool, AllocError> {
     let first = update_end(alloc, &Fails::of(object, &[0]))?;
     let second = update_end(alloc, &Fails::of(object, &[1]))?;
-    Ok(first == Ended::Told(status) && second == Ended::Done)
+    Ok(matches!(first, Ended::Told(found) if found == status) && matches!(second, Ended::Done))
 }
 
 // The update pulls two files, each in a piece and its end.

@@ -1,102 +1,119 @@
 //! The power goes at each call of the flash.
 
-ghost use Rattle.std.specs.Prelude.{◌≡◌, ◌≤◌, IfOk, length};
+ghost use Rattle.std.specs.Prelude.{◌≡◌, ◌≤◌, length};
 
-use crate::files::{blank, with_files};
-use crate::tests::cut::after::{Ending, Slots, end_of_run, goes_on};
-use crate::tests::cut::recorded::{ON_ONE, ON_TWO, Sessions, UPDATE, goes_unlaunched};
+use crate::files::{blank, blank_large, with_files};
+use crate::tests::cut::after::{Ending, Slots, end_of_run, goes_on, stays};
+use crate::tests::cut::recorded::{MIGRATION, ON_ONE, ON_TWO, Sessions, UPDATE, goes_unlaunched};
 use std::alloc::{AllocError, Global};
-use suit_edge::{FuseDisk, Host, MemoryDisk};
+use suit_edge::{Disk, FuseDisk, Host, MemoryDisk};
 
 /// Which of the writes since the last sync a loss keeps: none, all, and every other one.
-pub(crate) const CHOICES: [u64; 3] = [0, u64::MAX, 0xAAAA_AAAA_AAAA_AAAA];
+const CHOICES: [u64; 3] = [0, u64::MAX, 0xAAAA_AAAA_AAAA_AAAA];
 
-/// A flash after the second update, and how that ended.
-#[derive(Drop)]
-struct Cut {
-    flash: MemoryDisk,
-    ending: Ending,
+/// What is cut off behind the first update: the second one on a device of one slot or of two, or a migration.
+#[derive(Clone, Copy)]
+enum Cut {
+    UpdateOfOne,
+    UpdateOfTwo,
+    Migration,
 }
 
-// The second update on a flash that takes so many calls.
-fn cut_after<H: Host>(
+impl Cut {
+    fn before(self) -> Sessions {
+        match self {
+            Cut::UpdateOfOne => ON_ONE,
+            Cut::UpdateOfTwo | Cut::Migration => ON_TWO,
+        }
+    }
+
+    fn command(self) -> &'static str {
+        match self {
+            Cut::UpdateOfOne | Cut::UpdateOfTwo => UPDATE,
+            Cut::Migration => MIGRATION,
+        }
+    }
+}
+
+// Whether all goes on.
+fn all_goes_on<H: Host, D: Disk>(
     alloc: Global,
-    first: &MemoryDisk,
-    passes: u64,
     host: &mut H,
-) -> Result<Cut, AllocError>
-    requires { 49152 ≤ length first.now.first }
-    ensures { IfOk result (λ cut. length cut.flash.first ≡ length first.now.first) }
+    flash: &mut D,
+    cut: Cut,
+) -> Result<bool, AllocError>
+    requires { 49152 ≤ D.extent flash.old }
 {
-    let mut fuse = FuseDisk::new(first.after_loss(alloc, 0)?, passes);
-    let ending = end_of_run(alloc, UPDATE, host, &mut fuse)?;
-    Ok(Cut {
-        flash: fuse.into_disk(),
-        ending,
-    })
+    match cut {
+        Cut::UpdateOfOne => goes_on(alloc, host, flash, Slots::One, &[]),
+        Cut::UpdateOfTwo => goes_on(alloc, host, flash, Slots::Two, &[]),
+        Cut::Migration => stays(alloc, host, flash),
+    }
 }
 
-// Whether all goes on after a loss that makes this choice.
+// Whether it does after a loss that makes this choice.
 fn survives<H: Host>(
     alloc: Global,
     host: &mut H,
-    cut: &MemoryDisk,
+    left: &MemoryDisk,
     choice: u64,
-    slots: Slots,
+    cut: Cut,
 ) -> Result<bool, AllocError>
-    requires { 49152 ≤ length cut.now.first }
+    requires { 49152 ≤ length left.now.first }
 {
-    let mut flash = cut.after_loss(alloc, choice)?;
-    goes_on(alloc, host, &mut flash, slots, &[])
+    let mut flash = left.after_loss(alloc, choice)?;
+    all_goes_on(alloc, host, &mut flash, cut)
 }
 
 // Whether it does after each choice.
 fn survives_each<H: Host>(
     alloc: Global,
     host: &mut H,
-    cut: &MemoryDisk,
-    slots: Slots,
+    left: &MemoryDisk,
+    cut: Cut,
 ) -> Result<bool, AllocError>
-    requires { 49152 ≤ length cut.now.first }
+    requires { 49152 ≤ length left.now.first }
 {
     for choice in &CHOICES {
-        if !survives(alloc, host, cut, *choice, slots)? {
+        if !survives(alloc, host, left, *choice, cut)? {
             return Ok(false);
         }
     }
     Ok(true)
 }
 
-// How the update that takes so many calls of the flash ends, if all goes on after it.
-fn ending_survived<H: Host>(
+// How it ends on this flash, if all goes on after it.
+fn ending_on<H: Host>(
     alloc: Global,
     host: &mut H,
-    first: &MemoryDisk,
-    passes: u64,
-    slots: Slots,
+    fuse: FuseDisk,
+    cut: Cut,
 ) -> Result<Option<Ending>, AllocError>
-    requires { 49152 ≤ length first.now.first }
+    requires { 49152 ≤ length fuse.disk.first }
 {
-    let cut = cut_after(alloc, first, passes, host)?;
-    if survives_each(alloc, host, &cut.flash, slots)? {
-        Ok(Some(cut.ending))
+    let mut fuse = fuse;
+    let ending = end_of_run(alloc, cut.command(), host, &mut fuse)?;
+    let left = fuse.into_disk();
+    if survives_each(alloc, host, &left, cut)? {
+        Ok(Some(ending))
     } else {
         Ok(None)
     }
 }
 
-// After how many calls the update is done, where each cut before is told as a fault and survived; otherwise none.
+// After how many calls of the flash it is done, where each cut before is told as a fault and survived; otherwise none.
 fn calls_survived<H: Host>(
     alloc: Global,
     first: &MemoryDisk,
     host: &mut H,
-    slots: Slots,
+    cut: Cut,
 ) -> Result<u64, AllocError>
     requires { 49152 ≤ length first.now.first }
 {
     for passes in 0..1_000u64 {
-        match ending_survived(alloc, host, first, passes, slots)? {
-            Some(Ending::Installed) => return Ok(passes),
+        let fuse = FuseDisk::new(first.after_loss(alloc, 0)?, passes);
+        match ending_on(alloc, host, fuse, cut)? {
+            Some(Ending::Installed | Ending::Migrated) => return Ok(passes),
             Some(Ending::FlashFault) => {}
             _ => return Ok(0),
         }
@@ -104,34 +121,49 @@ fn calls_survived<H: Host>(
     Ok(0)
 }
 
-fn calls_on<H: Host>(
+fn calls_from<H: Host>(
     alloc: Global,
     host: &mut H,
-    before: Sessions,
-    slots: Slots,
-) -> Result<u64, AllocError> {
-    let mut first = blank(alloc, &[])?;
-    if goes_unlaunched(alloc, host, before, &mut first)? {
-        calls_survived(alloc, &first, host, slots)
+    blank: MemoryDisk,
+    cut: Cut,
+) -> Result<u64, AllocError>
+    requires { 49152 ≤ length blank.first }
+{
+    let mut first = blank;
+    if goes_unlaunched(alloc, host, cut.before(), &mut first)? {
+        calls_survived(alloc, &first, host, cut)
     } else {
         Ok(0)
     }
 }
 
-// How many calls of the flash the second update makes, if a cut at each is survived.
-fn calls(alloc: Global, before: Sessions, slots: Slots) -> Result<u64, AllocError> {
+fn calls_with<H: Host>(alloc: Global, host: &mut H, cut: Cut) -> Result<u64, AllocError> {
+    match cut {
+        Cut::Migration => calls_from(alloc, host, blank_large(alloc)?, cut),
+        Cut::UpdateOfOne | Cut::UpdateOfTwo => calls_from(alloc, host, blank(alloc, &[])?, cut),
+    }
+}
+
+// How many calls of the flash it makes, if a cut at each is survived.
+fn calls(alloc: Global, cut: Cut) -> Result<u64, AllocError> {
     let mut host = with_files(alloc, &[])?;
-    calls_on(alloc, &mut host, before, slots)
+    calls_with(alloc, &mut host, cut)
 }
 
 #[test]
 fn a_cut_leaves_one_of_two_slots_to_start(rt: HostRuntime) -> Result<(), AllocError> {
-    assert!(rt; calls(rt.alloc(), ON_TWO, Slots::Two)? > 15);
+    assert!(rt; calls(rt.alloc(), Cut::UpdateOfTwo)? > 15);
     Ok(())
 }
 
 #[test]
 fn a_cut_over_one_slot_starts_nothing_else(rt: HostRuntime) -> Result<(), AllocError> {
-    assert!(rt; calls(rt.alloc(), ON_ONE, Slots::One)? > 15);
+    assert!(rt; calls(rt.alloc(), Cut::UpdateOfOne)? > 15);
+    Ok(())
+}
+
+#[test]
+fn a_cut_migration_leaves_what_is_installed(rt: HostRuntime) -> Result<(), AllocError> {
+    assert!(rt; calls(rt.alloc(), Cut::Migration)? > 15);
     Ok(())
 }

@@ -1,4 +1,4 @@
-//! The first update, before the second one.
+//! The first update, before the second one or a migration.
 
 ghost use Rattle.std.specs.Prelude.{◌≡◌, ◌≤◌};
 
@@ -8,6 +8,9 @@ use suit_edge::{Disk, Host, MemoryLauncher};
 
 /// The second update.
 pub(crate) const UPDATE: &str = "run update 2.suit img=abd.img";
+
+/// A migration.
+pub(crate) const MIGRATION: &str = "run migrate 65536";
 
 /// Two sessions, one after the other.
 pub(crate) type Sessions = (&'static str, &'static str);

@@ -4,29 +4,33 @@
 pub(crate) const CHANGES: [u8; 3] = [0x01, 0x80, 0xff];
 
 // How often a status stands among these.
-fn count(statuses: &[u8], status: u8) -> usize {
-    statuses.iter().filter(|found| **found == status).count()
+fn count(statuses: &[u8], status: u32) -> u64 {
+    let mut count = 0u64;
+    for found in statuses {
+        if *found as u32 == status {
+            count = count.saturating_add(1);
+        }
+    }
+    count
 }
 
-// A status, and how often it is to stand.
-fn row_of(line: &str) -> Option<(u8, usize)> {
+// How often the status of a line stands there, if that is as is said behind it.
+fn counted(statuses: &[u8], line: &str) -> Option<u64> {
     let (status, times) = line.split_once(' ')?;
-    match (status.parse::<u8>(), times.parse::<usize>()) {
-        (Ok(status), Ok(times)) => Some((status, times)),
+    match (status.parse::<u32>(), times.parse::<u32>()) {
+        (Ok(status), Ok(times)) if count(statuses, status) == times as u64 => Some(times as u64),
         _ => None,
     }
 }
 
 /// Whether each status of these lines stands as often as is said behind it, and no other stands there.
 pub(crate) fn are_counted(statuses: &[u8], lines: &str) -> bool {
-    let mut left = statuses.len();
-    for line in lines.lines() {
-        match row_of(line) {
-            Some((status, times)) if times <= left && count(statuses, status) == times => {
-                left -= times;
-            }
-            _ => return false,
+    let mut all = 0u64;
+    for line in lines.split('\n') {
+        match counted(statuses, line) {
+            Some(times) => all = all.saturating_add(times),
+            None => return false,
         }
     }
-    left == 0
+    all == statuses.len() as u64
 }

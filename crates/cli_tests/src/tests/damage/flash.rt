@@ -2,6 +2,7 @@
 
 ghost use Rattle.std.specs.Prelude.{◌≡◌, ◌<◌, ◌≤◌, length};
 
+use crate::bytes::halves;
 use crate::files::{blank, with_files};
 use crate::session::{are_launched, status_of};
 use crate::tests::cut::recorded::{ON_TWO, goes_unlaunched};
@@ -174,10 +175,12 @@ fn ends_so<H: Host>(
 ) -> Result<bool, AllocError>
     requires { 49152 ≤ length first.now.first }
 {
-    let (asked, lines) = table.split_once('\n').unwrap_or((table, ""));
-    let (place, command) = asked.split_once(' ').unwrap_or((asked, ""));
-    match place.parse::<u64>() {
-        Ok(begin) if begin <= LAST => ends_from(alloc, host, first, command, begin, lines),
+    let (asked, lines) = halves(table, '\n');
+    let (place, command) = halves(asked, ' ');
+    match place.parse::<u32>() {
+        Ok(begin) if begin as u64 <= LAST => {
+            ends_from(alloc, host, first, command, begin as u64, lines)
+        }
         _ => Ok(false),
     }
 }

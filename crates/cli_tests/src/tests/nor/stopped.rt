@@ -10,7 +10,7 @@ use std::alloc::{AllocError, Global};
 use suit_edge::Host;
 
 /// What happens at a call of the device.
-#[derive(Clone, Copy, PartialEq, Eq)]
+#[derive(Clone, Copy)]
 enum Stop {
     /// The power goes before it.
     Cut,
@@ -21,7 +21,7 @@ enum Stop {
 }
 
 /// How the second update ended.
-#[derive(Clone, Copy, PartialEq, Eq)]
+#[derive(Clone, Copy)]
 enum Ended {
     /// It was not begun: what stands before it failed.
     Before,
@@ -47,9 +47,41 @@ fn after_first<H: Host>(
     ensures { IfOk result (λ found. IfSome found (λ nor. nor.blocks ≡ 84)) }
 {
     let mut disk = disk_over(MemoryNor::new(alloc, 84, fails)?, u64::MAX);
-    let done = goes_unlaunched(alloc, host, ON_TWO, &mut disk)?;
-    let nor = disk.into_nor().into_nor();
-    Ok(if done { Some(nor) } else { None })
+    if goes_unlaunched(alloc, host, ON_TWO, &mut disk)? {
+        Ok(Some(disk.into_nor().into_nor()))
+    } else {
+        Ok(None)
+    }
+}
+
+// Whether all goes on with this disk.
+fn goes_on_with<H: Host>(
+    alloc: Global,
+    host: &mut H,
+    disk: NorDisk<FuseNor>,
+) -> Result<bool, AllocError>
+    requires { disk.0.nor.blocks ≡ 84 }
+{
+    let mut disk = disk;
+    goes_on(alloc, host, &mut disk, Slots::Two, &[])
+}
+
+// How it ended that was stopped so: whether all goes on, with a disk anew if the power went.
+fn told_if_goes_on<H: Host>(
+    alloc: Global,
+    host: &mut H,
+    stop: Stop,
+    disk: NorDisk<FuseNor>,
+) -> Result<Ended, AllocError>
+    requires { disk.0.nor.blocks ≡ 84 }
+{
+    let goes_on = match stop {
+        Stop::Failed => goes_on_with(alloc, host, disk)?,
+        Stop::Cut | Stop::Torn => {
+            goes_on_with(alloc, host, disk_over(disk.into_nor().into_nor(), u64::MAX))?
+        }
+    };
+    Ok(if goes_on { Ended::Told } else { Ended::Wrong })
 }
 
 // How the second update ends on a device that takes so many calls, and whether all goes on after it.
@@ -63,14 +95,24 @@ fn end_on<H: Host>(
     requires { nor.blocks ≡ 84 }
 {
     let mut disk = disk_over(nor, passes);
-    let ending = end_of_run(alloc, UPDATE, host, &mut disk)?;
-    if stop != Stop::Failed {
-        disk = disk_over(disk.into_nor().into_nor(), u64::MAX);
-    }
-    match ending {
+    match end_of_run(alloc, UPDATE, host, &mut disk)? {
         Ending::Installed => Ok(Ended::Done),
-        Ending::FlashFault if goes_on(alloc, host, &mut disk, Slots::Two, &[])? => Ok(Ended::Told),
+        Ending::FlashFault => told_if_goes_on(alloc, host, stop, disk),
         _ => Ok(Ended::Wrong),
+    }
+}
+
+// How it ends on a device of which these calls fail, and which takes so many calls of the second update.
+fn end_with<H: Host>(
+    alloc: Global,
+    host: &mut H,
+    fails: &[u64],
+    stop: Stop,
+    passes: u64,
+) -> Result<Ended, AllocError> {
+    match after_first(alloc, host, fails)? {
+        Some(nor) => end_on(alloc, host, nor, stop, passes),
+        None => Ok(Ended::Before),
     }
 }
 
@@ -81,13 +123,9 @@ fn end_at<H: Host>(
     stop: Stop,
     call: u64,
 ) -> Result<Ended, AllocError> {
-    let (fails, passes) = match stop {
-        Stop::Cut => ([u64::MAX], call),
-        Stop::Failed | Stop::Torn => ([call], u64::MAX),
-    };
-    match after_first(alloc, host, &fails)? {
-        Some(nor) => end_on(alloc, host, nor, stop, passes),
-        None => Ok(Ended::Before),
+    match stop {
+        Stop::Cut => end_with(alloc, host, &[], stop, call),
+        Stop::Failed | Stop::Torn => end_with(alloc, host, &[call], stop, u64::MAX),
     }
 }
 

@@ -3,6 +3,7 @@
 
 use crate::tests::rows::{bytes_of, name_of};
 use det_cbor::{CborFault, CborRefusal, Cursor, Item, decode, encode, valid};
+use lane_bytes::same;
 use std::alloc::{AllocError, Global};
 
 /// Whether an item is valid, and spelled by these bytes.
@@ -11,7 +12,7 @@ pub(crate) fn is_spelled(alloc: Global, item: &Item, bytes: &[u8]) -> Result<boo
         return Ok(false);
     }
     let spelling = encode(alloc, item)?;
-    Ok(spelling.as_slice() == bytes)
+    Ok(same(spelling.as_slice(), bytes))
 }
 
 // Whether bytes are decoded as one item, which is encoded again.
@@ -27,9 +28,13 @@ fn is_skipped(bytes: &[u8]) -> bool {
     cursor.skip() == Ok(bytes)
 }
 
+fn is_read(alloc: Global, bytes: &[u8]) -> Result<bool, AllocError> {
+    Ok(is_skipped(bytes) && is_decoded(alloc, bytes)?)
+}
+
 fn reads(alloc: Global, row: &str) -> Result<bool, AllocError> {
     let bytes = bytes_of(alloc, row)?;
-    Ok(is_skipped(bytes.as_slice()) && is_decoded(alloc, bytes.as_slice())?)
+    is_read(alloc, bytes.as_slice())
 }
 
 fn is_not_decoded(alloc: Global, bytes: &[u8], at: u64, why: &str) -> bool {
@@ -44,7 +49,9 @@ fn is_not_skipped(bytes: &[u8], at: u64, why: &str) -> bool {
     let mut cursor = Cursor::new(bytes, 100);
     match cursor.skip() {
         Err(CborRefusal { place, reason }) => {
-            place.checked_sub(100) == Some(at) && name_of(reason) == why && cursor.place() == 100
+            matches!(place.checked_sub(100), Some(found) if found == at)
+                && name_of(reason) == why
+                && cursor.place() == 100
         }
         Ok(_) => false,
     }

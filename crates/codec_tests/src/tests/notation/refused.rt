@@ -60,22 +60,29 @@ const REFUSED: &str = r#"
 // A text with a control character that stands as it is.
 const UNESCAPED: &str = "|\"\t\"|\n|\"\u{7f}\"|";
 
-fn is_refused(alloc: Global, row: &str) -> bool {
-    let text = row.trim_start_matches('|').trim_end_matches('|');
-    matches!(read_notation(alloc, text), Err(NotationFault::NoNotation))
-}
-
-#[test]
-fn refusals(rt: HostRuntime) {
-    for rows in [REFUSED, UNESCAPED] {
-        for row in rows.trim_matches('\n').split('\n') {
-            assert!(rt; is_refused(rt.alloc(), row), "{row}");
-        }
+/// Whether a text is the notation of an item.
+pub(crate) fn is_notation(alloc: Global, text: &str) -> Result<bool, AllocError> {
+    match read_notation(alloc, text) {
+        Ok(_) => Ok(true),
+        Err(NotationFault::NoMemory) => Err(AllocError),
+        Err(NotationFault::NoNotation) => Ok(false),
     }
 }
 
+fn is_refused(alloc: Global, row: &str) -> Result<bool, AllocError> {
+    let text = row.trim_start_matches('|').trim_end_matches('|');
+    Ok(!is_notation(alloc, text)?)
+}
+
 #[test]
-fn sixteen_levels(rt: HostRuntime) -> Result<(), AllocError> {
-    assert!(rt; read_notation(rt.alloc(), "[[[[[[[[[[[[[[[[1]]]]]]]]]]]]]]]]").is_ok());
+fn refusals(rt: HostRuntime) -> Result<(), AllocError> {
+    for row in REFUSED.trim_matches('\n').split('\n') {
+        assert!(rt; is_refused(rt.alloc(), row)?, "{row}");
+    }
+    for row in UNESCAPED.split('\n') {
+        assert!(rt; is_refused(rt.alloc(), row)?, "{row}");
+    }
+    // one level fewer than that of the last row
+    assert!(rt; is_notation(rt.alloc(), "[[[[[[[[[[[[[[[[1]]]]]]]]]]]]]]]]")?);
     Ok(())
 }

@@ -1,9 +1,10 @@
 //! Items and their notations: the bytes of RFC 8949, appendix A, and more. The two columns are the bytes in hexadecimal
 //! and the notation.
 
+use crate::tests::cbor::reading::is_spelled;
 use crate::tests::rows::bytes_of;
 use cbor_diag::{NotationFault, notation, read_notation};
-use det_cbor::{Item, decode, encode};
+use det_cbor::{Item, decode};
 use std::alloc::{AllocError, Global};
 
 const NOTED: &str = r#"
@@ -47,13 +48,10 @@ const OTHER_LETTERS: &str = "
 66c280e2808b7f -> \"\u{80}\u{200b}\\u007f\"
 ";
 
-/// Whether a text is read as the item that these bytes spell.
-pub(crate) fn is_read(alloc: Global, text: &str, bytes: &[u8]) -> Result<bool, AllocError> {
+// Whether a text is read as the item that these bytes spell.
+fn is_read(alloc: Global, text: &str, bytes: &[u8]) -> Result<bool, AllocError> {
     match read_notation(alloc, text) {
-        Ok(item) => {
-            let spelling = encode(alloc, &item)?;
-            Ok(spelling.as_slice() == bytes)
-        }
+        Ok(item) => is_spelled(alloc, &item, bytes),
         Err(NotationFault::NoMemory) => Err(AllocError),
         Err(NotationFault::NoNotation) => Ok(false),
     }
@@ -77,10 +75,11 @@ fn holds(alloc: Global, row: &str) -> Result<bool, AllocError> {
 
 #[test]
 fn notations(rt: HostRuntime) -> Result<(), AllocError> {
-    for rows in [NOTED, OTHER_LETTERS] {
-        for row in rows.trim().split('\n') {
-            assert!(rt; holds(rt.alloc(), row)?, "{row}");
-        }
+    for row in NOTED.trim().lines() {
+        assert!(rt; holds(rt.alloc(), row)?, "{row}");
+    }
+    for row in OTHER_LETTERS.trim().lines() {
+        assert!(rt; holds(rt.alloc(), row)?, "{row}");
     }
     Ok(())
 }

@@ -1,5 +1,5 @@
 use Rattle.std.proofs.Common.{◌≡◌, length}
-use Rattle.swap_tests.proofs.tests.swaps.content.Given as goal
+use Rattle.procedure_tests.proofs.tests.swaps.content.Given as goal
 
 abbrev pub invariant-loop-i : goal.invariant-loop-i
 invariant-loop-i l = length l.bytes.items ≡ l.i

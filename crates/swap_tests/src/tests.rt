@@ -1,4 +1,0 @@
-//! The tests.
-
-mod quiet;
-mod swaps;
