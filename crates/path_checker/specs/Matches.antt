@@ -1,9 +1,9 @@
 -- The matches in a search tree. How they are found, no definition says.
 use Rattle.std.specs.Prelude.{◌↔◌, ℕ, true, List, [], ◌∷◌, Option, Some, None}
-use Rattle.std.specs.Borrow.{Bor}
 use Rattle.suit_params.specs.declared.digest.Digest.{Digest}
 use Rattle.path_model.specs.declared.event.Event.{Event}
 use Rattle.path_model.specs.declared.event.Event.TheVariants.{Matched, Invoked}
+use Rattle.path_checker.specs.declared.judge_plan.matches.Lent.{Lent}
 use Rattle.path_checker.specs.declared.judge_plan.matches.Match.{Match as LentMatch}
 use Rattle.path_checker.specs.Exploring.{In}
 
@@ -14,9 +14,9 @@ Match = Digest × Option ℕ
 abbrev pub match_of : LentMatch → Match
 match_of lent = (lent.digest.now, lent.size)
 
-abbrev pub all_lent : List (Bor LentMatch) → List Match
+abbrev pub all_lent : List Lent → List Match
 all_lent [] = []
-all_lent (lent ∷ rest) = match_of lent.now ∷ all_lent rest
+all_lent (lent ∷ rest) = match_of lent.own.now ∷ all_lent rest
 
 abbrev pub matches_from : Option (List Match) → List Match
 matches_from None = []

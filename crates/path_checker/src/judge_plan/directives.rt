@@ -12,7 +12,6 @@ use crate::judge_plan::halt::{Halt, Uncovered};
 use crate::judge_plan::happened::Happened;
 use crate::judge_plan::in_force::InForce;
 use crate::judge_plan::kept::{Kept, happens};
-use crate::judge_plan::matches::Match;
 use crate::judge_plan::memory::Memory;
 use crate::judge_plan::selected::Components;
 use std::alloc::{AllocError, Global};
@@ -121,7 +120,7 @@ fn invoke<'a>(
             Err(Halt::Uncovered(Uncovered::copy(memory, k)?))
         }
         Some(digest) => {
-            let own = Match::lent(memory, place, component, digest, size)?;
+            let own = k.history.invoked(memory, place, component, digest, size)?;
             if k.history.has_matched(memory, component, own) {
                 happens(memory, k, Happened::Covered { component, own })?;
                 return Ok(true);

@@ -1,6 +1,6 @@
 //! Knowledge of the identities of all components.
 
-ghost use Rattle.std.specs.Prelude.{◌≡◌, ◌<◌, length, slice_set, IsTrue, IfOk, OnOk};
+ghost use Rattle.std.specs.Prelude.{◌≡◌, ◌<◌, length, slice_set, IsTrue, IfSome, IfOk, OnOk};
 ghost use Rattle.path_checker.specs.Knowing.{nothing, nothing_known};
 ghost use Rattle.path_checker.specs.Forking.{Forks, Learnt, TellsOne, learnt_at, learnt, excluded, some_if};
 
@@ -34,9 +34,9 @@ pub(crate) struct Knowledge {
 /// Knowledge of one component's identity, its fingerprint, and how many values it is not.
 #[derive(Drop)]
 struct Printed {
-    known: Knowledge,
     print: u64,
     others: u64,
+    known: Knowledge,
 }
 
 impl Model for Printed {
@@ -61,11 +61,27 @@ impl Model for Shared {
     ghost view = { λ a. a.held.value };
 }
 
+// Knowledge of the identity of each component, from the first on, and its fingerprint.
+#[derive(Drop)]
+struct Each {
+    all: Vec<Shared>,
+    print: u64,
+}
+
+impl Model for Each {
+    ghost use Rattle.std.specs.Prelude.{List};
+    ghost use Rattle.path_checker.specs.declared.judge_plan.facts.Knowledge.{Knowledge};
+
+    ghost Value = { List Knowledge };
+
+    ghost view = { λ a. a.all.items };
+}
+
 /// Knowledge of the identity of each component, from the first on. Copies share it, and where one component's differs,
 /// that of the others.
 #[derive(Drop)]
 pub(crate) struct Facts {
-    held: Rc<Vec<Shared>>,
+    held: Rc<Each>,
 }
 
 impl Model for Facts {
@@ -74,7 +90,7 @@ impl Model for Facts {
 
     ghost Value = { List Knowledge };
 
-    ghost view = { λ a. a.held.value.items };
+    ghost view = { λ a. a.held.value };
 }
 
 /// Whether a component has something of its own, or the facts where it has and where it has not.
@@ -117,6 +133,38 @@ impl Knowledge {
             && self.class.is_same(&other.class)
             && self.device.is_same(&other.device)
             && self.slot.is_same(&other.slot)
+    }
+
+    // Whether it is the other one, which has this too.
+    fn is_learnt(&self, from: &Knowledge, own: &Own) -> bool
+        ensures { IsTrue result → self.now ≡ learnt from.now own.now }
+    {
+        match own {
+            Own::Vendor(id) => {
+                self.vendor.is_just(id)
+                    && self.class.is_same(&from.class)
+                    && self.device.is_same(&from.device)
+                    && self.slot.is_same(&from.slot)
+            }
+            Own::Class(id) => {
+                self.vendor.is_same(&from.vendor)
+                    && self.class.is_just(id)
+                    && self.device.is_same(&from.device)
+                    && self.slot.is_same(&from.slot)
+            }
+            Own::Device(id) => {
+                self.vendor.is_same(&from.vendor)
+                    && self.class.is_same(&from.class)
+                    && self.device.is_just(id)
+                    && self.slot.is_same(&from.slot)
+            }
+            Own::Slot(number) => {
+                self.vendor.is_same(&from.vendor)
+                    && self.class.is_same(&from.class)
+                    && self.device.is_same(&from.device)
+                    && self.slot.is_just(number)
+            }
+        }
     }
 
     fn fingerprint(&self) -> u64 {
@@ -190,15 +238,26 @@ impl Knowledge {
 }
 
 impl Printed {
+    // Nothing is known. Its fingerprint is 0.
+    fn unknown(alloc: Global) -> Printed
+        ensures { result ≡ nothing }
+    {
+        Printed {
+            print: 0,
+            others: 0,
+            known: Knowledge::new(alloc),
+        }
+    }
+
     fn new(known: Knowledge) -> Printed
         ensures { result ≡ known }
     {
         let print = known.fingerprint();
         let others = known.others();
         Printed {
-            known,
             print,
             others,
+            known,
         }
     }
 }
@@ -208,7 +267,7 @@ impl Shared {
     fn unknown(alloc: Global) -> Result<Shared, AllocError>
         ensures { IfOk result (λ shared. shared ≡ nothing) }
     {
-        Shared::new(alloc, Printed::new(Knowledge::new(alloc)))
+        Shared::new(alloc, Printed::unknown(alloc))
     }
 
     fn new(alloc: Global, printed: Printed) -> Result<Shared, AllocError>
@@ -308,12 +367,37 @@ impl Shared {
         Ok(made)
     }
 
+    // The one that was made last, where it is this one, which has this too.
+    fn learnt_last(
+        &self,
+        own: &Own,
+        last: &Cell<Option<Shared>>,
+    ) -> Result<Option<Shared>, AllocError>
+        ensures { IfOk result
+            (λ found. IfSome found (λ other. other ≡ learnt self.now own.now)) }
+    {
+        let Some(made) = last.replace(None) else {
+            return Ok(None);
+        };
+        if !made.known().is_learnt(self.known(), own) {
+            last.set(Some(made));
+            return Ok(None);
+        }
+        let same = made.copy()?;
+        last.set(Some(made));
+        Ok(Some(same))
+    }
+
     // One that has this.
     fn with(&self, memory: Memory<'_>, component: usize, own: &Own) -> Result<Shared, AllocError>
         ensures { IfOk result (λ other. other ≡ learnt self.now own.now) }
     {
+        let last = memory.having(component)?;
+        if let Some(other) = self.learnt_last(own, last)? {
+            return Ok(other);
+        }
         let known = self.known().with(memory.alloc, own)?;
-        Shared::shared(memory, known, memory.having(component)?)
+        Shared::shared(memory, known, last)
     }
 
     // It has this. Others that share the knowledge keep it.
@@ -333,7 +417,43 @@ impl Shared {
     }
 }
 
+// A fingerprint of all: equal where the same is known.
+fn print_of(all: &[Shared]) -> u64 {
+    let mut print = 0;
+    for known in all {
+        print = mixed(print, known.held.print);
+    }
+    print
+}
+
+impl Each {
+    fn of(all: Vec<Shared>) -> Each
+        ensures { result ≡ all.items }
+    {
+        let print = print_of(&all);
+        Each { all, print }
+    }
+
+    // A component has this. Others that share the knowledge keep it.
+    fn learn(&mut self, memory: Memory<'_>, component: usize, own: &Own) -> Result<(), AllocError>
+        requires { component < length self.now }
+        ensures { OnOk result (self.new ≡ learnt_at self.old component own.now) }
+    {
+        self.all[component].learn(memory, component, own)?;
+        self.print = print_of(&self.all);
+        Ok(())
+    }
+}
+
 impl Facts {
+    // That of each component.
+    fn of(alloc: Global, all: Vec<Shared>) -> Result<Facts, AllocError>
+        ensures { IfOk result (λ facts. facts ≡ all.items) }
+    {
+        let held = Rc::new(alloc, Each::of(all))?;
+        Ok(Facts { held })
+    }
+
     /// Nothing is known of so many components.
     pub(crate) fn unknown(alloc: Global, count: u32) -> Result<Facts, AllocError>
         ensures { IfOk result (λ facts. facts ≡ nothing_known count) }
@@ -343,9 +463,7 @@ impl Facts {
             let known = Shared::unknown(alloc)?;
             held.push(known)?;
         }
-        Ok(Facts {
-            held: Rc::new(alloc, held)?,
-        })
+        Facts::of(alloc, held)
     }
 
     /// The same, shared.
@@ -360,7 +478,7 @@ impl Facts {
     fn copied(&self, alloc: Global) -> Result<Vec<Shared>, AllocError>
         ensures { IfOk result (λ other. other.items ≡ self.now) }
     {
-        let mut held = Vec::with_capacity(alloc, self.held.len())?;
+        let mut held = Vec::with_capacity(alloc, self.as_slice().len())?;
         for known in self.as_slice() {
             held.push(known.copy()?)?;
         }
@@ -387,11 +505,7 @@ impl Facts {
 
     /// A fingerprint: equal where the same is known.
     pub(crate) fn fingerprint(&self) -> u64 {
-        let mut print = 0;
-        for known in self.as_slice() {
-            print = mixed(print, known.held.print);
-        }
-        print
+        self.held.print
     }
 
     /// What a comparison costs: how many values are left out.
@@ -407,7 +521,7 @@ impl Facts {
     pub(crate) fn as_slice(&self) -> &[Shared]
         ensures { result.now ≡ self.now }
     {
-        self.held.as_slice()
+        &self.held.all
     }
 
     // A copy that differs at one component.
@@ -417,9 +531,7 @@ impl Facts {
     {
         let mut held = self.copied(alloc)?;
         held[component] = known;
-        Ok(Facts {
-            held: Rc::new(alloc, held)?,
-        })
+        Facts::of(alloc, held)
     }
 
     // A component has this. Others that share the knowledge keep it.
@@ -433,11 +545,11 @@ impl Facts {
         ensures { OnOk result (self.new ≡ learnt_at self.old component own.now) }
     {
         match Rc::get_mut(&mut self.held) {
-            Some(held) => held[component].learn(memory, component, own),
+            Some(held) => held.learn(memory, component, own),
             None => {
-                let mut held = self.copied(memory.alloc)?;
-                held[component].learn(memory, component, own)?;
-                self.held = Rc::new(memory.alloc, held)?;
+                let mut all = self.copied(memory.alloc)?;
+                all[component].learn(memory, component, own)?;
+                *self = Facts::of(memory.alloc, all)?;
                 Ok(())
             }
         }

@@ -7,6 +7,7 @@ ghost use Rattle.path_model.specs.declared.event.Event.{Event as TheEvent};
 ghost use Rattle.path_model.specs.declared.event.Event.TheVariants.{Failed, Wrote};
 ghost use Rattle.suit_commands.specs.View.{sequence_tree};
 ghost use Rattle.path_checker.specs.Happening.{event_of, after_end, sets_at, sequence_sets, told_by};
+ghost use Rattle.path_checker.specs.Matches.{match_of};
 ghost use Rattle.path_checker.specs.Selecting.{components_of};
 ghost use Rattle.path_checker.specs.Standing.{StandsAfter};
 
@@ -21,7 +22,7 @@ use path_model::Events;
 use std::alloc::{AllocError, Global};
 use std::marker::Model;
 use suit_commands::Step;
-use suit_params::ParamList;
+use suit_params::{Digest, ParamList};
 
 /// The events that led to a state, and the matches that stand after them.
 #[derive(Drop)]
@@ -218,6 +219,28 @@ impl<'a> History<'a> {
         let mut history = self;
         history.add_failure(memory, event, place)?;
         Ok(history)
+    }
+
+    /// A match for an invoke at a place: the one told there last, or one that stands. Where none does, it is made.
+    pub(crate) fn invoked(
+        &self,
+        memory: Memory<'a>,
+        place: u64,
+        component: u32,
+        digest: &'a Digest,
+        size: Option<u64>,
+    ) -> Result<&'a Match<'a>, AllocError>
+        ensures { IfOk result (λ own. match_of own.now ≡ (digest.now, size)) }
+    {
+        if let Some(last) = Match::told_last(memory, place, component, digest, size) {
+            return Ok(last);
+        }
+        let wanted = Match::new(digest, size);
+        if let Some(own) = self.standing.found(memory, component, &wanted) {
+            memory.keep_told(place, component, own)?;
+            return Ok(own);
+        }
+        Match::unsearched(memory, digest, size)
     }
 
     /// Whether a component stands as matched so.

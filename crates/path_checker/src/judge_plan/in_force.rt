@@ -179,8 +179,9 @@ impl<'a> Cells<'a> {
         content.saturating_add(uri).saturating_add(args)
     }
 
+    // Not 0, unless by chance.
     fn fingerprint(&self) -> u64 {
-        let mut print = 0;
+        let mut print = 1;
         for key in &[
             ParamKey::Vendor,
             ParamKey::Class,

@@ -139,6 +139,16 @@ impl<T: Fact> Known<T> {
         same_value(&self.value, &other.value) && same_values(&self.others, &other.others)
     }
 
+    /// Whether it is this value, and no other is left out.
+    pub(crate) fn is_just(&self, value: &T) -> bool
+        ensures { IsTrue result → self.now ≡ (Some value.now, []) }
+    {
+        match &self.value {
+            Some(own) => own.is(value) && self.others.is_empty(),
+            None => false,
+        }
+    }
+
     /// A fingerprint: equal where the same is known.
     pub(crate) fn fingerprint(&self) -> u64 {
         if let Some(value) = &self.value {

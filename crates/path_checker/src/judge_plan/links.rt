@@ -5,7 +5,7 @@ ghost use Rattle.std.specs.Prelude.{◌≡◌, IsTrue, IfSome, None};
 ghost use Rattle.path_checker.specs.Exploring.{In};
 ghost use Rattle.path_checker.specs.Matches.{match_of, all_lent};
 
-use crate::judge_plan::matches::Match;
+use crate::judge_plan::matches::{Lent, Match};
 use std::alloc::{AllocError, Global};
 
 // How far down a match is searched.
@@ -20,16 +20,26 @@ struct Link {
     bits: u32,
 }
 
+// Some bits of a fingerprint.
+fn middle_of(print: u64) -> usize {
+    ((print >> 32) & 0x00ff_ffff) as usize
+}
+
+// Eight other bits of it, which tell a match from most others.
+fn tag_of(print: u64) -> u32 {
+    (print >> 56) as u32
+}
+
 impl Link {
     fn none() -> Link {
         Link { bits: 0 }
     }
 
     // To an index below 2^24 - 1; others are not linked.
-    fn to(index: usize, own: &Match<'_>) -> Link {
+    fn to(index: usize, print: u64) -> Link {
         match u32::try_from(index) {
             Ok(index) if index < 0x00ff_ffff => Link {
-                bits: own.tag() << 24 | (index + 1),
+                bits: tag_of(print) << 24 | (index + 1),
             },
             _ => Link::none(),
         }
@@ -42,8 +52,8 @@ impl Link {
         }
     }
 
-    fn may_be(self, wanted: &Match<'_>) -> bool {
-        self.bits >> 24 == wanted.tag()
+    fn may_be(self, print: u64) -> bool {
+        self.bits >> 24 == tag_of(print)
     }
 }
 
@@ -104,13 +114,26 @@ pub(crate) struct Links {
 }
 
 /// Whether the wanted match is at an index.
-pub(crate) fn is_at(all: &[&Match<'_>], at: usize, wanted: &Match<'_>) -> bool
+pub(crate) fn is_at(all: &[Lent<'_>], at: usize, wanted: &Match<'_>) -> bool
     ensures { IsTrue result → In (match_of wanted.now) (all_lent all.now) }
 {
     if at >= all.len() {
         return false;
     }
-    all[at].is_alike(wanted)
+    let lent = all[at];
+    lent.own.is_alike(wanted)
+}
+
+/// Where a match stands in a list, by looking through it.
+pub(crate) fn index_in(all: &[Lent<'_>], wanted: &Match<'_>) -> Option<usize>
+    ensures { IfSome result (λ at. In (match_of wanted.now) (all_lent all.now)) }
+{
+    for at in 0..all.len() {
+        if is_at(all, at, wanted) {
+            return Some(at);
+        }
+    }
+    None
 }
 
 // For how many more there is to be room in a list that is full: an eighth, since many states hold lists.
@@ -165,14 +188,14 @@ impl Links {
         self.sum
     }
 
-    // Which of the first links leads to a match.
-    fn first_of(&self, wanted: &Match<'_>) -> usize {
-        wanted.middle() & self.first.len().wrapping_sub(1)
+    // Which of the first links leads to a match with such a fingerprint.
+    fn first_of(&self, print: u64) -> usize {
+        middle_of(print) & self.first.len().wrapping_sub(1)
     }
 
-    // The first link on the way to a match.
-    fn first_link(&self, wanted: &Match<'_>) -> Link {
-        match self.first.get(self.first_of(wanted)) {
+    // The first link on the way to it.
+    fn first_link(&self, print: u64) -> Link {
+        match self.first.get(self.first_of(print)) {
             Some(link) => *link,
             None => Link::none(),
         }
@@ -188,22 +211,23 @@ impl Links {
     }
 
     /// Searches a match among those of the list that are linked.
-    pub(crate) fn search(&self, all: &[&Match<'_>], wanted: &Match<'_>) -> Ended
+    pub(crate) fn search(&self, all: &[Lent<'_>], wanted: &Match<'_>) -> Ended
         ensures { IfSome result.found (λ at. In (match_of wanted.now) (all_lent all.now)) }
     {
-        let mut link = self.first_link(wanted);
+        let print = wanted.print();
+        let mut link = self.first_link(print);
         let mut place = Place::First;
         for depth in 0..DEEPEST {
             let Some(at) = link.index() else {
                 return Ended { found: None, place };
             };
-            if link.may_be(wanted) && is_at(all, at, wanted) {
+            if link.may_be(print) && is_at(all, at, wanted) {
                 return Ended {
                     found: Some(at),
                     place,
                 };
             }
-            let one = wanted.goes_one(depth);
+            let one = wanted.goes_one(print, depth);
             place = Place::Below { at, one };
             link = self.next(at, one);
         }
@@ -211,10 +235,10 @@ impl Links {
     }
 
     // Leads to a match from a place.
-    fn lead(&mut self, own: &Match<'_>, place: Place, link: Link) {
+    fn lead(&mut self, print: u64, place: Place, link: Link) {
         match place {
             Place::First => {
-                let index = self.first_of(own);
+                let index = self.first_of(print);
                 if let Some(first) = self.first.get_mut(index) {
                     *first = link;
                 }
@@ -234,13 +258,14 @@ impl Links {
 
     /// Links the next match of a list where a search for it ended. One that was found is there twice, and is linked once.
     pub(crate) fn link(&mut self, own: &Match<'_>, ended: Ended) -> Result<(), AllocError> {
-        let link = Link::to(self.below.len(), own);
+        let print = own.print();
+        let link = Link::to(self.below.len(), print);
         let room = room_after(self.below.len(), self.below.capacity());
         self.below.reserve_exact(room)?;
         self.below.push(Below::none())?;
         if ended.found.is_none() {
-            self.sum = self.sum.wrapping_add(own.print());
-            self.lead(own, ended.place, link);
+            self.sum = self.sum.wrapping_add(print);
+            self.lead(print, ended.place, link);
         }
         Ok(())
     }
@@ -254,12 +279,12 @@ impl Links {
     }
 
     /// Links all matches of a list that are not linked yet.
-    pub(crate) fn reach(&mut self, alloc: Global, all: &[&Match<'_>]) -> Result<(), AllocError> {
+    pub(crate) fn reach(&mut self, alloc: Global, all: &[Lent<'_>]) -> Result<(), AllocError> {
         self.widen(alloc, all.len())?;
         let linked = self.below.len().min(all.len());
-        for own in &all[linked..] {
-            let ended = self.search(all, own);
-            self.link(own, ended)?;
+        for lent in &all[linked..] {
+            let ended = self.search(all, lent.own);
+            self.link(lent.own, ended)?;
         }
         Ok(())
     }

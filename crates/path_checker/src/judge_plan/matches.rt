@@ -4,46 +4,33 @@ ghost use Rattle.std.specs.Prelude.{◌≡◌, ◌↔◌, [], ◌∷◌, IsTrue,
 ghost use Rattle.path_checker.specs.Exploring.{In};
 ghost use Rattle.path_checker.specs.Matches.{Match as TheMatch, match_of, all_lent, match_event, covered_event, SameMembers};
 
-use crate::judge_plan::fingerprint::{mixed, of_bytes};
-use crate::judge_plan::links::{Ended, Links, is_at};
+use crate::judge_plan::links::{Ended, Links, index_in, is_at};
+use crate::judge_plan::mark::{Mark, bit_of, print_of};
 use crate::judge_plan::memory::Memory;
 use crate::judge_plan::same_param::same_digest;
 use path_model::Event;
 use std::alloc::{AllocError, Global};
 use std::cell::Cell;
-use std::hash::{DefaultHasher, Hasher};
 use std::marker::Model;
 use std::rc::Rc;
 use suit_params::Digest;
 
 /// A digest and a size that a component was matched under.
-#[derive(Clone, Copy)]
+#[derive(Drop)]
 pub(crate) struct Match<'a> {
     digest: &'a Digest,
     size: Option<u64>,
-    print: u64,
+    mark: Cell<Mark>,
 }
 
-// By SipHash: no matches are easily found that have one fingerprint.
-fn print_of(digest: &Digest, size: Option<u64>) -> u64 {
-    let mut hasher = DefaultHasher::new();
-    hasher.write(digest.bytes());
-    if let Some(size) = size {
-        hasher.write_u64(size);
-    }
-    hasher.finish()
-}
-
-// A number that is soon found, of the whole digest. Other matches with the same one are easily made.
-fn number_of(digest: &Digest, size: Option<u64>) -> u64 {
-    mixed(of_bytes(digest.bytes()), size.unwrap_or(0))
+/// A match that is lent.
+#[derive(Clone, Copy)]
+pub(crate) struct Lent<'a> {
+    pub own: &'a Match<'a>,
 }
 
 // Stands for no component: all matches of a judgement.
 const ALL: usize = 8;
-
-// As many matches as are searched among all at most. Then they are forgotten, and equal ones may be made anew.
-const MANY: usize = 32_768;
 
 // So few are looked through one by one, and each is there once.
 const FEW: usize = 16;
@@ -51,88 +38,15 @@ const FEW: usize = 16;
 // As soon as there are so many, those that are there twice are dropped.
 const FULL: usize = 256;
 
-// A bit of a digest. Behind the last one they come again.
-fn bit_of(digest: &Digest, depth: u32) -> Option<bool> {
-    let bytes = digest.bytes();
-    let place = (depth as usize / 8).checked_rem(bytes.len())?;
-    let byte = bytes.get(place)?;
-    Some((*byte >> (depth % 8)) & 1 == 1)
-}
-
 impl<'a> Match<'a> {
     pub(crate) fn new(digest: &'a Digest, size: Option<u64>) -> Match<'a>
         ensures { match_of result ≡ (digest.now, size) }
     {
-        let print = print_of(digest, size);
         Match {
             digest,
             size,
-            print,
+            mark: Cell::new(Mark::nowhere()),
         }
-    }
-
-    // In memory that all states share, where it is made once.
-    fn made(
-        memory: Memory<'a>,
-        digest: &'a Digest,
-        size: Option<u64>,
-    ) -> Result<&'a Match<'a>, AllocError>
-        ensures { IfOk result (λ own. match_of own.now ≡ (digest.now, size)) }
-    {
-        let own = Match::new(digest, size);
-        if memory.skips_search() {
-            let lent = memory.events.try_alloc(own)?;
-            return Ok(lent);
-        }
-        let mut all = memory.last.matches.replace(Held::none());
-        if all.len() >= MANY {
-            memory.pause_searches(all.len());
-            all = Held::none();
-        }
-        let lent = all.lent(memory, own)?;
-        memory.last.matches.set(all);
-        Ok(lent)
-    }
-
-    /// In memory that all states share. The one that the command at the place told last at the component is looked at first.
-    pub(crate) fn lent(
-        memory: Memory<'a>,
-        place: u64,
-        component: u32,
-        digest: &'a Digest,
-        size: Option<u64>,
-    ) -> Result<&'a Match<'a>, AllocError>
-        ensures { IfOk result (λ own. match_of own.now ≡ (digest.now, size)) }
-    {
-        if let Some(last) = memory.told_at(place, component) {
-            if last.is_of(digest, size) {
-                return Ok(last);
-            }
-        }
-        let own = Match::used(memory, digest, size)?;
-        memory.keep_told(place, component, own)?;
-        Ok(own)
-    }
-
-    // In memory that all states share. Those used last with its number are looked at first.
-    fn used(
-        memory: Memory<'a>,
-        digest: &'a Digest,
-        size: Option<u64>,
-    ) -> Result<&'a Match<'a>, AllocError>
-        ensures { IfOk result (λ own. match_of own.now ≡ (digest.now, size)) }
-    {
-        let number = number_of(digest, size);
-        for second in &[false, true] {
-            if let Some(last) = memory.used(number, *second) {
-                if last.is_of(digest, size) {
-                    return Ok(last);
-                }
-            }
-        }
-        let own = Match::made(memory, digest, size)?;
-        memory.keep_used(number, own)?;
-        Ok(own)
     }
 
     /// The event that a component matched so.
@@ -158,8 +72,8 @@ impl<'a> Match<'a> {
         }
     }
 
-    // Whether it is of this digest and this size.
-    fn is_of(&self, digest: &Digest, size: Option<u64>) -> bool
+    /// Whether it is of this digest and this size.
+    pub(crate) fn is_of(&self, digest: &Digest, size: Option<u64>) -> bool
         ensures { IsTrue result ↔ (match_of self.now ≡ (digest.now, size)) }
     {
         self.size == size && same_digest(self.digest, digest)
@@ -172,32 +86,54 @@ impl<'a> Match<'a> {
         self.is_of(other.digest, other.size)
     }
 
-    /// Whether it is the other. Nearly all others are told by their fingerprint alone.
+    /// Whether it is the other. Nearly all others are told by their fingerprint alone, where both have it.
     pub(crate) fn is_alike(&self, other: &Match<'_>) -> bool
         ensures { IsTrue result → match_of self.now ≡ match_of other.now }
     {
-        self.print == other.print && self.is(other)
+        self.mark.get().may_be(other.mark.get()) && self.is(other)
     }
 
-    /// The fingerprint.
+    /// The fingerprint, which is made when it is first asked for.
     pub(crate) fn print(&self) -> u64 {
-        self.print
+        if let Some(print) = self.mark.get().print() {
+            return print;
+        }
+        let mark = Mark::printed(print_of(self.digest, self.size));
+        self.mark.set(mark);
+        mark.bits()
     }
 
-    /// Some bits of the fingerprint.
-    pub(crate) fn middle(&self) -> usize {
-        ((self.print >> 32) & 0x00ff_ffff) as usize
+    // Whether it has the fingerprint from now on, and had none before.
+    fn gets_print(&self) -> bool {
+        if self.mark.get().print().is_some() {
+            return false;
+        }
+        self.print();
+        true
     }
 
-    /// Eight other bits of it, which tell the match from most others.
-    pub(crate) fn tag(&self) -> u32 {
-        (self.print >> 56) as u32
+    // Where it was found last among those of a component, or put last.
+    fn place(&self, memory: Memory<'_>, component: usize) -> usize {
+        let mark = self.mark.get();
+        match mark.print() {
+            Some(print) => memory.place(print, component),
+            None => mark.index(component),
+        }
+    }
+
+    // It is put at an index among those of a component.
+    fn keep_place(&self, memory: Memory<'_>, component: usize, index: usize) {
+        if self.mark.get().is_free(component) {
+            self.mark.set(Mark::put(component, index));
+        } else {
+            memory.keep_place(self.print(), component, index);
+        }
     }
 
     /// Which way it is found at a depth: by its fingerprint, and further down by its digest.
-    pub(crate) fn goes_one(&self, depth: u32) -> bool {
-        if depth < 64 {
-            return (self.print >> depth) & 1 == 1;
+    pub(crate) fn goes_one(&self, print: u64, depth: u32) -> bool {
+        if depth < 63 {
+            return (print >> (depth + 1)) & 1 == 1;
         }
         bit_of(self.digest, depth).unwrap_or(false)
     }
@@ -207,10 +143,11 @@ impl<'a> Match<'a> {
 #[derive(Drop)]
 struct Matches<'a> {
     alloc: Global,
-    all: Vec<&'a Match<'a>>,
+    all: Vec<Lent<'a>>,
     links: Cell<Links>,
-    // The fingerprints of all, added up.
-    sum: u64,
+    // The fingerprints of the first so many, added up.
+    sum: Cell<u64>,
+    summed: Cell<usize>,
     // As soon as there are so many, those that are there twice are dropped.
     full: usize,
 }
@@ -235,18 +172,6 @@ fn room_after(len: usize, capacity: usize) -> usize {
     len / 8 + 1
 }
 
-// Where a match stands in a list, by looking through it.
-fn index_in(all: &[&Match<'_>], wanted: &Match<'_>) -> Option<usize>
-    ensures { IfSome result (λ at. In (match_of wanted.now) (all_lent all.now)) }
-{
-    for at in 0..all.len() {
-        if is_at(all, at, wanted) {
-            return Some(at);
-        }
-    }
-    None
-}
-
 impl<'a> Matches<'a> {
     // None.
     fn none(alloc: Global) -> Matches<'a>
@@ -256,7 +181,8 @@ impl<'a> Matches<'a> {
             alloc,
             all: Vec::new(alloc),
             links: Cell::new(Links::none(alloc)),
-            sum: 0,
+            sum: Cell::new(0),
+            summed: Cell::new(0),
             full: FULL,
         }
     }
@@ -270,7 +196,8 @@ impl<'a> Matches<'a> {
             alloc,
             all: Vec::with_capacity(alloc, count.saturating_add(1))?,
             links: Cell::new(links),
-            sum: 0,
+            sum: Cell::new(0),
+            summed: Cell::new(0),
             full: FULL,
         })
     }
@@ -288,7 +215,8 @@ impl<'a> Matches<'a> {
             alloc: self.alloc,
             all,
             links: Cell::new(copied?),
-            sum: self.sum,
+            sum: Cell::new(self.sum.get()),
+            summed: Cell::new(self.summed.get()),
             full: self.full,
         })
     }
@@ -331,7 +259,7 @@ impl<'a> Matches<'a> {
     fn is_there(&self, memory: Memory<'_>, component: usize, wanted: &Match<'_>) -> bool
         ensures { IsTrue result → In (match_of wanted.now) self.now }
     {
-        let at = memory.place(wanted.print, component);
+        let at = wanted.place(memory, component);
         is_at(self.all.as_slice(), at, wanted)
     }
 
@@ -341,7 +269,7 @@ impl<'a> Matches<'a> {
     {
         let found = self.search(wanted);
         if let Some(at) = found {
-            memory.keep_place(wanted.print, component, at);
+            memory.keep_place(wanted.print(), component, at);
         }
         found
     }
@@ -353,10 +281,31 @@ impl<'a> Matches<'a> {
         if self.is_there(memory, component, wanted) {
             return true;
         }
+        if wanted.gets_print() && self.is_there(memory, component, wanted) {
+            return true;
+        }
         match self.search_kept(memory, component, wanted) {
             Some(_) => true,
             None => false,
         }
+    }
+
+    // One that is found among those of a component.
+    fn found(
+        &self,
+        memory: Memory<'_>,
+        component: usize,
+        wanted: &Match<'_>,
+    ) -> Option<&'a Match<'a>>
+        ensures { IfSome result (λ made. match_of made.now ≡ match_of wanted.now) }
+    {
+        if self.all.len() > FEW {
+            if let Some(made) = self.at(memory.place(wanted.print(), component), wanted) {
+                return Some(made);
+            }
+        }
+        let at = self.search_kept(memory, component, wanted)?;
+        self.at(at, wanted)
     }
 
     // Whether a match is known to be among those of a component. Among many it is not searched.
@@ -375,8 +324,7 @@ impl<'a> Matches<'a> {
     {
         let room = room_after(self.all.len(), self.all.capacity());
         self.all.reserve_exact(room)?;
-        self.all.push(own)?;
-        self.sum = self.sum.wrapping_add(own.print);
+        self.all.push(Lent { own })?;
         Ok(())
     }
 
@@ -395,14 +343,20 @@ impl<'a> Matches<'a> {
     }
 
     // The same, each once.
+    #[inline(never)]
     fn once(&self) -> Result<Matches<'a>, AllocError>
         ensures { IfOk result (λ held. SameMembers held self.now) }
     {
         let mut held = Matches::for_many(self.alloc, self.all.len())?;
-        for own in self.all.as_slice() {
-            held.push_once(*own)?;
+        for lent in self.all.as_slice() {
+            held.push_once(lent.own)?;
         }
-        held.full = held.all.len().saturating_mul(4).max(FULL);
+        let more = if held.all.len() < self.all.len() {
+            4
+        } else {
+            16
+        };
+        held.full = held.all.len().saturating_mul(more).max(FULL);
         Ok(held)
     }
 
@@ -428,19 +382,31 @@ impl<'a> Matches<'a> {
         ensures { OnOk result (SameMembers self.new (match_of own.now ∷ self.old)) }
     {
         self.pack()?;
-        memory.keep_place(own.print, component, self.all.len());
+        own.keep_place(memory, component, self.all.len());
         self.push(own)
+    }
+
+    // The fingerprints of all, which are few, added up.
+    fn few_summed(&self) -> u64 {
+        let mut sum = self.sum.get();
+        let from = self.summed.get().min(self.all.len());
+        for lent in &self.all[from..] {
+            sum = sum.wrapping_add(lent.own.print());
+        }
+        self.sum.set(sum);
+        self.summed.set(self.all.len());
+        sum
     }
 
     // The fingerprints of all, each once, added up.
     fn sum(&self) -> u64 {
         if self.all.len() <= FEW {
-            return self.sum;
+            return self.few_summed();
         }
         let mut links = self.links.replace(Links::none(self.alloc));
         let sum = match links.reach(self.alloc, self.all.as_slice()) {
             Ok(()) => links.sum(),
-            Err(_) => self.sum,
+            Err(_) => 0,
         };
         self.links.set(links);
         sum
@@ -455,8 +421,8 @@ impl<'a> Matches<'a> {
             return None;
         }
         let made = all[at];
-        if made.is_alike(wanted) {
-            return Some(made);
+        if made.own.is_alike(wanted) {
+            return Some(made.own);
         }
         None
     }
@@ -473,19 +439,19 @@ impl<'a> Matches<'a> {
     fn lent(&mut self, memory: Memory<'a>, own: Match<'a>) -> Result<&'a Match<'a>, AllocError>
         ensures { IfOk result (λ lent. match_of lent.now ≡ match_of own.entry) }
     {
-        if let Some(made) = self.at(memory.place(own.print, ALL), &own) {
+        if let Some(made) = self.at(memory.place(own.print(), ALL), &own) {
             memory.count_found();
             return Ok(made);
         }
         let ended = self.ended(&own);
         if let Some(at) = ended.found {
-            memory.keep_place(own.print, ALL, at);
+            memory.keep_place(own.print(), ALL, at);
             memory.count_found();
             if let Some(made) = self.at(at, &own) {
                 return Ok(made);
             }
         }
-        let lent = memory.events.try_alloc(own)?;
+        let lent = memory.last.events.try_alloc(own)?;
         self.push(lent)?;
         self.link_last(lent, ended)?;
         Ok(lent)
@@ -495,8 +461,8 @@ impl<'a> Matches<'a> {
     fn is_among(&self, wanted: &Match<'_>) -> bool
         ensures { IsTrue result ↔ In (match_of wanted.now) self.now }
     {
-        for own in self.all.as_slice() {
-            if own.is(wanted) {
+        for lent in self.all.as_slice() {
+            if lent.own.is(wanted) {
                 return true;
             }
         }
@@ -508,8 +474,8 @@ impl<'a> Matches<'a> {
         ensures { IsTrue result
             → (one : TheMatch) → In one self.now → In one others.now }
     {
-        for own in self.all.as_slice() {
-            if !others.finds(own) {
+        for lent in self.all.as_slice() {
+            if !others.finds(lent.own) {
                 return false;
             }
         }
@@ -541,6 +507,22 @@ impl<'a> Model for Held<'a> {
     ghost view = { λ a. held_matches a.held };
 }
 
+// One match of a component more, in a copy.
+#[inline(never)]
+fn put_apart<'a>(
+    held: &mut Rc<Matches<'a>>,
+    memory: Memory<'a>,
+    component: usize,
+    own: &'a Match<'a>,
+) -> Result<(), AllocError>
+    ensures { OnOk result (SameMembers held.new.value (match_of own.now ∷ held.old.value)) }
+{
+    let mut all = held.copy()?;
+    all.put(memory, component, own)?;
+    *held = Rc::new(memory.alloc, all)?;
+    Ok(())
+}
+
 // One match of a component more, in place or in a copy where they are shared. Where it is known to be there, nothing is copied.
 fn add_shared<'a>(
     held: &mut Rc<Matches<'a>>,
@@ -555,16 +537,12 @@ fn add_shared<'a>(
     }
     match Rc::get_mut(held) {
         Some(all) => all.put(memory, component, own),
-        None => {
-            let mut all = held.copy()?;
-            all.put(memory, component, own)?;
-            *held = Rc::new(memory.alloc, all)?;
-            Ok(())
-        }
+        None => put_apart(held, memory, component, own),
     }
 }
 
 // Two matches.
+#[inline(never)]
 fn both<'a>(
     alloc: Global,
     one: &'a Match<'a>,
@@ -628,13 +606,13 @@ impl<'a> Held<'a> {
     pub(crate) fn sum(&self) -> u64 {
         match &self.held {
             Holding::Nothing => 0,
-            Holding::One(own) => own.print,
+            Holding::One(own) => own.print(),
             Holding::Several(all) => all.sum(),
         }
     }
 
-    // How many there are.
-    fn len(&self) -> usize {
+    /// How many there are.
+    pub(crate) fn len(&self) -> usize {
         match &self.held {
             Holding::Nothing => 0,
             Holding::One(_) => 1,
@@ -666,6 +644,22 @@ impl<'a> Held<'a> {
         }
     }
 
+    /// One that is found among them, which are of a component.
+    pub(crate) fn found(
+        &self,
+        memory: Memory<'_>,
+        component: usize,
+        wanted: &Match<'_>,
+    ) -> Option<&'a Match<'a>>
+        ensures { IfSome result (λ made. match_of made.now ≡ match_of wanted.now) }
+    {
+        match &self.held {
+            Holding::Several(all) => all.found(memory, component, wanted),
+            Holding::One(own) if own.is(wanted) => Some(*own),
+            _ => None,
+        }
+    }
+
     /// Whether each is found among the others.
     pub(crate) fn is_within(&self, others: &Held<'_>) -> bool
         ensures { IsTrue result
@@ -681,8 +675,12 @@ impl<'a> Held<'a> {
         }
     }
 
-    // A match in memory that all states share: one of these, which no others share, or one more.
-    fn lent(&mut self, memory: Memory<'a>, own: Match<'a>) -> Result<&'a Match<'a>, AllocError>
+    /// A match in memory that all states share: one of these, which no others share, or one more.
+    pub(crate) fn lent(
+        &mut self,
+        memory: Memory<'a>,
+        own: Match<'a>,
+    ) -> Result<&'a Match<'a>, AllocError>
         ensures { IfOk result (λ lent. match_of lent.now ≡ match_of own.entry) }
     {
         match &mut self.held {
@@ -698,7 +696,7 @@ impl<'a> Held<'a> {
             }
             Holding::Nothing => {}
         }
-        let lent = memory.events.try_alloc(own)?;
+        let lent = memory.last.events.try_alloc(own)?;
         self.add(memory, ALL, lent)?;
         Ok(lent)
     }

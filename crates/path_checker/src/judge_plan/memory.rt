@@ -22,8 +22,13 @@ const CROWD: usize = 4_096;
 // How many bytes of parameters are compared in all so that states share them.
 const READ: u64 = 4_294_967_296;
 
-// How many of the matches used last, and of where they stand, are kept at most: a power of two.
+// How many of the matches used last are kept at most: a power of two.
 const USED: usize = 8_192;
+
+// How many places where matches stand are kept at most: a power of two. Each component has its own part of them.
+const SPOTS: usize = 65_536;
+
+const PARTS: usize = 16;
 
 // How many places of commands are kept at most with the match told last there: a power of two.
 const STEPS: usize = 131_072;
@@ -43,12 +48,10 @@ const MORE: usize = 16;
 /// How many places there are for one that is kept.
 pub(crate) const WAYS: u32 = 8;
 
-/// The allocators of a judgement, and how much it may still compare. Events are freed together, when it ends.
+/// The allocators of a judgement, and how much it may still compare, in a word that is passed on at every step.
 #[derive(Clone, Copy)]
 pub(crate) struct Memory<'a> {
     pub alloc: Global,
-    pub events: &'a Bump,
-    pub left: &'a Cell<u64>,
     /// The values made last. The next state mostly comes to the same, and shares them.
     pub last: &'a Last<'a>,
 }
@@ -56,6 +59,9 @@ pub(crate) struct Memory<'a> {
 /// The values made last, in any state.
 #[derive(Drop)]
 pub(crate) struct Last<'a> {
+    /// Events are freed together, when the judgement ends.
+    pub events: &'a Bump,
+    compared: &'a Cell<u64>,
     /// All matches.
     pub matches: Cell<Held<'a>>,
     // How many were found among them since they were forgotten.
@@ -63,12 +69,15 @@ pub(crate) struct Last<'a> {
     // How many are still made without a search among them, and how many were to be at first.
     unsearched: Cell<usize>,
     pause: Cell<usize>,
+    // How many were found among those used last, and whether those were too few to look at them meanwhile.
+    reused: Cell<usize>,
+    few_reused: Cell<bool>,
     // The matches used last, each beside its number, and how many were searched among all.
-    used: Cell<&'a [Cell<Option<&'a Match<'a>>>]>,
+    used: Cell<&'a [Cell<&'a Match<'a>>]>,
     numbers: Cell<&'a [Cell<u64>]>,
     searched: Cell<usize>,
     // The matches that commands told last, by their places and components, and how many were others.
-    told: Cell<&'a [Cell<Option<&'a Match<'a>>>]>,
+    told: Cell<&'a [Cell<&'a Match<'a>>]>,
     others: Cell<usize>,
     // Where matches were found last in a list, each beside bits that tell the match, and how many were searched there.
     places: Cell<&'a [Cell<u64>]>,
@@ -129,12 +138,16 @@ impl LastKnown {
 
 impl<'a> Last<'a> {
     // Nothing.
-    fn new() -> Last<'a> {
+    fn new(events: &'a Bump, compared: &'a Cell<u64>) -> Last<'a> {
         Last {
+            events,
+            compared,
             matches: Cell::new(Held::none()),
             found: Cell::new(0),
             unsearched: Cell::new(0),
             pause: Cell::new(0),
+            reused: Cell::new(0),
+            few_reused: Cell::new(false),
             used: Cell::new(&[]),
             numbers: Cell::new(&[]),
             searched: Cell::new(0),
@@ -162,6 +175,23 @@ fn spot_of(print: u64, component: usize) -> u64 {
     mixed(print, component as u64)
 }
 
+// The first of the two places, of so many, for a match of a component. No match of another component takes them.
+fn spot_by(spot: u64, component: usize, count: usize) -> usize {
+    let part = count / PARTS;
+    let start = (component % PARTS).wrapping_mul(part);
+    start.wrapping_add(spot as usize & part.wrapping_sub(2))
+}
+
+// The index that is kept at a place, if it is that of the match.
+fn index_at(places: &[Cell<u64>], at: usize, spot: u64) -> Option<usize> {
+    let kept = places.get(at)?.get();
+    if (kept ^ spot) >> 32 == 0 {
+        Some((kept & 0xffff_ffff) as usize)
+    } else {
+        None
+    }
+}
+
 // Which of so many places is that of a command at a component. Those of a component follow one another as the commands do.
 fn step_by(place: u64, component: u32, count: usize) -> usize {
     let apart = (component as usize).wrapping_mul(count / 8);
@@ -185,13 +215,8 @@ impl<'a> Memory<'a> {
         events: &'a Bump,
         left: &'a Cell<u64>,
     ) -> Result<Memory<'a>, AllocError> {
-        let last = events.try_alloc(Last::new())?;
-        Ok(Memory {
-            alloc,
-            events,
-            left,
-            last,
-        })
+        let last = events.try_alloc(Last::new(events, left))?;
+        Ok(Memory { alloc, last })
     }
 
     /// Frees what was made last.
@@ -247,13 +272,27 @@ impl<'a> Memory<'a> {
         self.last.pause.set(pause);
         self.last.unsearched.set(pause);
         self.last.found.set(0);
+        self.last
+            .few_reused
+            .set(self.last.reused.get() < forgotten / 8);
+        self.last.reused.set(0);
+    }
+
+    /// A match was found among those used last.
+    pub(crate) fn count_reused(&self) {
+        self.last.reused.set(self.last.reused.get().wrapping_add(1));
+    }
+
+    /// Whether the next match is made without a search, since few were found even among those used last, and one less from now on.
+    pub(crate) fn passes_used(&self) -> bool {
+        self.last.few_reused.get() && self.skips_search()
     }
 
     /// The match that the command at a place told last at a component, in any state.
     pub(crate) fn told_at(&self, place: u64, component: u32) -> Option<&'a Match<'a>> {
         let told = self.last.told.get();
         match told.get(step_by(place, component, told.len())) {
-            Some(at) => at.get(),
+            Some(at) => Some(at.get()),
             None => None,
         }
     }
@@ -268,12 +307,12 @@ impl<'a> Memory<'a> {
         let (others, kept) = (self.last.others.get(), self.last.told.get().len());
         self.last.others.set(others.wrapping_add(1));
         if others >= kept.max(UNKEPT) && kept < STEPS {
-            let more = self.no_matches(more_places(kept, STEPS))?;
+            let more = self.all_of(own, more_places(kept, STEPS))?;
             self.last.told.set(more);
         }
         let told = self.last.told.get();
         if let Some(at) = told.get(step_by(place, component, told.len())) {
-            at.set(Some(own));
+            at.set(own);
         }
         Ok(())
     }
@@ -283,7 +322,7 @@ impl<'a> Memory<'a> {
         let (used, numbers) = (self.last.used.get(), self.last.numbers.get());
         let index = pair_by(number, used.len()) | second as usize;
         match (used.get(index), numbers.get(index)) {
-            (Some(at), Some(own)) if own.get() == number => at.get(),
+            (Some(at), Some(own)) if own.get() == number => Some(at.get()),
             _ => None,
         }
     }
@@ -293,13 +332,13 @@ impl<'a> Memory<'a> {
         let (searched, kept) = (self.last.searched.get(), self.last.used.get().len());
         self.last.searched.set(searched.wrapping_add(1));
         if searched >= kept && kept < USED {
-            self.keep_matches(more_places(kept, USED))?;
+            self.keep_matches(own, more_places(kept, USED))?;
         }
         let (used, numbers) = (self.last.used.get(), self.last.numbers.get());
         let first = pair_by(number, used.len());
         if let (Some(last), Some(before)) = (used.get(first), used.get(first | 1)) {
             before.set(last.get());
-            last.set(Some(own));
+            last.set(own);
         }
         if let (Some(last), Some(before)) = (numbers.get(first), numbers.get(first | 1)) {
             before.set(last.get());
@@ -312,45 +351,62 @@ impl<'a> Memory<'a> {
     pub(crate) fn place(&self, print: u64, component: usize) -> usize {
         let spot = spot_of(print, component);
         let places = self.last.places.get();
-        match places.get(spot as usize & places.len().wrapping_sub(1)) {
-            Some(at) if (at.get() ^ spot) >> 32 == 0 => (at.get() & 0xffff_ffff) as usize,
-            _ => usize::MAX,
+        let first = spot_by(spot, component, places.len());
+        if let Some(index) = index_at(places, first, spot) {
+            return index;
         }
+        index_at(places, first | 1, spot).unwrap_or(usize::MAX)
     }
 
     /// A match with such a fingerprint is found at an index among those of a component.
     pub(crate) fn keep_place(&self, print: u64, component: usize, index: usize) {
         let (sought, kept) = (self.last.sought.get(), self.last.places.get().len());
         self.last.sought.set(sought.wrapping_add(1));
-        if sought >= kept && kept < USED {
-            self.more_spots(more_places(kept, USED));
+        if sought >= kept && kept < SPOTS {
+            self.more_spots(more_places(kept, SPOTS));
         }
         let spot = spot_of(print, component);
         let places = self.last.places.get();
-        if let Some(at) = places.get(spot as usize & places.len().wrapping_sub(1)) {
-            at.set(spot & 0xffff_ffff_0000_0000 | index as u64 & 0xffff_ffff);
+        let first = spot_by(spot, component, places.len());
+        if let (Some(last), Some(before)) = (places.get(first), places.get(first | 1)) {
+            if (last.get() ^ spot) >> 32 != 0 {
+                before.set(last.get());
+            }
+            last.set(spot & 0xffff_ffff_0000_0000 | index as u64 & 0xffff_ffff);
         }
     }
 
     // Keeps where so many matches are found from now on, if there is memory for it.
     fn more_spots(&self, count: usize) {
-        if let Ok(places) = self.events.try_alloc_slice_fill_clone(count, Cell::new(0)) {
+        if let Ok(places) = self
+            .last
+            .events
+            .try_alloc_slice_fill_clone(count, Cell::new(0))
+        {
             self.last.places.set(places);
         }
     }
 
-    // So many places for a match, and none there.
-    fn no_matches(&self, count: usize) -> Result<&'a [Cell<Option<&'a Match<'a>>>], AllocError> {
+    // So many places for a match, and the same one at each.
+    fn all_of(
+        &self,
+        own: &'a Match<'a>,
+        count: usize,
+    ) -> Result<&'a [Cell<&'a Match<'a>>], AllocError> {
         let places = self
+            .last
             .events
-            .try_alloc_slice_fill_clone(count, Cell::new(None))?;
+            .try_alloc_slice_fill_clone(count, Cell::new(own))?;
         Ok(places)
     }
 
-    // Keeps so many matches from now on.
-    fn keep_matches(&self, count: usize) -> Result<(), AllocError> {
-        let used = self.no_matches(count)?;
-        let numbers = self.events.try_alloc_slice_fill_clone(count, Cell::new(0))?;
+    // Keeps so many matches from now on. A match that is at all places is not the wanted one by chance.
+    fn keep_matches(&self, own: &'a Match<'a>, count: usize) -> Result<(), AllocError> {
+        let used = self.all_of(own, count)?;
+        let numbers = self
+            .last
+            .events
+            .try_alloc_slice_fill_clone(count, Cell::new(0))?;
         self.last.used.set(used);
         self.last.numbers.set(numbers);
         Ok(())
@@ -361,7 +417,7 @@ impl<'a> Memory<'a> {
         if let Some(known) = self.last.each.get() {
             return Ok(known);
         }
-        let known = self.events.try_alloc(LastKnown::new())?;
+        let known = self.last.events.try_alloc(LastKnown::new())?;
         self.last.each.set(Some(known));
         Ok(known)
     }
@@ -380,9 +436,14 @@ impl<'a> Memory<'a> {
 
     /// Whether two states may be compared, where what one of them holds has such a cost.
     pub(crate) fn may_compare(&self, cost: u64) -> bool {
-        match self.left.get().checked_sub(cost.saturating_add(LEAST)) {
+        match self
+            .last
+            .compared
+            .get()
+            .checked_sub(cost.saturating_add(LEAST))
+        {
             Some(left) => {
-                self.left.set(left);
+                self.last.compared.set(left);
                 true
             }
             None => false,

@@ -7,7 +7,7 @@ ghost use Rattle.path_checker.specs.Merging.{Merges, SameState, SameStop};
 use crate::judge_plan::kept::{Kept, Standing, Stopped};
 use crate::judge_plan::memory::Memory;
 use std::alloc::{AllocError, Global};
-use suit_commands::Command;
+use suit_commands::{Command, Sequence};
 
 // The smallest number of failures that are searched for equal ones.
 const FEW: usize = 32;
@@ -15,14 +15,21 @@ const FEW: usize = 32;
 // How many of other fingerprints are passed over.
 const FAR: u32 = 64;
 
+// One that is kept.
+#[derive(Clone, Copy)]
+struct Print {
+    print: u64,
+    // Where the one before it with the same bits is: one more than its index, or 0.
+    before: u32,
+}
+
 // Those that are kept, found by their fingerprints.
 #[derive(Drop)]
 struct Seen {
     // By some bits of a fingerprint, where the last one with these is: one more than its index, or 0. Its length is a power of two.
-    last: Vec<usize>,
-    // Of each that is kept, its fingerprint, and where the one before it is.
-    prints: Vec<u64>,
-    before: Vec<usize>,
+    last: Vec<u32>,
+    // Each that is kept.
+    prints: Vec<Print>,
 }
 
 impl Seen {
@@ -33,7 +40,6 @@ impl Seen {
         Ok(Seen {
             last,
             prints: Vec::with_capacity(alloc, count)?,
-            before: Vec::with_capacity(alloc, count)?,
         })
     }
 
@@ -44,22 +50,22 @@ impl Seen {
     // The index of the last one that may have a fingerprint.
     fn last(&self, print: u64) -> Option<usize> {
         match self.last.get(self.bits(print)) {
-            Some(last) => last.checked_sub(1),
+            Some(last) => (*last as usize).checked_sub(1),
             None => None,
         }
     }
 
     // The index of the one before that may have the same one.
     fn before(&self, index: usize) -> Option<usize> {
-        match self.before.get(index) {
-            Some(before) => before.checked_sub(1),
+        match self.prints.get(index) {
+            Some(own) => (own.before as usize).checked_sub(1),
             None => None,
         }
     }
 
     fn has(&self, index: usize, print: u64) -> bool {
         match self.prints.get(index) {
-            Some(own) => *own == print,
+            Some(own) => own.print == print,
             None => false,
         }
     }
@@ -67,10 +73,12 @@ impl Seen {
     // One more is kept.
     fn add(&mut self, print: u64) -> Result<(), AllocError> {
         let bits = self.bits(print);
-        self.prints.push(print)?;
         if let Some(last) = self.last.get_mut(bits) {
-            self.before.push(*last)?;
-            *last = self.prints.len();
+            self.prints.push(Print {
+                print,
+                before: *last,
+            })?;
+            *last = u32::try_from(self.prints.len()).unwrap_or(0);
         }
         Ok(())
     }
@@ -144,15 +152,46 @@ fn has_inner(command: &Command) -> bool {
     }
 }
 
-/// The states, or some of them, which stand for all, where a command may have added to them.
+// Whether the last command of a sequence merges the states.
+fn is_merged(sequence: &Sequence) -> bool {
+    match sequence.as_slice().last() {
+        Some(step) => has_inner(&step.command),
+        None => false,
+    }
+}
+
+// Whether the states after a command that is done in one state are merged already.
+fn ends_merged(command: &Command) -> bool {
+    match command {
+        Command::Run(inner) => is_merged(inner),
+        Command::TryEach(branches) => match branches.as_slice() {
+            [Some(inner)] => is_merged(inner),
+            [Some(inner), None] => is_merged(inner),
+            _ => false,
+        },
+        _ => false,
+    }
+}
+
+/// Whether there is one state, with one component selected.
+pub(crate) fn is_alone(states: &[Kept<'_>]) -> bool {
+    match states {
+        [k] => k.selection.sole().is_some(),
+        _ => false,
+    }
+}
+
+/// The states, or some of them, which stand for all, where a command may have added to them. It was done in one state alone, or in
+/// more.
 pub(crate) fn merged_states<'a>(
     memory: Memory<'a>,
     command: &Command,
+    alone: bool,
     from: Vec<Kept<'a>>,
 ) -> Result<Vec<Kept<'a>>, AllocError>
     ensures { IfOk result (λ v. Merges SameState from.entry.items v.items) }
 {
-    if from.len() < 2 || !has_inner(command) {
+    if from.len() < 2 || !has_inner(command) || alone && ends_merged(command) {
         return Ok(from);
     }
     merged(memory, from)

@@ -79,11 +79,11 @@ impl<'a> Since<'a> {
     {
         let mut all = shared;
         if self.told.len() >= LONG {
-            all.add_many(memory.events, self.told.as_slice())?;
+            all.add_many(memory.last.events, self.told.as_slice())?;
             return Ok(all);
         }
         for told in self.told.as_slice() {
-            all.add(memory.events, *told)?;
+            all.add(memory.last.events, *told)?;
         }
         Ok(all)
     }
@@ -123,7 +123,7 @@ impl<'a> Past<'a> {
         self.settle(memory)?;
         match &mut self.since {
             Some(since) => since.add(told),
-            None => self.shared.add(memory.events, told),
+            None => self.shared.add(memory.last.events, told),
         }
     }
 
@@ -134,7 +134,8 @@ impl<'a> Past<'a> {
         match &mut self.since {
             Some(since) => {
                 if since.is_full() && self.shared.are_many() {
-                    self.shared.add_many(memory.events, since.told.as_slice())?;
+                    self.shared
+                        .add_many(memory.last.events, since.told.as_slice())?;
                     since.told.clear();
                 }
             }

@@ -103,7 +103,7 @@ impl<'a> SetsAt<'a> {
     ) -> Result<&'a SetsAt<'a>, AllocError>
         ensures { IfOk result (λ lent. sets_of lent.now ≡ sets_at components.now list.now) }
     {
-        let lent = memory.events.try_alloc(SetsAt { components, list })?;
+        let lent = memory.last.events.try_alloc(SetsAt { components, list })?;
         Ok(lent)
     }
 
@@ -131,7 +131,7 @@ impl<'a> Several<'a> {
             (λ lent. several_sets lent.now
             ≡ sequence_sets (sequence_tree steps.now) (components_of components.entry)) }
     {
-        let lent = memory.events.try_alloc(Several { components, steps })?;
+        let lent = memory.last.events.try_alloc(Several { components, steps })?;
         Ok(lent)
     }
 

@@ -1,6 +1,6 @@
 //! The matches that stand.
 
-ghost use Rattle.std.specs.Prelude.{◌≡◌, ◌↔◌, ◌<◌, ℕ, [], IsTrue, IfOk, OnOk, length};
+ghost use Rattle.std.specs.Prelude.{◌≡◌, ◌↔◌, ◌<◌, ℕ, [], IsTrue, IfSome, IfOk, OnOk, length};
 ghost use Rattle.path_checker.specs.Exploring.{In};
 ghost use Rattle.path_checker.specs.Matches.{match_of, SameMembers};
 ghost use Rattle.path_checker.specs.Standing.{held_of, Gains, Loses, SameHeld};
@@ -54,6 +54,19 @@ impl<'a> StandingMatches<'a> {
             Some(held) => held.has(memory, component as usize, wanted),
             None => false,
         }
+    }
+
+    /// One that stands and is found.
+    pub(crate) fn found(
+        &self,
+        memory: Memory<'_>,
+        component: u32,
+        wanted: &Match<'_>,
+    ) -> Option<&'a Match<'a>>
+        ensures { IfSome result (λ made. match_of made.now ≡ match_of wanted.now) }
+    {
+        let held = self.of.get(component as usize)?;
+        held.found(memory, component as usize, wanted)
     }
 
     // One component more, of which none stands.

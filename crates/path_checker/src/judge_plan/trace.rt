@@ -271,7 +271,7 @@ impl<'a> Told<'a> {
                 digest,
                 size,
             } => {
-                let invoke = memory.events.try_alloc(Invoke {
+                let invoke = memory.last.events.try_alloc(Invoke {
                     component,
                     digest,
                     size,

@@ -20,7 +20,7 @@ use crate::judge_plan::inner::{
 };
 use crate::judge_plan::kept::Kept;
 use crate::judge_plan::memory::Memory;
-use crate::judge_plan::merged::merged_states;
+use crate::judge_plan::merged::{is_alone, merged_states};
 use crate::judge_plan::reuse::reuse;
 use crate::judge_plan::straight::in_place_from;
 use suit_commands::{Branches, Command, Sequence, Step};
@@ -81,6 +81,7 @@ pub(crate) fn command<'a>(
         (λ identities. Does (command_tree step.now.command) identities count step.now.place)
         from.entry.items h) }
 {
+    let alone = is_alone(&from);
     let round = memory.gather(from.len());
     let mut now = from;
     let mut next = Vec::new(memory.alloc);
@@ -89,7 +90,7 @@ pub(crate) fn command<'a>(
         each(memory, count, step, k, &mut next, failed)?;
     }
     memory.keep(round);
-    let merged = merged_states(memory, &step.command, next)?;
+    let merged = merged_states(memory, &step.command, alone, next)?;
     Ok(merged)
 }
 
