@@ -37,7 +37,7 @@ use Rattle.step_machine.specs.declared.spot.Standing.{Standing}
 use Rattle.step_machine.proofs.Asking.{asks_none}
 use Rattle.step_machine.proofs.Lifting.{kept_slot, map_same}
 use Rattle.step_machine.proofs.Beginning.{Obeys, gained, no_requests, followed_quietly, stays_start}
-use Rattle.step_machine.proofs.Going.{kept_then, kept_start}
+use Rattle.step_machine.proofs.Going.{kept_then}
 use Rattle.step_machine.proofs.Recalling.{IsFree, IsUnfree}
 
 -- ---- what the flash bears for the trail stays
@@ -400,14 +400,3 @@ module _ (machine : Machine) (host : HostAt) (launcher : LauncherAt) (ram : List
         (refl, says.counts, omega arith),
         says.list,
       ))
-
--- nothing is kept of a directive that failed
-pub not_kept : (machine : Machine) (m : Stage) (place : ℕ) (ended : Result (Unit {0}) Stop) → outcome_of ended ≡ None → m.trail.left ≡ [] → KeptSo machine place ended m ended m
-not_kept machine m place ended none left = record {
-  stays = kept_start machine m;
-  left = left;
-  contents = λ told. refl;
-  launches = refl;
-  asked = refl;
-  end = subst (λ (o : Option Bool). KeptEnd machine place ended o m ended m) (sym none) (refl, refl, λ told. refl);
-}

@@ -5,8 +5,6 @@ use Rattle.std.proofs.lemmas.List.{length-append}
 use Rattle.suit_commands.specs.Numbers.{branches_work, command_work, count_after, work_of, work_number}
 use Rattle.suit_commands.specs.Selections.{selected_after}
 use Rattle.suit_commands.specs.Tree.{CommandTree, Test, Act, Index, Override, TryEach, RunSequence, SequenceTree, StepThen, BranchesTree, BranchThen, PlanTree}
-use Rattle.suit_cursor.specs.declared.command.LentCommand.{LentCommand}
-use Rattle.suit_cursor.specs.Lending.{command_of}
 use Rattle.path_model.proofs.EventBounds.{length_after}
 use Rattle.step_machine.specs.declared.stop.Stop.{Stop}
 use Rattle.step_machine.specs.declared.stop.Stop.TheVariants as stops
@@ -17,7 +15,7 @@ use Rattle.step_machine.specs.Programs.{part_tree}
 use Rattle.step_machine.specs.Running.{Moment, selected_list}
 use Rattle.step_machine.specs.Stages.{HasRoom, IfGoesOn, Spends, Stage, TrailAt, stage}
 use Rattle.step_machine.proofs.KeptSteps.{IsAsked, goes_on}
-use Rattle.step_machine.proofs.Parting.{IsEach, passed_trailed}
+use Rattle.step_machine.proofs.Parting.{IsEach}
 
 -- ---- room
 
@@ -54,9 +52,6 @@ goes_less (Err (stops.Directive place cause)) P Q to p = tt
 pub spends_none : (work : ℕ) (s : Stage) (r : Result (Unit {0}) Stop) → Spends work s r s
 spends_none work s r = record { others = λ n has. goes_on r (HasRoom s n) (has_less s n (work + n) (omega arith) has) }
 
-pub spends_less : (a b : ℕ) (s z : Stage) (r : Result (Unit {0}) Stop) → a ≤ b → Spends a s r z → Spends b s r z
-spends_less a b s z r le spends = record { others = λ n has. spends.others n (has_less s (a + n) (b + n) (omega (arith, le)) has) }
-
 pub spends_as : (a b : ℕ) (s z : Stage) (r : Result (Unit {0}) Stop) → a ≡ b → Spends a s r z → Spends b s r z
 spends_as a b s z r is spends = subst (λ (n : ℕ). Spends n s r z) is spends
 
@@ -66,9 +61,6 @@ pub record Leaves (all left : ℕ) (m n : Stage) : Type 0 where
 
 none_more : (n : ℕ) → n + 0 ≡ n
 none_more n = omega arith
-
-pub room_left : (all left : ℕ) (m n : Stage) → Leaves all left m n → HasRoom m all → HasRoom n left
-room_left all left m n goes has = subst (HasRoom n) (none_more left) (goes.others 0 (subst (HasRoom m) (sym (none_more all)) has))
 
 pub leaves_all : (all left : ℕ) (m : Stage) → left ≡ all → Leaves all left m m
 leaves_all all left m same = record { others = λ k has. subst (λ (n : ℕ). HasRoom m (n + k)) (sym same) has }
@@ -166,21 +158,11 @@ pub branch_work : (branches rest : BranchesTree) (inner : SequenceTree) (count n
 branch_work branches rest inner count n is one =
     ap (λ (x : BranchesTree). branches_work x count) is ∙ ap (λ (k : ℕ). work_of inner count k + branches_work rest count) (sym one)
 
--- a command that is known
-pub spends_by : (x y : LentCommand) (count : ℕ) (m z : Stage) (r : Result (Unit {0}) Stop) → x ≡ y → Spends (command_work (command_of y) count 1) m r z → Spends (command_work (command_of x) count 1) m r z
-spends_by x y count m z r is spends = subst (λ (c : LentCommand). Spends (command_work (command_of c) count 1) m r z) (sym is) spends
-
-pub room_by : (x y : LentCommand) (count n : ℕ) (m : Stage) → x ≡ y → HasRoom m (command_work (command_of x) count n) → HasRoom m (command_work (command_of y) count n)
-room_by x y count n m is has = subst (λ (c : LentCommand). HasRoom m (command_work (command_of c) count n)) is has
-
 -- an inner sequence that failed softly, and one whose stop is passed on
 pub softly_spends : (work : ℕ) (m z : Stage) (stop : Stop) (soft : Bool) → passed_on stop soft ≡ None → Spends work m (Err stop) z → Spends work m (Ok tt) z
 softly_spends work m z (stops.Condition place true) soft e spends = record { others = λ n has. spends.others n has }
 softly_spends work m z (stops.Condition place false) soft e spends = absurd cc
 softly_spends work m z (stops.Directive place cause) soft e spends = absurd cc
-
-pub passed_spends : (work : ℕ) (m z : Stage) (stop out : Stop) (soft : Bool) → passed_on stop soft ≡ Some out → Spends work m (Err stop) z → Spends work m (Err out) z
-passed_spends work m z stop out soft e spends = record { others = λ n has. passed_trailed stop out soft (HasRoom z n) e (spends.others n has) }
 
 -- ---- whole procedures
 

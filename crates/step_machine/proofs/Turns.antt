@@ -52,11 +52,6 @@ pub at_as : (machine : Machine) (count place component : ℕ) (x y : LentCommand
 at_as machine count place component x y is s m r t n runs =
     subst (λ (z : LentCommand). RunsKept machine (at_part (command_of z) count place component) s m r t n) (sym is) runs
 
-pub command_as : (machine : Machine) (x y : LentCommand) (count place : ℕ) → x ≡ y → IsEach (command_of y) → (s : State) (m : Stage) (r : Result (Unit {0}) Stop) (t : State) (n : Stage)
-    → RunsKept machine (each_part (command_of x) count place s.selection) s m r t n → RunsKept machine (command_part (command_of x) count place) s m r t n
-command_as machine x y count place is each s m r t n runs =
-    runs_command machine (command_of x) count place s m r t n (subst (λ (z : LentCommand). IsEach (command_of z)) (sym is) each) runs
-
 -- a command other than an index selects nothing, and is done at each selected component
 pub each_as : (machine : Machine) (x y : LentCommand) (count place : ℕ) → y ≡ x → IsEach (command_of x) → (s : State) (m : Stage) (r : Result (Unit {0}) Stop) (t : State) (n : Stage)
     → RunsKept machine (each_part (command_of y) count place s.selection) s m r t n → RunsKept machine (command_part (command_of x) count place) s m r t n
