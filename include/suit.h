@@ -32,7 +32,7 @@ extern "C" {
 #endif
 
 /* What a call answers: the exit status of the program for the same, but for the length at suit_check. suit_command has the program's
- * others too (docs/formats.md). */
+ * others too (docs/formats.md), and it alone answers SUIT_HOST_FAULT. */
 enum suit_answer {
   SUIT_DONE = 0,
   SUIT_UNSAFE = 1,

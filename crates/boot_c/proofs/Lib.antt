@@ -1,3 +1,4 @@
 pub mod Configs
+pub mod Ends
 pub mod Images
 pub mod SlotAnswers

@@ -1,16 +1,17 @@
 -- What a boot answers.
-use Rattle.std.specs.Prelude.{◌≡◌, ◌⊎◌, ℕ, List, length}
+use Rattle.std.specs.Prelude.{◌≡◌, ◌⊎◌, ◌∷◌, ℕ, List, [], None, length}
 use Rattle.flash_layout.specs.declared.frame.Frame.{Frame}
 use Rattle.flash_layout.specs.Configs.{Bad, Blank, ConfigOf, Configured}
 use Rattle.flash_layout.specs.declared.key.Key.{Key}
 use Rattle.flash_layout.specs.declared.layout.Entry.{Entry}
-use Rattle.invoke_proc.specs.Booting.{Answers}
+use Rattle.invoke_proc.specs.Booting.{Answers, NeverHost, PlayedSo, PlaysBoot}
 use Rattle.invoke_proc.specs.declared.boot_end.BootEnd.{BootEnd}
 use Rattle.invoke_proc.specs.declared.boot_end.BootEnd.TheVariants as ends
 use Rattle.path_model.specs.declared.cause.Cause.{Cause}
 use Rattle.path_model.specs.declared.cause.Cause.TheVariants as causes
 use Rattle.suit_answers.specs.declared.answer.Answer.{Answer}
 use Rattle.suit_answers.specs.declared.answer.Answer.TheVariants as answers
+use Rattle.suit_edge.specs.declared.launch.Launch.{Launch}
 
 abbrev pub cause_answer : Cause → Answer
 cause_answer causes.HostFault = answers.HostFault
@@ -41,12 +42,31 @@ HasNoConfig flash =
     ConfigOf (length flash) flash Blank
     ⊎ ConfigOf (length flash) flash Bad
 
--- a boot by the configuration of the flash ended so; an image without a digest is no image
+-- The invocation procedure of what is installed was played without files: it ended so, and launched these. Without files it is
+-- not stopped by a fault of the host.
+pub record IsPlayed {flash : List ℕ} (config : HasConfig flash) (end : BootEnd)
+    (launches : List Launch) : Type 0 where
+  pub after : List ℕ
+  pub plays :
+      PlayedSo
+      (PlaysBoot config.frame config.layout config.key (λ _. None) flash after [] launches)
+      (after ≡ flash) [] launches end
+  pub never : NeverHost end
+
+-- it ended, and the one image that it launched is not told
+abbrev pub IsUntold : Answer → BootEnd → List Launch → Type 0
+IsUntold answer end launches =
+    (answer ≡ answers.LaunchFault) × (end ≡ ends.Ended)
+    × ((launch : Launch) × (launches ≡ launch ∷ []))
+
+-- a boot by the configuration of the flash ended so, and so did the play; an image without a digest is no image
 pub record Ends (flash : List ℕ) (answer : Answer) : Type 0 where
   pub config : HasConfig flash
   pub end : BootEnd
   pub ended : Answers config.frame config.layout config.key flash end
-  pub told : (answer ≡ boot_answer end) ⊎ ((end ≡ ends.Ended) × (answer ≡ answers.LaunchFault))
+  pub launches : List Launch
+  pub played : IsPlayed config end launches
+  pub told : (answer ≡ boot_answer end) ⊎ IsUntold answer end launches
 
 -- the flash has no configuration; it did not read, or memory ran out for that; or a boot ended so
 abbrev pub IsAnswer : List ℕ → Answer → Type 0

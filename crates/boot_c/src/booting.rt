@@ -136,6 +136,7 @@ fn boot_from(alloc: Global, flash: &[u8]) -> Told
 #[unsafe(no_mangle)]
 pub extern "C" fn suit_boot(alloc: Global, flash: &[u8], out: &mut SuitImage) -> i32
     ensures answers { (answer : Answer) × (result ≡ code_of answer) × IsAnswer flash.now answer }
+    ensures no_host { result ≢ code_of answers.HostFault }
     ensures found { out.new.found ≡ 1 → result ≡ code_of answers.Done }
     ensures marked { (out.new.found ≡ 0) ⊎ (out.new.found ≡ 1) }
     ensures starts { out.new.found ≡ 1 → Starts flash.now out.new }

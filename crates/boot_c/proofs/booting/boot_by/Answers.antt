@@ -1,36 +1,21 @@
-use Rattle.std.proofs.Common.{◌≡◌, ◌⊎◌, ◌∙◌, ap, inl, inr, refl, subst, sym, ℕ, List, [], ◌∷◌, length, Some, None}
+use Rattle.std.proofs.Common.{◌≡◌, ◌∙◌, ap, inl, inr, refl, subst, sym, ℕ, List, [], ◌∷◌, Some, None}
 use Rattle.boot_c.specs.Images.{IsLaunched}
 use Rattle.step_machine.specs.declared.plan_end.PlanEnd.TheVariants as plays
-use Rattle.boot_c.specs.BootAnswers.{IsAnswer, boot_answer}
+use Rattle.boot_c.specs.BootAnswers.{boot_answer}
+use Rattle.boot_c.proofs.Ends.{ended_so}
 use Rattle.boot_c.proofs.Images.{one_safe, only_ended}
-use Rattle.flash_layout.specs.Configs.{ConfigOf, Configured}
-use Rattle.flash_layout.specs.declared.frame.Frame.{Frame}
-use Rattle.flash_layout.specs.declared.key.Key.{Key}
-use Rattle.flash_layout.specs.declared.layout.Entry.{Entry}
 use Rattle.flash_view.specs.Noting.{launches_in, launches_of, noted_launch}
 use Rattle.flash_view.specs.ViewDisk.{ViewState}
-use Rattle.invoke_proc.specs.Booting.{Answers, PlayedSo, PlaysBoot}
+use Rattle.invoke_proc.specs.Booting.{PlayedSo, PlaysBoot}
 use Rattle.invoke_proc.specs.declared.boot_end.BootEnd.{BootEnd}
-use Rattle.invoke_proc.specs.declared.boot_end.BootEnd.TheVariants as ends
 use Rattle.rollback_record.specs.SoundFlash.{Sound}
-use Rattle.suit_answers.specs.declared.answer.Answer.{Answer}
 use Rattle.suit_answers.specs.declared.answer.Answer.TheVariants as answers
 use Rattle.suit_edge.specs.declared.launch.Launch.{Launch}
 use Rattle.boot_c.proofs.booting.boot_by.Goals as goal
 
--- a boot by the configuration ended so, on the disk that views the flash
-ended_so : (flash : List ℕ) (layout : List Entry) (key : Key) (frame : Frame) (disk : ViewState) (end : BootEnd) (answer : Answer) → disk ≡ record { bytes = flash; faults = 0 } → ConfigOf (length flash) flash (Configured layout key frame)
-    → Answers frame layout key disk.bytes end → (answer ≡ boot_answer end) ⊎ ((end ≡ ends.Ended) × (answer ≡ answers.LaunchFault)) → IsAnswer flash answer
-ended_so flash layout key frame disk end answer same config ended told = inr (inr (inr (record {
-  config = record { layout = layout; key = key; frame = frame; is = config };
-  end = end;
-  ended = subst (λ (d : ViewState). Answers frame layout key d.bytes end) same ended;
-  told = told;
-})))
-
 pub returns-in_default-end : goal.returns-in_default-end
 returns-in_default-end c = record {
-  answers = ended_so c.args.flash.now c.args.layout.now c.args.key.now c.args.frame c.new-disk.result c.boot-end.result c.boot_answer-answer.result c.new-disk.ensures c.requires.held (c.boot-end.ensures.answers refl) (inl c.boot_answer-answer.ensures);
+  answers = ended_so c.args.flash.now c.args.layout.now c.args.key.now c.args.frame c.new-disk.result c.new-disk.ensures c.requires.held c.boot-end.new.disk.bytes (launches_of c.new-launcher.result) (ap launches_of c.new-launcher.ensures) (launches_of c.boot-end.new.launcher) c.boot-end.result (c.boot-end.ensures.answers refl) (c.boot-end.ensures.plays refl refl) (c.boot-end.ensures.host refl refl) c.boot_answer-answer.result (inl c.boot_answer-answer.ensures);
   image = tt;
   within = tt;
   none = λ done. λ none. absurd (c.in_default-end.not-Ended (only_ended c.boot-end.result (sym c.boot_answer-answer.ensures ∙ done)));
@@ -38,7 +23,7 @@ returns-in_default-end c = record {
 
 pub returns-in_default-noted-clause-answers : goal.returns-in_default-noted-clause-answers
 returns-in_default-noted-clause-answers c =
-    ended_so c.args.flash.now c.args.layout.now c.args.key.now c.args.frame c.new-disk.result c.boot-end.result c.boot_answer-answer.result c.new-disk.ensures c.requires.held (c.boot-end.ensures.answers refl) (inl c.boot_answer-answer.ensures)
+    ended_so c.args.flash.now c.args.layout.now c.args.key.now c.args.frame c.new-disk.result c.new-disk.ensures c.requires.held c.boot-end.new.disk.bytes (launches_of c.new-launcher.result) (ap launches_of c.new-launcher.ensures) (launches_of c.boot-end.new.launcher) c.boot-end.result (c.boot-end.ensures.answers refl) (c.boot-end.ensures.plays refl refl) (c.boot-end.ensures.host refl refl) c.boot_answer-answer.result (inl c.boot_answer-answer.ensures)
 
 pub returns-in_default-noted-clause-none : goal.returns-in_default-noted-clause-none
 returns-in_default-noted-clause-none c = λ done. λ none.
@@ -56,12 +41,12 @@ returns-in_default-noted-clause-none c = λ done. λ none.
 
 pub returns-in-Some-image_in-clause-answers : goal.returns-in-Some-image_in-clause-answers
 returns-in-Some-image_in-clause-answers c =
-    ended_so c.args.flash.now c.args.layout.now c.args.key.now c.args.frame c.new-disk.result c.boot-end.result c.boot_answer-answer.result c.new-disk.ensures c.requires.held (c.boot-end.ensures.answers refl) (inl c.boot_answer-answer.ensures)
+    ended_so c.args.flash.now c.args.layout.now c.args.key.now c.args.frame c.new-disk.result c.new-disk.ensures c.requires.held c.boot-end.new.disk.bytes (launches_of c.new-launcher.result) (ap launches_of c.new-launcher.ensures) (launches_of c.boot-end.new.launcher) c.boot-end.result (c.boot-end.ensures.answers refl) (c.boot-end.ensures.plays refl refl) (c.boot-end.ensures.host refl refl) c.boot_answer-answer.result (inl c.boot_answer-answer.ensures)
 
 -- an image without a digest is no image
 pub returns-in-None-clause-answers : goal.returns-in-None-clause-answers
 returns-in-None-clause-answers c =
-    ended_so c.args.flash.now c.args.layout.now c.args.key.now c.args.frame c.new-disk.result c.boot-end.result answers.LaunchFault c.new-disk.ensures c.requires.held (c.boot-end.ensures.answers refl) (inr (c.in-Ended.is, refl))
+    ended_so c.args.flash.now c.args.layout.now c.args.key.now c.args.frame c.new-disk.result c.new-disk.ensures c.requires.held c.boot-end.new.disk.bytes (launches_of c.new-launcher.result) (ap launches_of c.new-launcher.ensures) (launches_of c.boot-end.new.launcher) c.boot-end.result (c.boot-end.ensures.answers refl) (c.boot-end.ensures.plays refl refl) (c.boot-end.ensures.host refl refl) answers.LaunchFault (inr (refl, c.in-Ended.is, (noted_launch c.boot-end.new.launcher.flash c.in-Some.note.now, ap (launches_in c.boot-end.new.launcher.flash) (sym c.in-Some.ensures))))
 
 pub returns-in-Some-image_in-clause-image : goal.returns-in-Some-image_in-clause-image
 returns-in-Some-image_in-clause-image c =
