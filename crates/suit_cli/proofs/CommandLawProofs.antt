@@ -58,6 +58,25 @@ key_fault name key_name b m a told first last t = of_last (last (subst IsTrue (s
   of_last (inl is) = inl (is ∙ before)
   of_last (inr is) = inr (is ∙ ap (λ (l : List (List ℕ)). l ++ key_name ∷ []) before ∙ append_assoc b.asked (name ∷ []) (key_name ∷ []))
 
+-- a reply behind the manifest
+shown_asks : (name key_name : List ℕ) (b m a : Outside) (r : Reply) (said : EnvelopeSays) (manifest : Manifest) → IsTrue m.told → m.asked ≡ b.asked ++ name ∷ []
+    → shows_manifest key_name said manifest m a (Says r) → a.asked ≡ b.asked ++ (name ∷ key_name ∷ [])
+shown_asks name key_name b m a r said manifest told file (Declines _ d) =
+    d.0.asks told ∙ ap (λ (l : List (List ℕ)). l ++ key_name ∷ []) file ∙ append_assoc b.asked (name ∷ []) (key_name ∷ [])
+shown_asks name key_name b m a r said manifest told file (Goes key n _ k (Ends _ same shown)) =
+    ap (λ (o : Outside). o.asked) same ∙ k.0.asks told ∙ ap (λ (l : List (List ℕ)). l ++ key_name ∷ []) file ∙ append_assoc b.asked (name ∷ []) (key_name ∷ [])
+
+show_asks : (name key_name : List ℕ) (b a : Outside) (r : Reply) → shows name key_name b a (Says r) → AskBoth name key_name b a
+show_asks name key_name b a r (Declines _ d) t = inl (d.0.asks t)
+show_asks name key_name b a r (Goes bytes m0 _ read (Declines _ d)) t = inl (ap (λ (o : Outside). o.asked) d.0 ∙ read.0.asks t)
+show_asks name key_name b a r (Goes bytes m0 _ read (Goes said m1 _ env (Declines _ d))) t = inl (ap (λ (o : Outside). o.asked) (d.0 ∙ env.0) ∙ read.0.asks t)
+show_asks name key_name b a r (Goes bytes m0 _ read (Goes said m1 _ env (Goes u m2 _ short (Declines _ d)))) t =
+    inl (ap (λ (o : Outside). o.asked) (d.0 ∙ short.0 ∙ env.0) ∙ read.0.asks t)
+show_asks name key_name b a r (Goes bytes m0 _ read (Goes said m1 _ env (Goes u m2 _ short (Goes manifest m3 _ man rest)))) t =
+    let same : m3 ≡ m0 = man.0 ∙ short.0 ∙ env.0 in
+    let told : IsTrue m3.told = subst IsTrue (sym (ap (λ (o : Outside). o.told) same ∙ read.0.quiet.told)) t in
+    inr (shown_asks name key_name b m3 a r said manifest told (ap (λ (o : Outside). o.asked) same ∙ read.0.asks t) rest)
+
 show_faults : (name key_name : List ℕ) (object : Object) (b a : Outside) → shows name key_name b a (FaultOf object) → at_host (ShowFaults name key_name) object b a
 show_faults name key_name object b a answer = of_reached object (reaches_fault name (λ bytes. shows_manifest key_name) object b a answer) where
   of_rest : (m : Outside) (said : EnvelopeSays) (manifest : Manifest) → HasManifest name b said manifest → m.told ≡ b.told → Asks (name ∷ []) b m → (o : Object)
@@ -114,6 +133,7 @@ show_laws envelopes manifests = record {
   no_manifest = λ name key_name b a r q told none answer. no_manifest envelopes manifests name key_name b a told q answer r none;
   no_key = λ name key_name b a said manifest r q told has none answer. key_stands envelopes manifests name key_name b a told q answer said manifest r has none;
   shown = λ name key_name b a said manifest key r told under answer. is_shown envelopes manifests name key_name b a told r answer said manifest key under;
+  asks = λ name key_name b a r answer. show_asks name key_name b a r answer;
   faults = λ name key_name b a object answer. show_faults name key_name object b a answer;
   authentic = λ said manifest key r shown is. is_authentic said manifest key r shown is;
   not_authentic = λ said manifest key r shown never. is_not said manifest key r shown never;

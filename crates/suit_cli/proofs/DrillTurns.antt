@@ -1,25 +1,25 @@
 -- The update and the boot of a round, from the disk before to the disk behind.
-use Rattle.std.proofs.Common.{◌≡◌, ℕ, Bool, List, [], length, true, Some, refl, sym, ap, subst, ◌∙◌}
+use Rattle.std.proofs.Common.{◌≡◌, ℕ, Bool, List, [], length, true, false, Some, refl, sym, ap, subst, ◌∙◌}
 use Rattle.std.specs.Bool.{OnTrue}
-use Rattle.std.specs.Prelude.{IsSome}
-use Rattle.suit_edge.specs.Calls.{CallCounts}
+use Rattle.std.specs.Prelude.{IsSome, unwrap_or}
+use Rattle.suit_edge.specs.Calls.{CallCounts, uncalled}
 use Rattle.suit_edge.specs.Flash.{IsSettled, Now}
 use Rattle.suit_edge.specs.FuseDisk.{FuseState}
-use Rattle.suit_edge.specs.MemoryDisk.{DiskState, memory_flash}
+use Rattle.suit_edge.specs.MemoryDisk.{DiskState, memory_flash, moment_now}
 use Rattle.suit_edge.specs.MemoryHost.{HostState, file_in}
 use Rattle.suit_edge.specs.MemoryLauncher.{LauncherState}
-use Rattle.suit_edge.specs.Moment.{after_steps, moment_of}
+use Rattle.suit_edge.specs.Moment.{after_steps, lost, moment_of}
 use Rattle.conformance.specs.Rounds.{RoundSaid}
 use Rattle.rollback_record.specs.SoundFlash.{Settled}
 use Rattle.suit_cli.specs.declared.drill.tally.RoundEnd.{RoundEnd}
 use Rattle.suit_cli.specs.declared.drill.tally.RoundEnd.TheVariants.{Cut}
 use Rattle.suit_cli.specs.Beginnings.{begins_boot, begins_update}
 use Rattle.suit_cli.specs.Coming.{Comes, Ended, StaysOrKeeps, ended_status}
-use Rattle.suit_cli.specs.DrillRounds.{BootsRound, IsReady, LivesOn, UpdatesRound, end_of, ends_so, envelope_name, is_whole}
+use Rattle.suit_cli.specs.DrillRounds.{BootsRound, IsDrawn, IsReady, LivesOn, UpdatesRound, end_of, ends_so, envelope_name, have_starved, is_whole}
 use Rattle.suit_cli.specs.Settling.{StaysInOrder}
 use Rattle.suit_cli.specs.Words.{Named, RunBoot, RunUpdate, pairs_of, task_of}
 use Rattle.suit_cli.proofs.DrillCounts.{boot_whole, update_stays}
-use Rattle.suit_cli.proofs.DrillUpdates.{boots, launching, lives_cut, lives_on, ready_cut, ready_on, seen, updates_cut, updates_whole, whole}
+use Rattle.suit_cli.proofs.DrillUpdates.{boots, launching, lives_cut, lives_on, objects, ready_cut, ready_on, seen, updates_cut, updates_whole, whole}
 use Rattle.suit_cli.proofs.DrillWords.{asked}
 
 -- a disk with nothing done on it reads as it began
@@ -90,21 +90,27 @@ module _ (said : RoundSaid) (uris : List Named) (words : task_of (asked said.wor
   pub faults_stay : (end : RoundEnd) → ends_so ended end → f'.faults ≡ f.faults
   faults_stay end so = (whole said uris words h h' f f' l l' ended comes ready_first.size so.0).flash
 
-  pub update_ends : (end : RoundEnd) → ends_so ended end → UpdatesRound said (file_in h.files) (memory_flash flash).reads (memory_flash left).reads end
-  update_ends end so =
+  -- the fuse is the drawn one
+  drawn : passes ≡ unwrap_or said.cut 18446744073709551615 → IsDrawn said f
+  drawn given = record { passes = ap (λ (x : FuseState). x.passes) begun ∙ given; whole = ap (λ (x : FuseState). x.faults) begun }
+
+  pub update_ends : passes ≡ unwrap_or said.cut 18446744073709551615 → have_starved (objects h' f' l') ≡ false → (end : RoundEnd) → ends_so ended end
+      → UpdatesRound said (file_in h.files) (memory_flash flash).reads (memory_flash left).reads end
+  update_ends given enough end so =
       subst (λ (e : RoundEnd). UpdatesRound said (file_in h.files) (memory_flash flash).reads (memory_flash left).reads e) (sym so.1)
       (subst (λ (d : DiskState). UpdatesRound said (file_in h.files) (memory_flash flash).reads (memory_flash d).reads (end_of ended)) (sym is)
       (subst (λ (d : DiskState). UpdatesRound said (file_in h.files) (memory_flash d).reads (memory_flash f'.disk).reads (end_of ended)) disk_was
-      (updates_whole said uris words h h' f f' l l' ended comes ready_first.size so.0)))
+      (updates_whole said uris words h h' f f' l l' ended comes ready_first.size (drawn given) enough so.0)))
 
-  pub update_lost : IsSome said.cut → ended_status ended ≡ 8
+  pub update_lost : passes ≡ unwrap_or said.cut 18446744073709551615 → have_starved (objects h' f' l') ≡ false → IsSome said.cut → ended_status ended ≡ 8
       → StaysOrKeeps envelope_name (pairs_of uris) (launching l) (launching l') (seen h f) ended (memory_flash f.disk) (memory_flash f'.disk)
-      → (kept : DiskState) → Now (memory_flash left) kept.first → (memory_flash kept).reads ≡ kept.first
+      → (kept : DiskState) → kept ≡ record { first = lost said.choice (moment_now left); steps = []; calls = uncalled [] } → Now (memory_flash left) kept.first
       → UpdatesRound said (file_in h.files) (memory_flash flash).reads (memory_flash kept).reads Cut
-  update_lost wanted eight keeps kept may reads =
-      subst (λ (image : List ℕ). UpdatesRound said (file_in h.files) (memory_flash flash).reads image Cut) (sym reads)
+  update_lost given enough wanted eight keeps kept loses may =
+      subst (λ (image : List ℕ). UpdatesRound said (file_in h.files) (memory_flash flash).reads image Cut) (sym (fresh_reads kept _ _ loses))
       (subst (λ (d : DiskState). UpdatesRound said (file_in h.files) (memory_flash d).reads kept.first Cut) disk_was
-      (updates_cut said uris words h h' f f' l l' ended comes ready_first.size wanted eight ready_first.settled keeps kept.first
+      (updates_cut said uris words h h' f f' l l' ended comes ready_first.size (drawn given) enough wanted eight ready_first.settled keeps kept.first
+      (ap (λ (d : DiskState). d.first) loses ∙ ap (λ (d : DiskState). lost said.choice (moment_now d)) is)
       (subst (λ (d : DiskState). Now (memory_flash d) kept.first) is may)))
 
 -- ---- the boot

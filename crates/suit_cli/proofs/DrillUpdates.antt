@@ -1,15 +1,16 @@
 -- The update and the boot of a round, over objects in memory.
-use Rattle.std.proofs.Common.{◌≡◌, inl, inr, ℕ, List, [], ◌++◌, length, true, Some, refl, sym, ap, subst, ◌∙◌, arith, append-nil}
+use Rattle.std.proofs.Common.{◌≡◌, inl, inr, ℕ, List, [], ◌++◌, length, true, false, Some, refl, sym, ap, subst, ◌∙◌, arith, append-nil}
 use Rattle.std.specs.Prelude.{IsSome}
 use Rattle.suit_edge.specs.Faults.{Faulted}
 use Rattle.suit_edge.specs.declared.launch.Launch.{Launch}
 use Rattle.suit_edge.specs.Flash.{Flash, IsFlash, IsSettled, Now}
 use Rattle.suit_edge.specs.FlashLaws.{each_now}
 use Rattle.suit_edge.specs.FuseDisk.{FuseState}
-use Rattle.suit_edge.specs.MemoryDisk.{DiskState, memory_flash}
+use Rattle.suit_edge.specs.MemoryDisk.{DiskState, memory_flash, moment_now}
 use Rattle.suit_edge.specs.MemoryHost.{HostState, file_in}
 use Rattle.suit_edge.specs.MemoryLauncher.{LauncherState}
 use Rattle.suit_edge.specs.MemoryLaws.{memory_obeys}
+use Rattle.suit_edge.specs.Moment.{lost}
 use Rattle.conformance.specs.Rounds.{RoundSaid}
 use Rattle.rollback_record.proofs.SettledLaws.{settles}
 use Rattle.rollback_record.specs.SoundFlash.{Settled, Sound}
@@ -17,7 +18,7 @@ use Rattle.suit_cli.specs.declared.drill.tally.RoundEnd.TheVariants.{Cut}
 use Rattle.suit_cli.specs.Beginnings.{begins_boot, begins_update}
 use Rattle.suit_cli.specs.Coming.{Comes, ByStages, ByBoot, ByUpdate, Ended, StaysOrKeeps, ended_status}
 use Rattle.suit_cli.specs.DrillDevice.{flash_size}
-use Rattle.suit_cli.specs.DrillRounds.{BootsRound, Holds, IsReady, IsWhole, LivesOn, UpdateComes, UpdatesRound, end_of, envelope_name, is_whole}
+use Rattle.suit_cli.specs.DrillRounds.{BootsRound, Holds, IsDrawn, IsReady, IsWhole, LivesOn, Objects, UpdateComes, UpdatesRound, end_of, envelope_name, have_starved, is_whole}
 use Rattle.suit_cli.specs.Launching.{Launching}
 use Rattle.suit_cli.specs.Outside.{Outside}
 use Rattle.suit_cli.specs.Settling.{StaysInOrder}
@@ -29,6 +30,9 @@ use Rattle.suit_cli.proofs.DrillWords.{asked}
 use Rattle.suit_cli.proofs.RunEnds.{boot_safe}
 
 -- ---- objects in memory, as contracts see them
+
+abbrev pub objects : HostState → FuseState → LauncherState → Objects
+objects h f l = record { host = h; fuse = f; launcher = l }
 
 abbrev pub seen : HostState → FuseState → Outside
 seen h f =
@@ -83,42 +87,45 @@ module _ (said : RoundSaid) (uris : List Named) (words : task_of (asked said.wor
     (h h' : HostState) (f f' : FuseState) (l l' : LauncherState) (ended : Ended)
     (comes : Comes (begins_update envelope_name) (λ task. RunUpdate envelope_name uris ≡ task) (launching l) (launching l') (seen h f) (seen h' f') ended)
     (size : length f.disk.first ≡ flash_size) where
-  update : UpdateComes said (file_in h.files) (memory_flash f.disk).reads
-  update = record {
-    uris = uris;
-    words = words;
-    launched = launching l;
-    now = launching l';
-    before = seen h f;
-    after = seen h' f';
-    ended = ended;
-    holds = holds h f l size;
-    comes = comes;
-  }
-
   pub whole : is_whole (ended_status ended) ≡ true → IsWhole (launching l) (launching l') (seen h f) (seen h' f') ended
   whole w = update_whole envelope_name uris (launching l) (launching l') (seen h f) (seen h' f') ended comes w
 
-  pub updates_whole : is_whole (ended_status ended) ≡ true → UpdatesRound said (file_in h.files) (memory_flash f.disk).reads (memory_flash f'.disk).reads (end_of ended)
-  unfolding update
-  updates_whole w = record { update = update; ends = inl (record { whole = whole w; reads = refl; end_is = refl }) }
+  -- behind the drawn fuse, where memory sufficed
+  module _ (drawn : IsDrawn said f) (enough : have_starved (objects h' f' l') ≡ false) where
+    update : UpdateComes said (file_in h.files) (memory_flash f.disk).reads
+    update = record {
+      uris = uris;
+      words = words;
+      had = objects h f l;
+      has = objects h' f' l';
+      ended = ended;
+      holds = holds h f l size;
+      fuse = drawn;
+      comes = comes;
+      enough = enough;
+    }
 
-  pub updates_cut : IsSome said.cut → ended_status ended ≡ 8 → Settled (memory_flash f.disk)
-      → StaysOrKeeps envelope_name (pairs_of uris) (launching l) (launching l') (seen h f) ended (memory_flash f.disk) (memory_flash f'.disk)
-      → (image : List ℕ) → Now (memory_flash f'.disk) image
-      → UpdatesRound said (file_in h.files) (memory_flash f.disk).reads image Cut
-  unfolding update
-  updates_cut wanted eight settled keeps image now = record {
-    update = update;
-    ends = inr (record {
-      wanted = wanted;
-      faulted = update_cut envelope_name uris (launching l) (launching l') (seen h f) (seen h' f') ended comes eight;
-      stands =
-          stands true true (file_in h.files) h.pulled h.asked h.calls.faults (length f.disk.first) f.faults (pairs_of uris) (launching l) (launching l') (memory_flash f.disk) (memory_flash f'.disk) _ (memory_obeys f'.disk) settled
-          image now ended keeps eight;
-      end_is = refl;
-    });
-  }
+    pub updates_whole : is_whole (ended_status ended) ≡ true → UpdatesRound said (file_in h.files) (memory_flash f.disk).reads (memory_flash f'.disk).reads (end_of ended)
+    unfolding update
+    updates_whole w = record { update = update; ends = inl (record { whole = whole w; reads = refl; end_is = refl }) }
+
+    pub updates_cut : IsSome said.cut → ended_status ended ≡ 8 → Settled (memory_flash f.disk)
+        → StaysOrKeeps envelope_name (pairs_of uris) (launching l) (launching l') (seen h f) ended (memory_flash f.disk) (memory_flash f'.disk)
+        → (image : List ℕ) → image ≡ lost said.choice (moment_now f'.disk) → Now (memory_flash f'.disk) image
+        → UpdatesRound said (file_in h.files) (memory_flash f.disk).reads image Cut
+    unfolding update
+    updates_cut wanted eight settled keeps image loses now = record {
+      update = update;
+      ends = inr (record {
+        wanted = wanted;
+        faulted = update_cut envelope_name uris (launching l) (launching l') (seen h f) (seen h' f') ended comes eight;
+        loses = loses;
+        stands =
+            stands true true (file_in h.files) h.pulled h.asked h.calls.faults (length f.disk.first) f.faults (pairs_of uris) (launching l) (launching l') (memory_flash f.disk) (memory_flash f'.disk) _ (memory_obeys f'.disk) settled
+            image now ended keeps eight;
+        end_is = refl;
+      });
+    }
 
 -- ---- the boot
 

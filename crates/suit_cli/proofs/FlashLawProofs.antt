@@ -1,6 +1,7 @@
 -- Where `run init` and `run status` stop.
-use Rattle.std.proofs.Common.{◌≡◌, ◌⊎◌, inl, inr, ℕ, List, refl, sym, ap, subst, ◌∙◌, Option, Some, None}
+use Rattle.std.proofs.Common.{◌≡◌, ◌⊎◌, inl, inr, ℕ, List, [], ◌∷◌, ◌++◌, refl, sym, ap, subst, ◌∙◌, Option, Some, None}
 use Rattle.std.specs.Prelude.{IsTrue}
+use Rattle.std.proofs.lemmas.List.{append_assoc, append-nil}
 use Rattle.flash_layout.specs.declared.frame.Frame.{Frame}
 use Rattle.flash_layout.specs.declared.layout.Entry.{Entry}
 use Rattle.flash_layout.specs.declared.slot.Record.{Record}
@@ -9,15 +10,17 @@ use Rattle.flash_layout.specs.Formats.{HasOpenGate, IsFormatted}
 use Rattle.flash_layout.specs.Frames.{head_of}
 use Rattle.rollback_record.specs.HeadRecord.{RecordOf}
 use Rattle.suit_cli.specs.declared.reply.Reply.{Reply}
+use Rattle.suit_cli.specs.declared.reply.Object.TheVariants as objects
 use Rattle.suit_cli.specs.declared.reply.Outcome.TheVariants as outcomes
-use Rattle.suit_cli.specs.Outside.{Outside, Flashed, IsStill, Looks, Reads}
-use Rattle.suit_cli.specs.Stages.{Says, NoMemory, Goes, Declines, Lacks, Ends, IsSaid}
-use Rattle.suit_cli.specs.Inputs.{longest_device}
-use Rattle.suit_cli.specs.Devices.{IsDevice, IsNoDevice, key_of}
-use Rattle.suit_cli.specs.Formatting.{IsShut, IsInUse}
+use Rattle.suit_cli.specs.Outside.{Outside, Asks, AsksFirst, Flashed, IsStill, Looks, Reads}
+use Rattle.suit_cli.specs.Stages.{Ending, Says, FaultOf, NoMemory, Goes, Declines, Faults, Lacks, Ends, IsSaid, ◌>>=◌}
+use Rattle.suit_cli.specs.Inputs.{longest_device, IsRead, IsKey, IsNoKey, key_in}
+use Rattle.suit_cli.specs.Devices.{IsDevice, IsNoDevice, device_in, key_of}
+use Rattle.suit_cli.specs.Formatting.{IsShut, IsInUse, formats}
 use Rattle.suit_cli.specs.Installed.{component_lines}
 use Rattle.suit_cli.specs.Commands.{inits_as, inits, tells_status}
 use Rattle.suit_cli.specs.FlashLaws.{InitSays, AtGate, AtDevice, AtDescription, AtKey, AtFormat, IsReady, InitLaws, StatusSays, AtConfig, AtRecord, AtLines, StatusLaws}
+use Rattle.suit_cli.proofs.AskedFirst.{First, judging_first, none, on_from, reading_first, reads_told, same_asked}
 use Rattle.suit_cli.proofs.Running.{Declining, declining, unread_declines, no_key_declines, no_device_declines}
 use Rattle.suit_cli.proofs.OneAnswers.{one_init, one_status}
 use Rattle.suit_cli.proofs.SameFiles.{read_here, unread_here, no_key_here, key_here}
@@ -141,6 +144,64 @@ inits_starve : (device key_name : List ℕ) (b a : Outside) → inits device key
 inits_starve device key_name b a (Lacks l) = l.still
 inits_starve device key_name b a (Goes size m _ g rest) = still_then _ _ _ g.0.still (init_starves size device key_name m a rest)
 
+-- the files that are asked for
+formats_asked : (frame : Frame) (layout : List Entry) (key : List ℕ) (m a : Outside) (e : Ending) → formats frame layout (key_of key) m a e → a.asked ≡ m.asked
+formats_asked frame layout key m a _ (Goes u n _ f (IsSaid _ same says)) = same_asked n a same ∙ ap (λ (o : Outside). o.asked) f.beside
+formats_asked frame layout key m a _ (Declines _ d) = ap (λ (o : Outside). o.asked) d.0.beside
+formats_asked frame layout key m a _ (Faults objects.Host f) = absurd f
+formats_asked frame layout key m a _ (Faults objects.Flash f) = ap (λ (o : Outside). o.asked) f.beside
+formats_asked frame layout key m a _ (Lacks l) = ap (λ (o : Outside). o.asked) l.beside
+
+init_asks : (size : ℕ) (device key_name : List ℕ) (m a : Outside) (e : Ending) → IsTrue m.told → inits_as size device key_name m a e → First (device ∷ key_name ∷ []) m a
+init_asks size device key_name m a e told answer =
+    reading_first _ device (IsRead longest_device device) _ (λ bytes. device_in size bytes >>= λ x. key_in key_name >>= λ key. formats x.1 x.0 (key_of key)) (key_name ∷ []) m a e told
+    (λ bytes n there good on. judging_first (λ (x : List Entry × Frame). IsDevice size bytes x.0 x.1) (IsNoDevice size bytes) (λ x. key_in key_name >>= λ key. formats x.1 x.0 (key_of key)) (key_name ∷ []) n a e
+    (λ x is rest. reading_first _ key_name (IsKey key_name) (IsNoKey key_name) (λ key. formats x.1 x.0 (key_of key)) [] n a e there
+    (λ key o here k last. none [] o a (formats_asked x.1 x.0 key o a e last)) rest) on) answer
+
+inits_ask : (device key_name : List ℕ) (b a : Outside) (e : Ending) → inits device key_name b a e → AsksFirst (device ∷ key_name ∷ []) b a
+inits_ask device key_name b a e (Goes size m _ g rest) told =
+    on_from (device ∷ key_name ∷ []) b a m (ap (λ (o : Outside). o.asked) g.0.beside)
+    (init_asks size device key_name m a e (subst IsTrue (sym (ap (λ (o : Outside). o.told) g.0.beside)) told) rest)
+inits_ask device key_name b a _ (Declines _ d) told = none (device ∷ key_name ∷ []) b a (ap (λ (o : Outside). o.asked) d.0.beside)
+inits_ask device key_name b a _ (Faults objects.Host f) told = absurd f
+inits_ask device key_name b a _ (Faults objects.Flash f) told = none (device ∷ key_name ∷ []) b a (ap (λ (o : Outside). o.asked) f.beside)
+inits_ask device key_name b a _ (Lacks l) told = none (device ∷ key_name ∷ []) b a (ap (λ (o : Outside). o.asked) l.beside)
+
+module _ (device key_name : List ℕ) (b a : Outside) (r : Reply) (done : r.outcome ≡ outcomes.Done) where
+  never : Declining r.outcome → ⊥
+  never declines = subst Declining done declines
+
+  init_asks_both : (size : ℕ) (m : Outside) → IsTrue m.told → inits_as size device key_name m a (Says r) → a.asked ≡ m.asked ++ (device ∷ key_name ∷ [])
+  init_asks_both size m told (Declines _ d) = absurd (never (unread_declines _ _ m r d.1))
+  init_asks_both size m told (Goes bytes m0 _ g (Declines _ d)) = absurd (never (no_device_declines _ _ r d.1))
+  init_asks_both size m told (Goes bytes m0 _ g (Goes x m1 _ l (Declines _ d))) = absurd (never (no_key_declines _ m1 r d.1))
+  init_asks_both size m told (Goes bytes m0 _ g (Goes x m1 _ l (Goes key m2 _ k rest))) =
+      let there : IsTrue m1.told = subst (λ (o : Outside). IsTrue o.told) (sym l.0) (reads_told _ device m m0 g.0 told) in
+      formats_asked x.1 x.0 key m2 a (Says r) rest ∙ k.0.asks there ∙ ap (λ (n : List (List ℕ)). n ++ key_name ∷ []) (same_asked m0 m1 l.0 ∙ g.0.asks told)
+      ∙ append_assoc m.asked (device ∷ []) (key_name ∷ [])
+
+  inits_ask_both : inits device key_name b a (Says r) → Asks (device ∷ key_name ∷ []) b a
+  inits_ask_both (Declines _ d) told = absurd (never (declining r _ _ d.1.says tt))
+  inits_ask_both (Goes size m _ g rest) told =
+      init_asks_both size m (subst IsTrue (sym (ap (λ (o : Outside). o.told) g.0.beside)) told) rest
+      ∙ ap (λ (l : List (List ℕ)). l ++ (device ∷ key_name ∷ [])) (ap (λ (o : Outside). o.asked) g.0.beside)
+
+init_faults : (size : ℕ) (device key_name : List ℕ) (m a : Outside) → IsTrue m.told → inits_as size device key_name m a (FaultOf objects.Flash) → a.asked ≡ m.asked ++ (device ∷ key_name ∷ [])
+init_faults size device key_name m a told (Faults _ f) = absurd f
+init_faults size device key_name m a told (Goes bytes m0 _ g (Faults _ f)) = absurd f
+init_faults size device key_name m a told (Goes bytes m0 _ g (Goes x m1 _ l (Faults _ f))) = absurd f
+init_faults size device key_name m a told (Goes bytes m0 _ g (Goes x m1 _ l (Goes key m2 _ k rest))) =
+    let there : IsTrue m1.told = subst (λ (o : Outside). IsTrue o.told) (sym l.0) (reads_told _ device m m0 g.0 told) in
+    formats_asked x.1 x.0 key m2 a (FaultOf objects.Flash) rest ∙ k.0.asks there ∙ ap (λ (n : List (List ℕ)). n ++ key_name ∷ []) (same_asked m0 m1 l.0 ∙ g.0.asks told)
+    ∙ append_assoc m.asked (device ∷ []) (key_name ∷ [])
+
+inits_fault : (device key_name : List ℕ) (b a : Outside) → inits device key_name b a (FaultOf objects.Flash) → Asks [] b a ⊎ Asks (device ∷ key_name ∷ []) b a
+inits_fault device key_name b a (Faults _ f) = inl (λ told. ap (λ (o : Outside). o.asked) f.beside ∙ sym (append-nil b.asked))
+inits_fault device key_name b a (Goes size m _ g rest) =
+    inr (λ told. init_faults size device key_name m a (subst IsTrue (sym (ap (λ (o : Outside). o.told) g.0.beside)) told) rest
+    ∙ ap (λ (l : List (List ℕ)). l ++ (device ∷ key_name ∷ [])) (ap (λ (o : Outside). o.asked) g.0.beside))
+
 pub init_laws : InitLaws
 init_laws = record {
   only = λ device key_name b a r answer. inits_says device key_name b a r answer;
@@ -148,6 +209,9 @@ init_laws = record {
   ready = λ device key_name b a r told answer done. of_done device key_name b a r told done (inits_ends device key_name b a r answer);
   still = λ device key_name b a r answer never. of_other device key_name b a r never (inits_ends device key_name b a r answer);
   starved = λ device key_name b a answer. inits_starve device key_name b a answer;
+  asks = λ device key_name b a e answer. inits_ask device key_name b a e answer;
+  asks_both = λ device key_name b a r answer done. inits_ask_both device key_name b a r done answer;
+  faults = λ device key_name b a answer. inits_fault device key_name b a answer;
 } where
   of_done : (device key_name : List ℕ) (b a : Outside) (r : Reply) → IsTrue b.flash.told → r.outcome ≡ outcomes.Done
       → (Declining r.outcome × IsStill b.flash a.flash) ⊎ ((r.outcome ≡ outcomes.Done) × (IsTrue b.flash.told → IsReady device key_name b a)) → IsReady device key_name b a

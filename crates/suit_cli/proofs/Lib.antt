@@ -43,12 +43,14 @@ mod DrillUpdates
 mod DrillTurns
 mod DrillLoop
 mod DrillRun
+pub mod AskedFirst
 pub mod CommandLawProofs
 pub mod OneFlaw
 pub mod OneAnswers
 pub mod FlashLawProofs
 pub mod MigrateLawProofs
 pub mod DescribingLawProofs
+pub mod MakeAsks
 pub mod MakeLawProofs
 pub mod UpdateLawProofs
 pub mod LifeLawProofs

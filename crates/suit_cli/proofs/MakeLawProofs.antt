@@ -26,6 +26,7 @@ use Rattle.suit_cli.proofs.OneStage.{one_reply, one_read, read_not_unread, one_u
 use Rattle.suit_cli.proofs.Running.{Declining, declining, unread_declines, no_key_declines, Plain}
 use Rattle.suit_cli.proofs.SameFiles.{read_here, unread_here, no_key_here, key_here}
 use Rattle.suit_cli.proofs.Authoring.{Files}
+use Rattle.suit_cli.proofs.MakeAsks.{files_never_flash, make_asks, make_asks_all, make_faults, not_authored_declines}
 
 -- ---- the same files
 
@@ -265,18 +266,9 @@ module _ (b : Outside) (told : IsTrue b.told) where
 
 -- ---- the files that are left
 
-files_never_flash : (read : Files) (names : List (List ℕ)) (m a : Outside) → (files_after read names).faults objects.Flash m a → ⊥
-files_never_flash read [] m a faults = faults
-files_never_flash read (name ∷ names) m a (inl first) = first
-files_never_flash read (name ∷ names) m a (inr rest) = files_never_flash (read ++ (name, rest.value) ∷ []) names rest.middle a rest.later
-
 unread_file_declines : (b : Outside) (r : Reply) (names : List (List ℕ)) → OneIsUnread b r names → Declining r.outcome
 unread_file_declines b r _ (AtName name names unread) = unread_declines longest_named name b r unread
 unread_file_declines b r _ (LaterName name bytes names read later) = unread_file_declines b r names later
-
-pub not_authored_declines : (bytes : List ℕ) (r : Reply) → IsNotAuthored bytes r → Declining r.outcome
-not_authored_declines bytes r (IsNoText none says) = declining r _ _ says tt
-not_authored_declines bytes r (IsNoDescription value fault utf8 reads refuses tells) = subst Declining (sym tells.outcome_is) tt
 
 -- each reply declines, or is done
 pub made_as : (description key_name out : List ℕ) (b a : Outside) (r : Reply) → makes description key_name out b a (Says r) → Plain r.outcome
@@ -419,4 +411,7 @@ make_laws = record {
   still = λ description key_name out b a r told answer never. is_still description key_name out b a told r answer never;
   starved = λ description key_name out b a told answer. is_starved description key_name out b a told answer;
   others = λ description key_name out b a e told answer other never. make_others description key_name out b a told other never e answer;
+  asks = λ description key_name out b a e answer. make_asks description key_name out b a e answer;
+  asks_all = λ description key_name out b a r answer done. make_asks_all description key_name out b a r done answer;
+  faults = λ description key_name out b a object answer. make_faults description key_name out b a object answer;
 }

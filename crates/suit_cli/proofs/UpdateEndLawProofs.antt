@@ -31,7 +31,7 @@ use Rattle.suit_cli.specs.Launching.{Launching}
 use Rattle.suit_cli.specs.Inputs.{IsRead, longest_file}
 use Rattle.suit_cli.specs.Outside.{Flashed, Outside, with_flash}
 use Rattle.suit_cli.specs.Updating.{Updates, Offer, offer, tree_of}
-use Rattle.suit_cli.specs.UpdateEndLaws.{Beside, UpdateEnds, IsLower, IsOther, IsWorn, IsInstalled, IsStopped, IsFailed, FlashFailed, MemoryRanOut, UpdateEndLaws, UpdateIsCaused, IsOffered, IsEndOf, IsNoEnd}
+use Rattle.suit_cli.specs.UpdateEndLaws.{Beside, UpdateEnds, IsLower, IsOther, IsWorn, IsInstalled, IsStopped, IsFailed, FlashFailed, MemoryRanOut, UpdateEndLaws, UpdateIsCaused, UpdateIsJudged, IsOffered, IsEndOf, IsNoEnd}
 use Rattle.suit_cli.proofs.AcceptedFacts.{facts}
 use Rattle.suit_cli.proofs.OneStage.{one_envelope, one_manifest, one_read}
 
@@ -68,19 +68,10 @@ somewhere P Same layout after launched now (ends.OtherDigest recorded offered) s
 somewhere P Same layout after launched now ends.Worn since p = p
 somewhere P Same layout after launched now ends.NoMemory since p = p
 
-module _ (name : List ℕ) (uris : List (List ℕ × List ℕ)) (launched now : Launching) (before after : Outside) (end : UpdateEnd) (lines : List ℕ) (told : IsTrue before.told) (flash_told : IsTrue before.flash.told)
-    (launcher : IsTrue launched.told) (u : Updates name uris launched now before after end lines) where
-  abbrev o : Offer
-  o = u.o
-
+module _ (name : List ℕ) (uris : List (List ℕ × List ℕ)) (launched now : Launching) (before after : Outside) (end : UpdateEnd) (lines : List ℕ) (flash_told : IsTrue before.flash.told)
+    (u : Updates name uris launched now before after end lines) where
   here_told : u.configured.told ≡ before.told
   here_told = ap (λ (x : Outside). x.told) u.held.0.beside
-
-  middle_told : IsTrue u.middle.told
-  middle_told = subst IsTrue (sym (u.read.0.quiet.told ∙ here_told)) told
-
-  files : u.middle.files ≡ before.files
-  files = u.read.0.quiet.files (subst IsTrue (sym here_told) told) ∙ ap (λ (x : Outside). x.files) u.held.0.beside
 
   flash_tells : IsTrue u.middle.flash.told
   flash_tells = subst IsTrue (sym (ap (λ (f : Flashed). f.told) u.read.0.flash ∙ u.held.0.still.told)) flash_told
@@ -93,37 +84,48 @@ module _ (name : List ℕ) (uris : List (List ℕ × List ℕ)) (launched now : 
       let there : IsRead longest_file name (with_flash before u.configured.flash) u.o.bytes = subst (λ (x : Outside). IsRead longest_file name x u.o.bytes) u.held.0.beside u.read.1 in
       record { holds = there.holds; fits = there.fits }
 
-  judged : IsJudgedSo o uris launched now before after end
-  judged held digest blocks record_is says =
+  judged_so : IsJudgedSo u.o uris launched now before after end
+  judged_so held digest blocks record_is says =
       u.update.judged flash_tells held digest blocks (subst (λ (l : List ℕ). RecordOf u.o.frame (head_of u.o.frame l) held) (sym reads) record_is) says
 
-  abbrev Plays : Option Record → List (List ℕ × List ℕ) → Bool → (List ℕ → Option (List ℕ)) → List ℕ → Type 0
-  Plays held payloads t f l =
-      PlayedSo (λ made play. PlaysUpdate u.o.layout u.o.accepted.places (tree_of u.o.accepted) held (sources payloads uris (hosted t f u.middle.asked after.asked)) l made launched.launches now.launches play)
-      (after.flash.reads ≡ l) u.o.layout after.flash.reads launched.launches now.launches end
+  pub judged : UpdateIsJudged name before end
+  judged = record { o = u.o; config = u.held.1; read = read; is_accepted = u.is_accepted; judged = judged_so }
 
-  played : IsPlayedSo o uris launched now before after end
-  played held digest blocks record_is says payloads has =
-      somewhere (λ made play since. PlaysUpdate u.o.layout u.o.accepted.places (tree_of u.o.accepted) held (sources payloads uris (hosted before.told before.files since after.asked)) before.flash.reads made launched.launches now.launches play)
-      (after.flash.reads ≡ before.flash.reads) u.o.layout after.flash.reads launched.launches now.launches end u.middle.asked
-      (subst (λ (t : Bool). Plays held payloads t before.files before.flash.reads) (u.read.0.quiet.told ∙ here_told)
-      (subst (λ (f : List ℕ → Option (List ℕ)). Plays held payloads u.middle.told f before.flash.reads) files
-      (subst (λ (l : List ℕ). Plays held payloads u.middle.told u.middle.files l) reads
-      (u.update.plays flash_tells launcher held digest blocks (subst (λ (l : List ℕ). RecordOf u.o.frame (head_of u.o.frame l) held) (sym reads) record_is) says payloads has))))
+  -- of a host and a launcher that tell too
+  module _ (told : IsTrue before.told) (launcher : IsTrue launched.told) where
+    middle_told : IsTrue u.middle.told
+    middle_told = subst IsTrue (sym (u.read.0.quiet.told ∙ here_told)) told
 
-  pub only : UpdateIsCaused name uris launched now before after end lines
-  only = record {
-    layout = u.o.layout;
-    key = u.o.key;
-    frame = u.o.frame;
-    config = u.held.1;
-    bytes = u.o.bytes;
-    read = read;
-    accepted = u.o.accepted;
-    is_accepted = u.is_accepted;
-    ends = of_end o uris launched now before after end judged played;
-    lines_are = u.lines_are;
-  }
+    files : u.middle.files ≡ before.files
+    files = u.read.0.quiet.files (subst IsTrue (sym here_told) told) ∙ ap (λ (x : Outside). x.files) u.held.0.beside
+
+    abbrev Plays : Option Record → List (List ℕ × List ℕ) → Bool → (List ℕ → Option (List ℕ)) → List ℕ → Type 0
+    Plays held payloads t f l =
+        PlayedSo (λ made play. PlaysUpdate u.o.layout u.o.accepted.places (tree_of u.o.accepted) held (sources payloads uris (hosted t f u.middle.asked after.asked)) l made launched.launches now.launches play)
+        (after.flash.reads ≡ l) u.o.layout after.flash.reads launched.launches now.launches end
+
+    played : IsPlayedSo u.o uris launched now before after end
+    played held digest blocks record_is says payloads has =
+        somewhere (λ made play since. PlaysUpdate u.o.layout u.o.accepted.places (tree_of u.o.accepted) held (sources payloads uris (hosted before.told before.files since after.asked)) before.flash.reads made launched.launches now.launches play)
+        (after.flash.reads ≡ before.flash.reads) u.o.layout after.flash.reads launched.launches now.launches end u.middle.asked
+        (subst (λ (t : Bool). Plays held payloads t before.files before.flash.reads) (u.read.0.quiet.told ∙ here_told)
+        (subst (λ (f : List ℕ → Option (List ℕ)). Plays held payloads u.middle.told f before.flash.reads) files
+        (subst (λ (l : List ℕ). Plays held payloads u.middle.told u.middle.files l) reads
+        (u.update.plays flash_tells launcher held digest blocks (subst (λ (l : List ℕ). RecordOf u.o.frame (head_of u.o.frame l) held) (sym reads) record_is) says payloads has))))
+
+    pub only : UpdateIsCaused name uris launched now before after end lines
+    only = record {
+      layout = u.o.layout;
+      key = u.o.key;
+      frame = u.o.frame;
+      config = u.held.1;
+      bytes = u.o.bytes;
+      read = read;
+      accepted = u.o.accepted;
+      is_accepted = u.is_accepted;
+      ends = of_end u.o uris launched now before after end judged_so played;
+      lines_are = u.lines_are;
+    }
 
 -- ---- one verdict
 
@@ -219,8 +221,9 @@ module _ (configs : OneAnswer) (envelopes : EnvelopeLaws) (manifests : ManifestL
 
 pub update_end_laws : OneAnswer → EnvelopeLaws → ManifestLaws → UpdateEndLaws
 update_end_laws configs envelopes manifests = record {
-  only = λ name uris launched now before after end lines told flash launcher u. only name uris launched now before after end lines told flash launcher u;
+  only = λ name uris launched now before after end lines told flash launcher u. only name uris launched now before after end lines flash u told launcher;
+  judged = λ name uris launched now before after end lines flash u. judged name uris launched now before after end lines flash u;
   always = λ name uris launched now before after end lines verdict told flash launcher f u.
-      let caused = only name uris launched now before after end lines told flash launcher u in
+      let caused = only name uris launched now before after end lines flash u told launcher in
       by_end configs envelopes manifests name uris launched now before after verdict told flash f end lines caused end caused.ends;
 }

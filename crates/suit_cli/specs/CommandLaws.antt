@@ -76,6 +76,9 @@ pub record ShowLaws : Type 0 where
       (manifest : Manifest) (key : List ℕ) (reply : Reply)
       → IsTrue before.told
       → ShowsUnder name key_name before said manifest key → shows name key_name before after (Says reply) → IsShown said manifest key reply
+  -- the file is asked for, then the key alone; and only the host faults, at one of them
+  pub asks : (name key_name : List ℕ) (before after : Outside) (reply : Reply)
+      → shows name key_name before after (Says reply) → AskBoth name key_name before after
   pub faults : (name key_name : List ℕ) (before after : Outside) (object : Object)
       → shows name key_name before after (FaultOf object)
       → at_host (ShowFaults name key_name) object before after

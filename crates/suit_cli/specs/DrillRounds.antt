@@ -1,5 +1,5 @@
 -- A round of a drill: what its update and its boot make of the image of the flash.
-use Rattle.std.specs.Prelude.{◌≡◌, ◌≢◌, ◌⊎◌, ℕ, Bool, true, false, not, ◌||◌, ◌==◌, if◌then◌else◌, IsTrue, List, [], ◌∷◌, ◌++◌, length, Option, Some, None, IsSome, codes}
+use Rattle.std.specs.Prelude.{◌≡◌, ◌≢◌, ◌⊎◌, ℕ, Bool, true, false, not, ◌||◌, ◌==◌, if◌then◌else◌, IsTrue, unwrap_or, List, [], ◌∷◌, ◌++◌, length, Option, Some, None, IsSome, codes}
 use Rattle.author.specs.Files.{bytes_of}
 use Rattle.author.specs.MadeEnvelopes.{IsMadeOf}
 use Rattle.conformance.specs.declared.shape.Shape.{Shape}
@@ -8,7 +8,10 @@ use Rattle.conformance.specs.Shapes.{got_name, words_of}
 use Rattle.suit_edge.specs.declared.launch.Launch.{Launch}
 use Rattle.suit_edge.specs.Faults.{Faulted}
 use Rattle.suit_edge.specs.MemoryHost.{HostState, file_in}
-use Rattle.suit_edge.specs.MemoryDisk.{DiskState, memory_flash}
+use Rattle.suit_edge.specs.FuseDisk.{FuseState}
+use Rattle.suit_edge.specs.MemoryDisk.{DiskState, memory_flash, moment_now}
+use Rattle.suit_edge.specs.MemoryLauncher.{LauncherState}
+use Rattle.suit_edge.specs.Moment.{lost}
 use Rattle.suit_params.specs.declared.digest.Digest.{Digest}
 use Rattle.flash_layout.specs.declared.slot.Record.{Record}
 use Rattle.flash_layout.specs.Configs.{ConfigOf, Configured}
@@ -24,7 +27,7 @@ use Rattle.suit_cli.specs.Coming.{Comes, Ended, Updated, ended_status}
 use Rattle.suit_cli.specs.DrillDevice.{flash_size, key_bytes}
 use Rattle.suit_cli.specs.Inputs.{IsRead, longest_file}
 use Rattle.suit_cli.specs.Launching.{Launching}
-use Rattle.suit_cli.specs.Outside.{Files, Outside}
+use Rattle.suit_cli.specs.Outside.{Files, Flashed, Outside}
 use Rattle.suit_cli.specs.Updating.{HasOffer, IsDone, Offer, new_of, tree_of}
 use Rattle.suit_cli.specs.Words.{Named, RunBoot, RunUpdate, Task, pairs_of, task_of}
 
@@ -40,6 +43,48 @@ named_files said envelope =
 
 abbrev pub files_in : RoundSaid → List ℕ → Files
 files_in said envelope = file_in (named_files said envelope)
+
+-- ---- the objects of a round
+
+-- in memory, the flash behind a fuse
+pub record Objects : Type 0 where
+  pub host : HostState
+  pub fuse : FuseState
+  pub launcher : LauncherState
+
+-- as a command sees them
+abbrev pub flash_of : FuseState → Flashed
+flash_of f = record {
+  told = true;
+  size = length f.disk.first;
+  reads = (memory_flash f.disk).reads;
+  faults = f.faults;
+}
+
+abbrev pub outside_of : Objects → Outside
+outside_of o = record {
+  told = true;
+  files = file_in o.host.files;
+  pulled = o.host.pulled;
+  asked = o.host.asked;
+  faults = o.host.calls.faults;
+  flash = flash_of o.fuse;
+}
+
+abbrev pub launching_of : Objects → Launching
+launching_of o =
+    record { told = true; launches = o.launcher.launches; faults = o.launcher.calls.faults }
+
+-- memory ran out in a call of one of them
+abbrev pub have_starved : Objects → Bool
+have_starved o =
+    not (o.host.calls.starved == 0) || not (o.fuse.disk.calls.starved == 0)
+    || not (o.launcher.calls.starved == 0)
+
+-- the fuse takes as many calls as the round drew, and where it drew none, as many as there can be
+pub record IsDrawn (said : RoundSaid) (fuse : FuseState) : Type 0 where
+  pub passes : fuse.passes ≡ unwrap_or said.cut 18446744073709551615
+  pub whole : fuse.faults ≡ 0
 
 -- objects that tell what they hold: these files, and a flash with this image
 pub record Holds (files : Files) (image : List ℕ) (launched : Launching) (here : Outside)
@@ -61,21 +106,21 @@ pub record IsWhole (launched now : Launching) (before after : Outside) (ended : 
 
 -- ---- the update
 
--- `run update` of the envelope, with the round's words, on this image
+-- `run update` of the envelope, with the round's words, on this image, behind the drawn fuse; memory sufficed for the objects
 pub record UpdateComes (said : RoundSaid) (files : Files) (image : List ℕ) : Type 0 where
   pub uris : List Named
   pub words :
       task_of (codes "run" ∷ codes "update" ∷ envelope_name ∷ said.words)
       ≡ Some (RunUpdate envelope_name uris)
-  pub launched : Launching
-  pub now : Launching
-  pub before : Outside
-  pub after : Outside
+  pub had : Objects
+  pub has : Objects
   pub ended : Ended
-  pub holds : Holds files image launched before
+  pub holds : Holds files image (launching_of had) (outside_of had)
+  pub fuse : IsDrawn said had.fuse
   pub comes :
-      Comes (begins_update envelope_name) (λ task. RunUpdate envelope_name uris ≡ task) launched
-      now before after ended
+      Comes (begins_update envelope_name) (λ task. RunUpdate envelope_name uris ≡ task)
+      (launching_of had) (launching_of has) (outside_of had) (outside_of has) ended
+  pub enough : have_starved has ≡ false
 
 abbrev pub is_installed : Ended → Bool
 is_installed (Updated (ends.Installed r) lines) = true
@@ -87,8 +132,10 @@ end_of ended = if is_installed ended then Installed else Stopped
 -- it came to its end
 pub record EndsWhole (said : RoundSaid) (files : Files) (image : List ℕ)
     (u : UpdateComes said files image) (left : List ℕ) (end : RoundEnd) : Type 0 where
-  pub whole : IsWhole u.launched u.now u.before u.after u.ended
-  pub reads : u.after.flash.reads ≡ left
+  pub whole :
+      IsWhole (launching_of u.had) (launching_of u.has) (outside_of u.had) (outside_of u.has)
+      u.ended
+  pub reads : (memory_flash u.has.fuse.disk).reads ≡ left
   pub end_is : end ≡ end_of u.ended
 
 -- The image has the old record, and no content changed but those of slots that may be written; or it has the new record,
@@ -122,13 +169,17 @@ pub record IsCutOff (uris : List (List ℕ × List ℕ)) (launched now : Launchi
   pub offered : HasOffer o.frame before.flash.reads o.accepted.said.wrapper
   pub is_left : IsLeft o uris launched now before offered.0 offered.1 left
 
--- The flash lost its power, as was wanted, and this image was left: by an update that had begun, or with the contents of
--- before.
+-- The flash lost its power, as was wanted: the fuse refused a call. This image was left, with those pending writes that the
+-- round drew: by an update that had begun, or with the contents of before.
 pub record EndsCut (said : RoundSaid) (files : Files) (image : List ℕ)
     (u : UpdateComes said files image) (left : List ℕ) (end : RoundEnd) : Type 0 where
   pub wanted : IsSome said.cut
-  pub faulted : Faulted u.before.flash.faults u.after.flash.faults
-  pub stands : HoldsSame image left ⊎ IsCutOff (pairs_of u.uris) u.launched u.now u.before left
+  pub faulted : Faulted u.had.fuse.faults u.has.fuse.faults
+  pub loses : left ≡ lost said.choice (moment_now u.has.fuse.disk)
+  pub stands :
+      HoldsSame image left
+      ⊎ IsCutOff (pairs_of u.uris) (launching_of u.had) (launching_of u.has) (outside_of u.had)
+      left
   pub end_is : end ≡ Cut
 
 -- it came to its end, or was cut

@@ -1,15 +1,16 @@
 -- Where `run init` and `run status` stop, and with which reply: what follows from their stages.
-use Rattle.std.specs.Prelude.{◌≡◌, ℕ, IsTrue, List, ◌++◌, codes}
+use Rattle.std.specs.Prelude.{◌≡◌, ◌⊎◌, ℕ, IsTrue, List, [], ◌∷◌, ◌++◌, codes}
 use Rattle.flash_layout.specs.declared.frame.Frame.{Frame}
 use Rattle.flash_layout.specs.declared.key.Key.{Key}
 use Rattle.flash_layout.specs.declared.layout.Entry.{Entry}
 use Rattle.flash_layout.specs.declared.slot.Record.{Record}
 use Rattle.flash_layout.specs.Formats.{IsFormatted}
 use Rattle.suit_cli.specs.declared.reply.Reply.{Reply}
+use Rattle.suit_cli.specs.declared.reply.Object.TheVariants as objects
 use Rattle.suit_cli.specs.declared.reply.Outcome.TheVariants as outcomes
 use Rattle.suit_cli.specs.Replies.{IsReply}
-use Rattle.suit_cli.specs.Outside.{Outside, IsStill}
-use Rattle.suit_cli.specs.Stages.{Says, NoMemory}
+use Rattle.suit_cli.specs.Outside.{Outside, Asks, AsksFirst, IsStill}
+use Rattle.suit_cli.specs.Stages.{Ending, Says, FaultOf, NoMemory}
 use Rattle.suit_cli.specs.Inputs.{longest_device, IsRead, IsUnread, IsKey, IsNoKey}
 use Rattle.suit_cli.specs.Devices.{IsDevice, IsNoDevice, key_of}
 use Rattle.suit_cli.specs.Formatting.{IsShut, IsInUse}
@@ -68,6 +69,17 @@ pub record InitLaws : Type 0 where
       → (reply.outcome ≡ outcomes.Done → ⊥) → IsStill before.flash after.flash
   pub starved : (device key_name : List ℕ) (before after : Outside)
       → inits device key_name before after NoMemory → IsStill before.flash after.flash
+  -- the description and then the key alone are asked for, and both where it is done
+  pub asks : (device key_name : List ℕ) (before after : Outside) (ending : Ending)
+      → inits device key_name before after ending
+      → AsksFirst (device ∷ key_name ∷ []) before after
+  pub asks_both : (device key_name : List ℕ) (before after : Outside) (reply : Reply)
+      → inits device key_name before after (Says reply) → reply.outcome ≡ outcomes.Done
+      → Asks (device ∷ key_name ∷ []) before after
+  -- a fault of the flash comes before both or behind both
+  pub faults : (device key_name : List ℕ) (before after : Outside)
+      → inits device key_name before after (FaultOf objects.Flash)
+      → Asks [] before after ⊎ Asks (device ∷ key_name ∷ []) before after
 
 -- ---- `run status`
 

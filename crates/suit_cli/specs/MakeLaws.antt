@@ -5,10 +5,12 @@ use Rattle.author.specs.FileNames.{file_names}
 use Rattle.suit_cli.specs.declared.reply.Reply.{Reply}
 use Rattle.suit_cli.specs.declared.reply.Outcome.TheVariants as outcomes
 use Rattle.suit_cli.specs.Replies.{IsReply}
-use Rattle.suit_cli.specs.Outside.{Outside}
-use Rattle.suit_cli.specs.Stages.{Ending, Says, NoMemory}
+use Rattle.suit_cli.specs.Outside.{Outside, Asks, AsksFirst}
+use Rattle.suit_cli.specs.declared.reply.Object.{Object}
+use Rattle.suit_cli.specs.declared.reply.Object.TheVariants as objects
+use Rattle.suit_cli.specs.Stages.{Ending, Says, FaultOf, NoMemory}
 use Rattle.suit_cli.specs.Inputs.{IsRead, IsUnread, IsKey, IsNoKey}
-use Rattle.suit_cli.specs.Authoring.{longest_description, longest_named, IsAuthored, IsNotAuthored, IsEnvelopeOf, IsLongEnvelope, made_line}
+use Rattle.suit_cli.specs.Authoring.{longest_description, longest_named, IsAuthored, IsNotAuthored, IsEnvelopeOf, IsLongEnvelope, made_line, names_held}
 use Rattle.suit_cli.specs.Commands.{makes}
 
 -- ---- the contents of the files
@@ -81,6 +83,11 @@ pub record IsStored (description key_name out : List ℕ) (before after : Outsid
   pub others : (other : List ℕ) → other ≢ out → after.files other ≡ before.files other
   pub says : IsReply reply outcomes.Done (made_line (length envelope))
 
+-- the names of what it reads: the description, the key, and the files that the description names
+abbrev pub names_asked : List ℕ → List ℕ → Outside → List (List ℕ)
+names_asked description key_name before =
+    description ∷ key_name ∷ names_held (before.files description)
+
 pub record MakeLaws : Type 0 where
   -- each reply has its cause
   pub only : (description key_name out : List ℕ) (before after : Outside) (reply : Reply)
@@ -105,3 +112,12 @@ pub record MakeLaws : Type 0 where
   pub others : (description key_name out : List ℕ) (before after : Outside) (ending : Ending)
       → IsTrue before.told → makes description key_name out before after ending
       → (other : List ℕ) → other ≢ out → after.files other ≡ before.files other
+  -- these alone are asked for, in their order, and all of them where it is done; and only the host faults
+  pub asks : (description key_name out : List ℕ) (before after : Outside) (ending : Ending)
+      → makes description key_name out before after ending
+      → AsksFirst (names_asked description key_name before) before after
+  pub asks_all : (description key_name out : List ℕ) (before after : Outside) (reply : Reply)
+      → makes description key_name out before after (Says reply) → reply.outcome ≡ outcomes.Done
+      → Asks (names_asked description key_name before) before after
+  pub faults : (description key_name out : List ℕ) (before after : Outside) (object : Object)
+      → makes description key_name out before after (FaultOf object) → object ≡ objects.Host

@@ -1,5 +1,5 @@
 -- The outside of a command: what it finds there, and what it leaves.
-use Rattle.std.specs.Prelude.{◌≡◌, ◌≢◌, ◌⊎◌, ◌≤◌, ◌+◌, ℕ, Bool, IsTrue, List, [], ◌∷◌, ◌++◌, Option, Some, None}
+use Rattle.std.specs.Prelude.{◌≡◌, ◌≢◌, ◌⊎◌, ◌≤◌, ◌+◌, ℕ, Bool, IsTrue, List, [], ◌∷◌, ◌++◌, take, Option, Some, None}
 use Rattle.suit_edge.specs.Faults.{Faulted}
 
 -- the bytes of the files, by their names
@@ -32,6 +32,11 @@ pub record Quiet (most : ℕ) (before after : Outside) : Type 0 where
 -- these names were asked for, in their order, after all others
 abbrev pub Asks : List (List ℕ) → Outside → Outside → Type 0
 Asks names before after = IsTrue before.told → after.asked ≡ before.asked ++ names
+
+-- the first ones of these were, and no other
+abbrev pub AsksFirst : List (List ℕ) → Outside → Outside → Type 0
+AsksFirst names before after =
+    IsTrue before.told → (n : ℕ) × (after.asked ≡ before.asked ++ take n names)
 
 -- this one was, and no other; or a fault came before the host told it
 abbrev pub MayAsk : List ℕ → Outside → Outside → Type 0

@@ -17,6 +17,7 @@ use Rattle.step_machine.specs.declared.plan_end.PlanEnd.{PlanEnd}
 use Rattle.step_machine.specs.declared.plan_end.PlanEnd.TheVariants as plays
 use Rattle.update_proc.specs.declared.update_end.UpdateEnd.{UpdateEnd}
 use Rattle.update_proc.specs.declared.update_end.UpdateEnd.TheVariants as ends
+use Rattle.update_proc.specs.Ends.{JudgedSo}
 use Rattle.update_proc.specs.Offered.{ForOffer}
 use Rattle.update_proc.specs.Updates.{PlaysAndLeaves, PlaysUpdate, hosted, sources}
 use Rattle.suit_cli.specs.Acceptance.{Accepted, IsAccepted}
@@ -90,6 +91,14 @@ pub record UpdateIsCaused (name : List ℕ) (uris : List (List ℕ × List ℕ))
       UpdateEnds (offer frame layout key bytes accepted) uris launched now before after end
   pub lines_are : lines ≡ update_line accepted.manifest.sequence end
 
+-- the same of the record alone: a file was accepted, and the verdict on it beside the record leads to that end
+pub record UpdateIsJudged (name : List ℕ) (before : Outside) (end : UpdateEnd) : Type 0 where
+  pub o : Offer
+  pub config : Holds before.flash (o.layout, o.key, o.frame)
+  pub read : IsRead longest_file name before o.bytes
+  pub is_accepted : IsAccepted o.frame o.layout o.key o.bytes o.accepted
+  pub judged : Beside o before (λ number digest held. JudgedSo number digest held end)
+
 -- ---- where a cause stands
 
 -- the file is accepted under the configuration of the flash, and this is the verdict on it beside the record
@@ -132,6 +141,11 @@ pub record UpdateEndLaws : Type 0 where
       → IsTrue before.told → IsTrue before.flash.told → IsTrue launched.told
       → Updates name uris launched now before after end lines
       → UpdateIsCaused name uris launched now before after end lines
+  -- the verdict on what was accepted is that of the flash alone, whatever the host and the launcher are: statuses 5 and 19
+  pub judged : (name : List ℕ) (uris : List (List ℕ × List ℕ)) (launched now : Launching)
+      (before after : Outside) (end : UpdateEnd) (lines : List ℕ)
+      → IsTrue before.flash.told
+      → Updates name uris launched now before after end lines → UpdateIsJudged name before end
   -- and where a verdict stands, each end is the one that it leads to, unless the flash failed or memory ran out
   pub always : (name : List ℕ) (uris : List (List ℕ × List ℕ)) (launched now : Launching)
       (before after : Outside) (end : UpdateEnd) (lines : List ℕ) (verdict : Judged)

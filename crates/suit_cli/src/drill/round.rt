@@ -21,6 +21,7 @@ ghost use Rattle.suit_cli.specs.DrillRounds.{
   RunsRound,
   UpdatesRound,
   ends_so,
+  have_starved,
   is_whole,
   uris_asked,
 };
@@ -148,7 +149,11 @@ fn end_of(answer: &Answer) -> Result<RoundEnd, AllocError>
 }
 
 // Whether memory ran out in a call of one of these.
-fn have_starved(host: &MemoryHost, fuse: &FuseDisk, launcher: &MemoryLauncher) -> bool {
+fn have_starved(host: &MemoryHost, fuse: &FuseDisk, launcher: &MemoryLauncher) -> bool
+    ensures { result
+        ≡ have_starved
+        (record { host = host.now; fuse = fuse.now; launcher = launcher.now }) }
+{
     host.starved() > 0 || fuse.starved() > 0 || launcher.starved() > 0
 }
 

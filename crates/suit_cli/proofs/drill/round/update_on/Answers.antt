@@ -1,4 +1,4 @@
-use Rattle.std.proofs.Common.{refl}
+use Rattle.std.proofs.Common.{refl, sym, ◌∙◌}
 use Rattle.conformance.specs.Rounds.{said_by}
 use Rattle.suit_cli.proofs.DrillTurns.{begins_settled, faults_stay, files_stay, fresh_reads, is_so, left_lives, left_ready, loss_lives, loss_ready, update_ends, update_lost}
 use Rattle.suit_cli.proofs.UpdateAnswers.{keeps_named}
@@ -11,8 +11,9 @@ returns-then-is_cut-clause-updates c =
     let run = c.run_update-answer in
     let lost = c.in_ok-left.ensures in
     update_lost (said_by c.args.round.now) c.in_ok-uris.ensures.named c.in_ok-uris.ensures.asks c.args.flash _ c.args.host.now run.new.host c.new-fuse.result run.new.flash c.in_ok-launcher.launcher run.new.launcher _ c.new-fuse.ensures
-    (run.ensures.answer c.in_ok-uris.ensures.named c.in_ok-uris.ensures.uris_are) c.requires.ready c.into_disk-flash.result c.into_disk-flash.ensures (is_so _ _ c.is_cut.ensures c.if-is_cut.true).0 (is_so _ _ c.is_cut.ensures c.if-is_cut.true).1
-    (keeps_named _ _ _ c.in_ok-uris.ensures.uris_are _ _ _ _ _ _ (run.ensures.keeps refl (begins_settled c.args.flash _ c.new-fuse.result c.new-fuse.ensures c.requires.ready))) c.in_ok-left.left lost.may (fresh_reads c.in_ok-left.left _ _ lost.left)
+    (run.ensures.answer c.in_ok-uris.ensures.named c.in_ok-uris.ensures.uris_are) c.requires.ready c.into_disk-flash.result c.into_disk-flash.ensures c.unwrap_or.ensures (sym c.have_starved.ensures ∙ c.if-have_starved.false)
+    (is_so _ _ c.is_cut.ensures c.if-is_cut.true).0 (is_so _ _ c.is_cut.ensures c.if-is_cut.true).1
+    (keeps_named _ _ _ c.in_ok-uris.ensures.uris_are _ _ _ _ _ _ (run.ensures.keeps refl (begins_settled c.args.flash _ c.new-fuse.result c.new-fuse.ensures c.requires.ready))) c.in_ok-left.left lost.left lost.may
 
 pub returns-then-is_cut-clause-lives : goal.returns-then-is_cut-clause-lives
 returns-then-is_cut-clause-lives c =
@@ -40,7 +41,8 @@ pub returns-clause-updates : goal.returns-clause-updates
 returns-clause-updates c =
     let run = c.run_update-answer in
     update_ends (said_by c.args.round.now) c.in_ok-uris.ensures.named c.in_ok-uris.ensures.asks c.args.flash _ c.args.host.now run.new.host c.new-fuse.result run.new.flash c.in_ok-launcher.launcher run.new.launcher _ c.new-fuse.ensures
-    (run.ensures.answer c.in_ok-uris.ensures.named c.in_ok-uris.ensures.uris_are) c.requires.ready c.into_disk-flash.result c.into_disk-flash.ensures c.in_ok-end.end c.in_ok-end.ensures
+    (run.ensures.answer c.in_ok-uris.ensures.named c.in_ok-uris.ensures.uris_are) c.requires.ready c.into_disk-flash.result c.into_disk-flash.ensures c.unwrap_or.ensures
+    (sym c.have_starved.ensures ∙ c.if-have_starved.false) c.in_ok-end.end c.in_ok-end.ensures
 
 pub returns-clause-lives : goal.returns-clause-lives
 returns-clause-lives c =
