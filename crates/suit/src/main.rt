@@ -8,6 +8,7 @@ mod starving;
 mod words;
 
 use flash::flash_of;
+use nor_flash::FileNor;
 use source::Started;
 use starving::out_of_memory;
 use std::process::ExitCode;
@@ -22,7 +23,7 @@ fn main(rt: HostRuntime) -> ExitCode {
         return ExitCode::from(out_of_memory(&mut out));
     };
     let mut host = FileHost::new(&rt);
-    let mut flash = flash_of(&rt);
+    let mut flash = flash_of(&rt, FileNor::is_there(&rt));
     let mut launcher = FileLauncher::new(&rt);
     let Status(code) = run(
         alloc,
