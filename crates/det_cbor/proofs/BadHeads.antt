@@ -1,4 +1,4 @@
--- A bad head is refused, for that reason and at that place.
+-- A bad head is refused for its reason, at its place.
 use Rattle.std.proofs.Common.{◌≡◌, ◌≢◌, ℕ, ◌+◌, ◌*◌, ◌/◌, ◌%◌, ◌^◌, ◌<◌, ◌≤◌, Bool, true, false, cond, ltb, eqb, List, ◌∷◌, ◌++◌, length, Result, Ok, Err, refl, sym, ap, ◌∙◌, arith, Bor}
 use Rattle.std.specs.Prelude.{IfErr}
 use Rattle.std.specs.Int.{Width, byte_len, to_be_bytes}
@@ -28,7 +28,7 @@ either : {A : Type 0} (b : Bool) (x : A) → cond b x x ≡ x
 either true x = refl
 either false x = refl
 
--- where both kinds of head are refused alike
+-- heads that are refused alike for major type 7 and for the others
 at_any : (major low : ℕ) (rest : List ℕ) (reason : Reason) → low < 32 → simple_value low ≡ Err reason → argument_at low rest ≡ Err reason → head_at ((32 * major + low) ∷ rest) ≡ Err reason
 unfolding head_at
 at_any major low rest reason small simple is =
@@ -76,7 +76,7 @@ number_long w limit least wide n rest lt less =
     let low : ltb n least ≡ true = lt-ltb _ _ less in
     rw (long, take_at (to_be_bytes w n) rest (byte_len w) len, drop_at (to_be_bytes w n) rest (byte_len w) len, wide.again n lt, low) refl
 
--- a bad head is refused for its reason, and at its place
+-- the bytes are refused for this reason, at this place
 pub record IsRefused (bytes : List ℕ) (at : ℕ) (reason : Reason) : Type 0 where
   pub read : head_at bytes ≡ Err reason
   pub place : at ≡ place_in bytes reason

@@ -1,4 +1,4 @@
--- How many items and pairs there are.
+-- The numbers of items and pairs.
 use Rattle.std.proofs.Common.{◌≡◌, List, [], ◌∷◌, length, refl, arith}
 use Rattle.det_cbor.specs.DataItem.{DataItem, item_count, pair_count}
 use Rattle.det_cbor.specs.DataLists.{items_of, pairs_of}

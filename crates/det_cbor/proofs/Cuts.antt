@@ -1,4 +1,5 @@
--- Two lists of bytes that are told apart before either ends, or are the same: what follows them counts only then.
+-- Two lists of bytes that differ before either ends, or are equal. What follows them matters only if they are
+-- equal.
 use Rattle.std.proofs.Common.{◌≡◌, ℕ, zero, suc, ◌+◌, ◌*◌, ◌/◌, ◌%◌, ◌^◌, ◌<◌, Ordering, Less, Equal, Greater, List, [], ◌∷◌, ◌++◌, length, refl, sym, ap, ◌∙◌, append_assoc, arith, inl, inr}
 use Rattle.std.specs.Int.{byte_at, bytes_high_first}
 use Rattle.std.specs.Ordering.{ordering_then, nat_cmp}
@@ -39,7 +40,7 @@ cmp_less m n h = grind (arith, nat_tests)
 pub cmp_greater : (m n : ℕ) → n < m → nat_cmp m n ≡ Greater
 cmp_greater m n h = grind (arith, nat_tests)
 
--- ---- how cuts are put together
+-- ---- composing cuts
 
 pub Cuts-order : (o : Ordering) (xs ys : List ℕ) → Cuts o xs ys → bytewise xs ys ≡ o
 Cuts-order o xs ys h =

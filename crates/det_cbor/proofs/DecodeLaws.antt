@@ -1,4 +1,4 @@
--- The answers of decoding, from those of the reading function.
+-- The answers of decoding, derived from those of the reading function.
 use Rattle.std.proofs.Common.{◌≡◌, ℕ, ◌-◌, List, length, drop, Ok, Err, refl, sym, ap, subst, ◌∙◌, arith, inl, ◌⊎◌}
 use Rattle.det_cbor.specs.declared.reason.Reason.{Reason}
 use Rattle.det_cbor.specs.declared.reason.CborFault.TheVariants.{Refused, NoMemory}

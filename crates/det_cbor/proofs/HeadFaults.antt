@@ -36,7 +36,7 @@ number_bad major low least code bytes reason fits lt e =
       ]
     ]
 
--- a first byte with other lower five bits
+-- a first byte whose lower five bits are none of the good ones
 open_bad : (major : ℕ) (bytes : List ℕ) (reason : Reason) → major < 8 → Indefinite ≡ reason → BadHead ((32 * major + 31) ∷ bytes) (place_in ((32 * major + 31) ∷ bytes) reason) reason
 open_bad major bytes reason lt is = let whole = (32 * major + 31) ∷ bytes in subst (λ (r : Reason). BadHead whole (place_in whole r) r) is (LeftOpen major bytes lt)
 

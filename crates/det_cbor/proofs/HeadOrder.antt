@@ -105,7 +105,7 @@ bytes_decide m n low low' width width' (Level p q e) same =
 first_bytes : (a b x y : ℕ) → x < 32 → y < 32 → nat_cmp (32 * a + x) (32 * b + y) ≡ ordering_then (nat_cmp a b) (nat_cmp x y)
 first_bytes a b x y x-lt y-lt = rw (mul_comm 32 a, mul_comm 32 b) (sym (digits 32 a b x y x-lt y-lt))
 
--- a head is decided by its major type, and then by its argument
+-- two heads are told apart by their major types, and then by their arguments
 pub Cuts-head : (a b m n : ℕ) → m < 2 ^ 64 → n < 2 ^ 64 → Cuts (ordering_then (nat_cmp a b) (nat_cmp m n)) (head_bytes a m) (head_bytes b n)
 Cuts-head a b m n m-fits n-fits =
     let f = form m m-fits in

@@ -1,4 +1,4 @@
--- An item that is spelled is read.
+-- An item that is spelled is read back.
 use Rattle.std.proofs.Common.{◌≡◌, ℕ, zero, suc, ◌+◌, ◌<◌, ◌≤◌, true, false, ltb, List, [], ◌∷◌, ◌++◌, length, Option, Some, None, Ok, Err, refl, sym, ap, subst, ◌∙◌, append_assoc, arith}
 use Rattle.std.specs.Str.{IsUtf8}
 use Rattle.std.specs.declared.cmp.Ordering.{Ordering}
@@ -43,7 +43,7 @@ pub items_of-list_of : (xs : DataItems) → items_of (list_of xs) ≡ xs
 items_of-list_of NoItems = refl
 items_of-list_of (ItemThen x xs) = ap (ItemThen x) (items_of-list_of xs)
 
--- the part read before, in front
+-- the part that was read before, in front of the others
 abbrev pub with_front : {A : Type 0} → List A → Read (List A) → Read (List A)
 with_front front r = r >>= λ o. Ok (front ++ o.0, o.1)
 
@@ -55,7 +55,7 @@ regroup : {A : Type 0} (x : A) (xs : List A) (r : Read (List A)) → with_front 
 regroup x xs (Ok o) = refl
 regroup x xs (Err s) = refl
 
--- the items that stand first are read first, whatever follows
+-- the items at the front are read first, whatever follows
 pub items_first : (levels : ℕ) (read : Reader) → ReadsAgain levels read → (xs : DataItems) (more : ℕ) (rest : List ℕ) → AreValidWithin levels xs
     → items_by read (item_count xs + more) (spell_items xs ++ rest) ≡ with_front (list_of xs) (items_by read more rest)
 items_first levels read law NoItems more rest valid = let none : 0 + more ≡ more = omega arith in rw none (nothing_before (items_by read more rest))
@@ -90,7 +90,7 @@ pub in_order_again : (before : Option (List ℕ)) (key : List ℕ) → IsAbove b
 in_order_again None key above = refl
 in_order_again (Some before) key above = ascending_again (slice_cmp nat_cmp before key) above
 
--- the pairs that stand first are read first, whatever follows
+-- the pairs at the front are read first, whatever follows
 pub pairs_first : (levels : ℕ) (read : Reader) → ReadsAgain levels read → (before : Option (List ℕ)) (ps : DataPairs) (more : ℕ) (rest : List ℕ) → ArePairsWithin levels before ps
     → pairs_by read before (pair_count ps + more) (spell_pairs ps ++ rest) ≡ with_front (pair_list_of ps) (pairs_by read (last_key before ps) more rest)
 pairs_first levels read law before NoPairs more rest valid = let none : 0 + more ≡ more = omega arith in rw none (nothing_before (pairs_by read before more rest))
@@ -118,7 +118,7 @@ abbrev pub PartsReadAgain : ℕ → Option Reader → Type 0
 PartsReadAgain levels None = 16 ≤ levels
 PartsReadAgain levels (Some read) = ReadsAgain (levels + 1) read
 
--- an item of a head and what follows it
+-- an item made of a head and what follows it
 pub headed : (parts : Option Reader) (h : Head) (inner rest : List ℕ) → IsValueOf h.kind h.value → item_with parts ((spelled h ++ inner) ++ rest) ≡ body_with parts ((spelled h ++ inner) ++ rest) h.value (inner ++ rest) h.kind
 headed parts h inner rest fits =
     let bytes = (spelled h ++ inner) ++ rest in

@@ -1,4 +1,4 @@
--- Valid items are ordered by head and parts as their spellings are bytewise.
+-- Valid items are ordered by heads and parts just as their spellings are bytewise.
 use Rattle.std.proofs.Common.{◌≡◌, ℕ, ◌+◌, ◌^◌, ◌<◌, Ordering, Equal, true, false, Option, Some, None, List, ◌++◌, refl, append_assoc, arith, inl, inr}
 use Rattle.std.proofs.lemmas.Bool.{cases_lt}
 use Rattle.std.specs.Ordering.{ordering_then, nat_cmp}

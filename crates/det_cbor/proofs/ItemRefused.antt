@@ -1,4 +1,4 @@
--- An item that is faulty is refused, for that reason and at that place.
+-- An item that is faulty is refused for that reason, at that place.
 use Rattle.std.proofs.Common.{◌≡◌, ℕ, zero, suc, ◌+◌, ◌-◌, ◌^◌, ◌<◌, ◌≤◌, true, false, ltb, List, ◌++◌, length, Option, Some, None, Ok, Err, refl, ap, subst, ◌∙◌, append_assoc, arith, inl, inr}
 use Rattle.std.specs.Str.{IsUtf8, is_utf8}
 use Rattle.std.proofs.lemmas.Bool.{cases_lt, lt-ltb}
@@ -32,7 +32,7 @@ abbrev pub PartsRefuse : ℕ → Option Reader → Type 0
 PartsRefuse levels None = 16 ≤ levels
 PartsRefuse levels (Some read) = (levels < 16) × ReadsAgain (levels + 1) read × RefusesFaulty (levels + 1) read
 
--- a refusal at the head, or at the end where the input ends
+-- a refusal at the head, or at the end of a truncated input
 stops_here : (read : Reader) (bytes : List ℕ) (place : ℕ) (reason : Reason) → place ≡ place_in bytes reason → read bytes ≡ Err (stop_at bytes reason) → StopsAt read bytes place reason
 stops_here read bytes place reason at is =
     let stop = stop_place bytes reason in
@@ -162,7 +162,7 @@ whole_refused levels (Some read) law bytes place reason (LowKey l before front k
     let order : in_order (last_key None before) (spell key) ≡ Err Order = ap (λ (o : Option (List ℕ)). in_order o (spell key)) last-is ∙ ap ascending (below_is_above last (spell key) low) in
     record { left = length (spell key ++ rest); sum = omega (arith, length-append front (spell key ++ rest)); is = in_map l read law.1 before front (spell key ++ rest) _ starts (λ n. order_refused (l + 1) read law.1 (last_key None before) n key rest Order valid order) }
 
--- a reader that answers alike stops alike
+-- readers that answer alike stop alike
 alike : (read other : Reader) (bytes : List ℕ) (place : ℕ) (reason : Reason) → read bytes ≡ other bytes → StopsAt other bytes place reason → StopsAt read bytes place reason
 alike read other bytes place reason e stops = record { left = stops.left; sum = stops.sum; is = e ∙ stops.is }
 

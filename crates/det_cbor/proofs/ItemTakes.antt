@@ -1,4 +1,4 @@
--- An item that is read is spelled so.
+-- An item that is read is spelled by the bytes it was read from.
 use Rattle.std.proofs.Common.{◌≡◌, ℕ, zero, suc, ◌+◌, ◌-◌, ◌^◌, ◌<◌, ◌≤◌, true, ltb, eqb, List, [], ◌∷◌, ◌++◌, length, take, drop, Option, Some, None, Result, Ok, Err, refl, sym, ap, subst, ◌∙◌, append_assoc, arith, inl, inr}
 use Rattle.std.specs.Str.{IsUtf8, is_utf8}
 use Rattle.std.specs.declared.cmp.Ordering.{Ordering}
@@ -22,7 +22,7 @@ use Rattle.det_cbor.specs.ResultLaws.{chosen, bind_ok, ok_pair, same_ok}
 use Rattle.det_cbor.specs.ArgumentLaws.{IsBytes, IsBytes-rest, IsBytes-drop, IsBytes-take, all_bytes, head_small}
 use Rattle.det_cbor.proofs.Heads.{head_takes}
 
--- the bytes are an item that is valid within so many levels, and then the rest
+-- the bytes are an item that is valid inside `levels` arrays, maps and tags, and then the rest
 pub record StartsWith (levels : ℕ) (x : DataItem) (bytes rest : List ℕ) : Type 0 where
   pub valid : IsValidWithin levels x
   pub parts : bytes ≡ spell x ++ rest
@@ -31,7 +31,7 @@ pub record StartsWith (levels : ℕ) (x : DataItem) (bytes rest : List ℕ) : Ty
 abbrev pub ReadsSpelled : ℕ → Reader → Type 0
 ReadsSpelled levels read = (bytes : List ℕ) (x : DataItem) (rest : List ℕ) → IsBytes bytes → read bytes ≡ Ok (x, rest) → StartsWith levels x bytes rest
 
--- the item read is the one answered
+-- the item that was read is the one in the answer
 answered : (levels : ℕ) (x y : DataItem) (bytes rest after : List ℕ) → StartsWith levels x bytes rest → ◌≡◌ {A = Result (DataItem × List ℕ) Stop} (Ok (x, rest)) (Ok (y, after)) → StartsWith levels y bytes after
 answered levels x y bytes rest after starts e =
     let parts = ok_pair x y rest after e in
@@ -95,7 +95,7 @@ items_takes levels read law (suc count) bytes xs rest fits e =
 
 -- ---- maps
 
--- the bytes before the rest are those that were read
+-- the bytes before the rest are the ones that were read
 pub read_of_front : (front rest : List ℕ) → read_of (front ++ rest) rest ≡ front
 read_of_front front rest = let long : length (front ++ rest) - length rest ≡ length front = omega (arith, length-append front rest) in rw long (take_at front rest (length front) refl)
 

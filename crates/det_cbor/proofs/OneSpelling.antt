@@ -1,4 +1,4 @@
--- A spelling stands for one item, and none is the beginning of another.
+-- A spelling belongs to one item only, and is not the beginning of another spelling.
 use Rattle.std.proofs.Common.{◌≡◌, ℕ, ◌^◌, ◌<◌, Equal, true, false, List, [], ◌∷◌, ◌++◌, length, refl, sym, ap, ◌∙◌, arith, inl, inr}
 use Rattle.std.specs.Ordering.{ordering_then, nat_cmp}
 use Rattle.std.proofs.lemmas.Bool.{cases_lt, le-ltb, lt-ltb}
@@ -24,7 +24,7 @@ bytewise_same (x ∷ xs) (y ∷ ys) e =
     let rest : xs ≡ ys = bytewise_same xs ys both.1 in
     cc
 
--- ---- items in the same place of the order are the same
+-- ---- items that compare as equal are equal
 
 record SameHead (x y : DataItem) : Type 0 where
   pub major : major_type x ≡ major_type y
@@ -84,7 +84,7 @@ mutual
 
 -- ---- the laws
 
--- bytes that begin with two spellings begin with one, and go on in one way
+-- bytes that begin with two spellings begin with one and the same, and the rests are equal
 pub one_spelling : (j k : ℕ) (x y : DataItem) (r s : List ℕ) → IsValidWithin j x → IsValidWithin k y → spell x ++ r ≡ spell y ++ s → (x ≡ y) × (r ≡ s)
 one_spelling j k x y r s v w e =
     let cut : bytewise (spell x ++ r) (spell y ++ s) ≡ ordering_then (item_order x y) (bytewise r s) = (items_cut_apart j k x y v w).cut r s in
@@ -109,6 +109,6 @@ head_not_empty major n =
       ]
     ]
 
--- no item is spelled by nothing
+-- no item has an empty spelling
 pub not_empty : (x : DataItem) → 0 < length (spell x)
 not_empty x = rw (head_and_parts x) (omega (arith, length-append (head_bytes (major_type x) (head_argument x)) (spell_parts x), head_not_empty (major_type x) (head_argument x)))

@@ -12,7 +12,7 @@ use Rattle.det_cbor.specs.LevelLaws.{valid_alone}
 step : (xs : List (Item × Item)) (i : ℕ) (x : Item × Item) → i < length xs → x ≡ get_or xs i x → drop i xs ≡ x ∷ drop (i + 1) xs
 step xs i x lt is = rw (add-one, drop-cons xs i x, ← is) refl
 
--- the first two pairs that are not the same decide
+-- the first two pairs that differ decide
 pub pair_decides : (xs ys : List (Item × Item)) (i : ℕ) (x y : Item × Item) (o whole : Ordering) → i < length xs → i < length ys → x ≡ get_or xs i x → y ≡ get_or ys i y
     → o ≡ pair_order (pair_of x) (pair_of y) → (o ≡ Equal → ⊥) → pairs_order (pairs_of (pair_trees_of (drop i xs))) (pairs_of (pair_trees_of (drop i ys))) ≡ whole → o ≡ whole
 pair_decides xs ys i x y o whole x-lt y-lt x-is y-is e other h =
@@ -20,7 +20,7 @@ pair_decides xs ys i x y o whole x-lt y-lt x-is y-is e other h =
     let now : pairs_order (pairs_of (pair_trees_of (drop i xs))) (pairs_of (pair_trees_of (drop i ys))) ≡ ordering_then (pair_order (pair_of x) (pair_of y)) rest = rw (step xs i x x-lt x-is, step ys i y y-lt y-is) refl in
     sym (first_decides o rest other) ∙ ap (λ (p : Ordering). ordering_then p rest) e ∙ sym now ∙ h
 
--- a pair that is valid after what came before leaves the rest to decide
+-- if a pair is valid after those before it, the rest decides
 pub pair_kept : (levels : ℕ) (before : Option (List ℕ)) (x : Item × Item) (xs : List (Item × Item)) (i : ℕ) (Whole : Type 0) → i < length xs → x ≡ get_or xs i x
     → IsValidWithin levels (tree_of x.0) → IsAbove before (spell (tree_of x.0)) → IsValidWithin levels (tree_of x.1)
     → (ArePairsWithin levels before (pairs_of (pair_trees_of (drop i xs))) ↔ Whole)

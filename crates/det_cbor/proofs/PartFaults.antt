@@ -1,4 +1,4 @@
--- An array or a map of which a part is refused.
+-- An array or a map with a part that is refused.
 use Rattle.std.proofs.Common.{◌≡◌, ℕ, zero, suc, ◌+◌, ◌<◌, List, ◌++◌, length, Option, Some, None, Err, refl, sym, ap, subst, ◌∙◌, append_assoc, arith}
 use Rattle.std.specs.declared.cmp.Ordering.{Ordering}
 use Rattle.std.specs.declared.cmp.Ordering.TheVariants.{Less, Equal, Greater}
@@ -25,7 +25,7 @@ part_fault levels bytes front rest s lt first is fault =
       sum = omega (arith, ap length is, length-append front rest);
     }
 
--- of so many items the first were read, and the next is faulty
+-- of `count` items, the first ones were read and the next one is faulty
 pub record ItemsFault (levels count : ℕ) (bytes : List ℕ) (s : Stop) : Type 0 where
   pub before : DataItems
   pub rest : List ℕ
@@ -47,7 +47,7 @@ items_fault levels read takes stops (suc count) bytes s fits e =
     record { before = ItemThen first.0 b.before; rest = b.rest; valid = (a.valid, b.valid); more = fewer; parts = a.parts ∙ ap (λ (l : List ℕ). spell first.0 ++ l) b.parts ∙ sym (append_assoc (spell first.0) (spell_items b.before) b.rest); fault = b.fault })
     (λ others others-is never. absurd cc))
 
--- so many pairs, of which the first were read
+-- the first ones of `count` pairs were read
 pub record PairsBefore (levels : ℕ) (start : Option (List ℕ)) (count : ℕ) (before : DataPairs) : Type 0 where
   pub valid : ArePairsWithin levels start before
   pub more : pair_count before < count

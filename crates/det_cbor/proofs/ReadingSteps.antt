@@ -18,7 +18,7 @@ pub no_level_left : {A : Type 0} (made : ℕ → A) (levels : ℕ) → levels �
 no_level_left made zero e = refl
 no_level_left made (suc levels) e = absurd (omega arith)
 
--- one more is read
+-- one more part is read
 one_more : {A : Type 0} (front : List A) (x : A) (r : Read (List A)) → with_front front (r >>= λ o. Ok (x ∷ o.0, o.1)) ≡ with_front (front ++ x ∷ []) r
 one_more {A} front x (Ok o) = ap (λ (l : List A). Ok (l, o.1)) (sym (append_assoc front (x ∷ []) o.0))
 one_more front x (Err s) = refl

@@ -1,4 +1,4 @@
--- An item is passed over just as it is read.
+-- An item is skipped just as it is read.
 use Rattle.det_cbor.specs.ResultLaws.{same_ok, same_err}
 use Rattle.std.proofs.Common.{◌≡◌, ℕ, zero, suc, List, ◌∷◌, Option, Some, None, Result, Ok, Err, refl, sym, ap, ◌∙◌}
 use Rattle.det_cbor.specs.declared.head.HeadKind.{HeadKind}
@@ -46,7 +46,7 @@ pair_skips_as skip read law before (suc count) bytes = rw (law bytes) (key_step 
     key_step later (Ok key) = order_step later key.0 (read_of bytes key.1) key.1 (stopped bytes (in_order before (read_of bytes key.1)))
     key_step later (Err s) = refl
 
--- the same of the parts, where there may be any
+-- the same for the parts, if there may be any
 abbrev pub PartsSkipAs : Option Skipper → Option Reader → Type 0
 PartsSkipAs None None = Unit {0}
 PartsSkipAs (Some skip) (Some read) = SkipsAs skip read

@@ -1,4 +1,4 @@
--- The first item of bytes, apart from those after it.
+-- The first item of bytes, split off from those after it.
 use Rattle.std.proofs.Common.{◌≡◌, ℕ, ◌+◌, ◌-◌, ◌≤◌, List, ◌++◌, length, take, drop, Result, Ok, Err, refl, sym, ap, subst, ◌∙◌, arith, Bor}
 use Rattle.std.specs.Prelude.{IfOk, IfErr}
 use Rattle.std.proofs.lemmas.List.{take-append-drop, length-append, length-drop}

@@ -14,7 +14,7 @@ use Rattle.det_cbor.specs.ResultLaws.{chosen, bind_err, same_err}
 use Rattle.det_cbor.specs.ArgumentLaws.{IsBytes, all_bytes}
 use Rattle.det_cbor.proofs.ItemTakes.{string_takes}
 
--- where a reader stopped the bytes are faulty
+-- where a reader stopped, the bytes are faulty
 pub record IsFault (levels : ℕ) (bytes : List ℕ) (s : Stop) : Type 0 where
   pub place : ℕ
   pub faulty : Faulty levels bytes place s.reason

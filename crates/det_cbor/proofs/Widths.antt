@@ -1,4 +1,4 @@
--- The four widths of an argument that stands behind a first byte.
+-- The four widths of the argument after a first byte.
 use Rattle.std.proofs.Common.{◌≡◌, ℕ, ◌+◌, ◌^◌, ◌<◌, ◌≤◌, List, length, refl, subst, arith, inl, inr}
 use Rattle.std.specs.Int.{byte_len}
 use Rattle.std.proofs.lemmas.Bool.{cases_lt}
@@ -15,7 +15,7 @@ pub record IsCode (low least : ℕ) : Type 0 where
   pub shorter : (major n : ℕ) → n < least → length (head_bytes major n) < 1 + byte_len (width_of low)
   pub longer : (major n : ℕ) → n < 256 ^ byte_len (width_of low) → length (head_bytes major n) < 1 + byte_len (width_of low) → n < least
 
--- a head of a number below a limit is as short as that of the width below
+-- a number below a limit has a head as short as that of the next smaller width
 below_24 : (major n : ℕ) → n < 24 → length (head_bytes major n) ≡ 1
 below_24 major n lt = rw (head_small major n lt) refl
 
@@ -55,7 +55,7 @@ shorter_32 major n lt =
       | inr a ↦ omega (arith, from_16 major n a lt)
     ]
 
--- a number lies below a limit where its head is shorter than all heads from there on
+-- a number is below a limit if its head is shorter than every head from the limit on
 short_below : (major n limit size : ℕ) → (limit ≤ n → length (head_bytes major n) ≡ size) → length (head_bytes major n) < size → n < limit
 short_below major n limit size long short =
     elim (cases_lt n limit) [

@@ -1,4 +1,5 @@
--- An argument that is read is spelled so, and what is spelled so is read.
+-- The argument of a head that was read is spelled by the bytes it was read from, and a spelled argument reads
+-- back.
 use Rattle.std.proofs.Common.{◌≡◌, ℕ, zero, suc, ◌+◌, ◌*◌, ◌^◌, ◌<◌, ◌≤◌, true, false, ltb, eqb, List, [], ◌∷◌, ◌++◌, length, get_or, take, drop, Ok, refl, sym, ap, subst, arith, inl, inr}
 use Rattle.std.specs.List.{AllByRecursion}
 use Rattle.std.specs.Int.{Width, w8, w16, w32, w64, byte_len, from_be_bytes, to_be_bytes}
@@ -26,7 +27,7 @@ IsBytes-drop n bytes h i = rw get_or-drop (h (n + i))
 pub IsBytes-rest : (front rest : List ℕ) → IsBytes (front ++ rest) → IsBytes rest
 IsBytes-rest front rest h = subst IsBytes (drop_at front rest (length front) refl) (IsBytes-drop (length front) (front ++ rest) h)
 
--- bytes as the definitions of items have them
+-- IsBytes and AllByRecursion IsByte, which the definitions of items use, say the same
 pub all_bytes : (bytes : List ℕ) → IsBytes bytes → AllByRecursion IsByte bytes
 all_bytes [] fits = tt
 all_bytes (b ∷ bytes) fits = (fits 0, all_bytes bytes (λ i. fits (suc i)))
@@ -38,6 +39,7 @@ bytes_of_all (b ∷ bytes) all (suc i) = bytes_of_all bytes all.1 i
 
 -- ---- numbers
 
+-- the numbers of this width are those below `limit`, and their big-endian bytes read back
 pub record IsWide (w : Width) (limit : ℕ) : Type 0 where
   pub len : (n : ℕ) → length (to_be_bytes w n) ≡ byte_len w
   pub back : (bytes : List ℕ) → length bytes ≡ byte_len w → IsBytes bytes
@@ -126,7 +128,7 @@ head_8 major n ge lt =
     let b : ltb n (2 ^ 8) ≡ true = lt-ltb _ _ lt in
     rw (a, b) refl
 
--- a number that one byte does not hold is below neither of the first two limits
+-- a number that one byte does not hold is below neither 24 nor 2 ^ 8
 past_8 : (n : ℕ) → 2 ^ 8 ≤ n → (ltb n 24 ≡ false) × (ltb n (2 ^ 8) ≡ false)
 past_8 n ge = (le-ltb _ _ (omega arith), le-ltb _ _ ge)
 
@@ -156,7 +158,7 @@ head_64 major n ge lt =
     let d : ltb n (2 ^ 32) ≡ false = le-ltb _ _ ge in
     rw (past.0, past.1, c, d) refl
 
--- the argument of a width, as it is read
+-- an argument of this width that was read is spelled by the bytes it was read from
 wide_takes : (w : Width) (limit least code major low : ℕ) (wide : IsWide w limit) → limit ≤ 2 ^ 64
     → ((v : ℕ) → least ≤ v → v < limit → head_bytes major v ≡ (32 * major + code) ∷ to_be_bytes w v)
     → (bytes : List ℕ) (n : ℕ) (rest : List ℕ) → IsBytes bytes → low ≡ code → number_at w least bytes ≡ Ok (n, rest) → ((32 * major + low) ∷ bytes ≡ head_bytes major n ++ rest) × (n < 2 ^ 64)
@@ -167,7 +169,7 @@ wide_takes w limit least code major low wide small shape bytes n rest fits is e 
     let below : n < limit = t.1 in
     (rw (head, is, ← parts) refl, omega arith)
 
--- the argument that is read is spelled so, behind a first byte of any major type
+-- an argument that was read is spelled by the bytes it was read from, after a first byte of any major type
 pub argument_takes : (major low : ℕ) (bytes : List ℕ) (n : ℕ) (rest : List ℕ) → IsBytes bytes
     → argument_at low bytes ≡ Ok (n, rest)
     → ((32 * major + low) ∷ bytes ≡ head_bytes major n ++ rest) × (n < 2 ^ 64)
@@ -197,7 +199,7 @@ argument_takes major low bytes n rest fits e =
       ]
     ]
 
--- how a head of these kinds begins, and how it is read again
+-- how a head begins, and that reading gives its argument back
 pub record ReadsAgain (major n : ℕ) (rest : List ℕ) : Type 0 where
   pub low : ℕ
   pub bytes : List ℕ
@@ -222,7 +224,7 @@ argument_again major n rest lt =
       ]
     ]
 
--- a head is of one to nine bytes
+-- a head takes one to nine bytes
 pub head_length : (major n : ℕ) → n < 2 ^ 64
     → (1 ≤ length (head_bytes major n)) × (length (head_bytes major n) ≤ 9)
 head_length major n lt =

@@ -1,4 +1,4 @@
--- A code by which two data items are told apart, as a list's model asks of what it holds.
+-- A one-to-one code of data items, as the model of a list asks of its elements.
 use Rattle.std.specs.Prelude.{◌≡◌, ℕ, List, refl}
 use Rattle.std.proofs.Common.{ap}
 use Rattle.std.specs.Coded.{Coded, coded_list, coded_ℕ, coded_bool, coded×}
@@ -10,7 +10,7 @@ use Rattle.det_cbor.specs.DataItem.{UnsignedInteger, NegativeInteger, ByteString
 abbrev string_code : Coded (List ℕ)
 string_code = coded_list coded_ℕ
 
--- a code as a number, and the parts of a pair
+-- the number in a code, and below it the two parts of a pair
 abbrev pub number : Gv → ℕ
 number (gnum n) = n
 number _ = 0

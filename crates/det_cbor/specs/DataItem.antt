@@ -6,7 +6,7 @@ use Rattle.std.specs.Ordering.{is_lt, nat_cmp}
 use Rattle.std.specs.Cmp.Lexicographic.{slice_cmp}
 use Rattle.det_cbor.specs.Heads.{head_bytes}
 
--- the negative integer of n is -1 - n
+-- a data item; NegativeInteger n stands for -1 - n
 mutual
   pub data DataItem : Type 0 where
     UnsignedInteger : ℕ → DataItem
@@ -35,7 +35,7 @@ abbrev pub pair_count : DataPairs → ℕ
 pair_count NoPairs = 0
 pair_count (PairThen key value ps) = pair_count ps + 1
 
--- the bytes of an item
+-- the deterministic spelling of an item (section 4.2.1): the shortest head, then the content
 abbrev mutual
   pub spell : DataItem → List ℕ
   spell (UnsignedInteger n) = head_bytes 0 n
@@ -57,20 +57,21 @@ abbrev mutual
   spell_pairs NoPairs = []
   spell_pairs (PairThen key value ps) = spell key ++ (spell value ++ spell_pairs ps)
 
--- ---- which items are spelled at all
+-- ---- which items have a spelling
 
 abbrev pub IsByte : ℕ → Type 0
 IsByte b = b < 256
 
+-- the bytes can be the content of a string, which has fewer than 2 ^ 64 of them
 abbrev pub IsString : List ℕ → Type 0
 IsString bytes = (length bytes < 2 ^ 64) × AllByRecursion IsByte bytes
 
--- a key's spelling stands above that of the key before it, in bytewise order
+-- a key's spelling is above that of the key before it in bytewise order, if there is one (section 4.2.1)
 abbrev pub IsAbove : Option (List ℕ) → List ℕ → Type 0
 IsAbove None key = Unit {0}
 IsAbove (Some before) key = is_lt (slice_cmp nat_cmp before key) ≡ true
 
--- valid with so many arrays, maps and tags around it; at most 16 stand round one another
+-- the item is valid inside `levels` arrays, maps and tags; at most 16 may nest
 abbrev mutual
   pub IsValidWithin : ℕ → DataItem → Type 0
   IsValidWithin levels (UnsignedInteger n) = n < 2 ^ 64
@@ -90,17 +91,18 @@ abbrev mutual
   AreValidWithin levels NoItems = Unit {0}
   AreValidWithin levels (ItemThen x xs) = IsValidWithin levels x × AreValidWithin levels xs
 
-  -- the pairs after a key
+  -- the pairs are valid, and their keys ascend above the key before them
   pub ArePairsWithin : ℕ → Option (List ℕ) → DataPairs → Type 0
   ArePairsWithin levels before NoPairs = Unit {0}
   ArePairsWithin levels before (PairThen key value ps) =
       IsValidWithin levels key × IsAbove before (spell key) × IsValidWithin levels value
       × ArePairsWithin levels (Some (spell key)) ps
 
+-- the item is valid; at most 16 arrays, maps and tags nest
 abbrev pub IsValid : DataItem → Type 0
 IsValid x = IsValidWithin 0 x
 
--- these bytes are the one spelling of the item
+-- the item is valid, and these bytes are its spelling
 pub record Spells (x : DataItem) (bytes : List ℕ) : Type 0 where
   pub valid : IsValid x
   pub is : bytes ≡ spell x

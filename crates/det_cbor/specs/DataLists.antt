@@ -1,4 +1,4 @@
--- Data items held in lists, as the types of the code hold them.
+-- Data items in lists, as the types of the code hold them.
 use Rattle.std.specs.Prelude.{ℕ, ◌+◌, List, [], ◌∷◌}
 use Rattle.det_cbor.specs.DataItem.{DataItem, UnsignedInteger, NegativeInteger, ByteString, TextString, ArrayOf, MapOf, TaggedItem, Boolean, NullItem, DataItems, NoItems, ItemThen, DataPairs, NoPairs, PairThen}
 
@@ -10,7 +10,7 @@ abbrev pub pairs_of : List (DataItem × DataItem) → DataPairs
 pairs_of [] = NoPairs
 pairs_of (p ∷ ps) = PairThen p.0 p.1 (pairs_of ps)
 
--- ---- how large an item is: a part is smaller than the whole
+-- ---- the size of an item, which is greater than that of each part
 
 abbrev mutual
   pub item_size : DataItem → ℕ

@@ -8,6 +8,7 @@ use Rattle.det_cbor.specs.declared.reason.Reason.{Reason}
 use Rattle.det_cbor.specs.declared.reason.Reason.TheVariants.{Truncated, Indefinite, Kind, NotShortest}
 
 infixl 10 ◌>>=◌
+-- goes on with the value, or stops at the fault
 abbrev pub ◌>>=◌ : {A B E : Type 0} → Result A E → (A → Result B E) → Result B E
 (Ok x) >>= f = f x
 (Err e) >>= f = Err e
@@ -27,16 +28,17 @@ kind_of_major major =
     else if major == 5 then kinds.Map
     else kinds.Tag
 
--- a number that is not below the least of its width, and the bytes after it
+-- a number that needs its width, which is at least `least`, and the bytes after it
 abbrev pub shortest_from : ℕ → ℕ → List ℕ → Result (ℕ × List ℕ) Reason
 shortest_from least number rest = if nat_lt number least then Err NotShortest else Ok (number, rest)
 
+-- a big-endian number of this width, which is at least `least`, and the bytes after it
 abbrev pub number_at : Width → ℕ → List ℕ → Result (ℕ × List ℕ) Reason
 number_at w least bytes =
     if nat_lt (length bytes) (byte_len w) then Err Truncated
     else shortest_from least (from_be_bytes w (take (byte_len w) bytes)) (drop (byte_len w) bytes)
 
--- the argument behind the lower five bits of a first byte
+-- the argument that the lower five bits of a first byte and the bytes after it give
 unfoldable pub argument_at : ℕ → List ℕ → Result (ℕ × List ℕ) Reason
 argument_at low bytes =
     if nat_lt low 24 then Ok (low, bytes)
@@ -56,6 +58,7 @@ simple_value low =
     else if low == 31 then Err Indefinite
     else Err Kind
 
+-- the next head, and the bytes after it
 unfoldable pub head_at : List ℕ → Result (Head × List ℕ) Reason
 head_at [] = Err Truncated
 head_at (first ∷ rest) =
@@ -64,7 +67,7 @@ head_at (first ∷ rest) =
     (argument_at (first % 32) rest
     >>= λ x. Ok (record { kind = kind_of_major (first / 32); value = x.0 }, x.1))
 
--- where a fault of a head or a string is: at the end where the input ends, and else at the head
+-- where the fault of a head or a string is: at the end of the input if it is truncated, otherwise at the head
 abbrev pub place_in : List ℕ → Reason → ℕ
 place_in bytes Truncated = length bytes
 place_in bytes _ = 0

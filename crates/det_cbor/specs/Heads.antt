@@ -2,7 +2,7 @@
 use Rattle.std.specs.Prelude.{ℕ, ◌+◌, ◌*◌, ◌^◌, nat_lt, if◌then◌else◌, List, [], ◌∷◌}
 use Rattle.std.specs.Int.{w8, w16, w32, w64, to_be_bytes}
 
--- the one head of a major type and an argument below 2 ^ 64, the shortest
+-- the shortest head of a major type and an argument below 2 ^ 64
 unfoldable pub head_bytes : ℕ → ℕ → List ℕ
 head_bytes major argument =
     if nat_lt argument 24 then (32 * major + argument) ∷ []

@@ -1,4 +1,4 @@
--- The head of an item. An item is spelled by its head and then its parts.
+-- The head of an item. An item is spelled as its head and then its parts.
 use Rattle.std.proofs.Common.{◌≡◌, ℕ, false, true, List, ◌++◌, refl, sym, ap, ◌∙◌, append_assoc, arith}
 use Rattle.std.proofs.lemmas.List.{append-nil}
 use Rattle.det_cbor.specs.declared.head.Head.{Head}

@@ -1,4 +1,5 @@
--- The law of passing over an item: what is split off is the spelling of one item, and each such spelling is split off.
+-- The law of skipping an item: what is split off is the spelling of one item, and each such spelling is split
+-- off.
 use Rattle.std.specs.Prelude.{◌≡◌, ℕ, List, ◌++◌, take, drop, Ok}
 use Rattle.std.specs.List.{AllByRecursion}
 use Rattle.det_cbor.specs.DataItem.{DataItem, IsByte}

@@ -1,11 +1,11 @@
--- The data item that an item of the code stands for.
+-- The data item that a value of the code stands for.
 use Rattle.std.specs.Prelude.{List, map}
 use Rattle.det_cbor.specs.DataItem.{DataItem, UnsignedInteger, NegativeInteger, ByteString, TextString, ArrayOf, MapOf, TaggedItem, Boolean, NullItem}
 use Rattle.det_cbor.specs.DataLists.{items_of, pairs_of}
 use Rattle.det_cbor.specs.declared.item.Item.{Item}
 use Rattle.det_cbor.specs.declared.item.Item.TheVariants as item
 
--- the contents of a list or a tag are seen as data items already
+-- the data item of a value; lists and tags already hold data items in the model
 abbrev pub tree_of : Item → DataItem
 tree_of (item.Unsigned n) = UnsignedInteger n
 tree_of (item.Negative n) = NegativeInteger n

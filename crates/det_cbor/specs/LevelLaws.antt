@@ -1,4 +1,4 @@
--- An item that is valid deeper down is valid further out.
+-- An item that is valid inside more levels is valid inside fewer.
 use Rattle.std.proofs.Common.{ℕ, ◌+◌, ◌≤◌, Option, Some, List, arith}
 use Rattle.det_cbor.specs.DataItem.{DataItem, UnsignedInteger, NegativeInteger, ByteString, TextString, ArrayOf, MapOf, TaggedItem, Boolean, NullItem, DataItems, NoItems, ItemThen, DataPairs, NoPairs, PairThen, spell, IsValid, IsValidWithin, AreValidWithin, ArePairsWithin}
 

@@ -1,4 +1,4 @@
--- The law of reading: bytes begin with one item or have one first fault, and never both.
+-- The law of reading: any bytes begin with exactly one item or have exactly one first fault, and never both.
 use Rattle.std.specs.Prelude.{◌≡◌, ◌≤◌, ◌⊎◌, ℕ, List, ◌++◌, length, take}
 use Rattle.std.specs.List.{AllByRecursion}
 use Rattle.det_cbor.specs.declared.reason.Reason.{Reason}
@@ -9,16 +9,16 @@ use Rattle.det_cbor.specs.Faults.{Faulty}
 abbrev pub IsItem : List ℕ → Type 0
 IsItem bytes = (x : DataItem) × Spells x bytes
 
--- the first so many bytes spell the item
+-- the first `used` bytes spell the item
 pub record StartsWithItem (bytes : List ℕ) (x : DataItem) (used : ℕ) : Type 0 where
   pub spells : Spells x (take used bytes)
   pub within : used ≤ length bytes
 
--- whatever follows them, these bytes are the item that is read
+-- whatever follows these bytes, they are the item at the front
 abbrev pub ReadsBack : DataItem → List ℕ → Type 0
 ReadsBack x bytes = (rest : List ℕ) → StartsWithItem (bytes ++ rest) x (length bytes)
 
--- just one prefix spells an item, and just one item, and the bytes are not faulty
+-- exactly one prefix spells an item, and only that item, and the bytes are not faulty
 pub record HasOneItem (bytes : List ℕ) : Type 0 where
   pub item : DataItem
   pub used : ℕ
@@ -26,7 +26,7 @@ pub record HasOneItem (bytes : List ℕ) : Type 0 where
   pub only : (x : DataItem) (n : ℕ) → StartsWithItem bytes x n → (x ≡ item) × (n ≡ used)
   pub sound : (place : ℕ) (reason : Reason) → Faulty 0 bytes place reason → ⊥
 
--- the bytes are faulty at just one place and for one reason, and no prefix spells an item
+-- the bytes are faulty at exactly one place, for exactly one reason, and no prefix spells an item
 pub record HasOneFault (bytes : List ℕ) : Type 0 where
   pub place : ℕ
   pub reason : Reason

@@ -1,4 +1,4 @@
--- Lists that others begin with.
+-- Prefixes of lists.
 use Rattle.std.specs.Prelude.{◌≡◌, ℕ, List, ◌++◌}
 
 -- the whole begins with the front

@@ -1,4 +1,4 @@
--- The bytes of a head that is held without memory: a first byte and up to eight behind it.
+-- The bytes of a head that is held without allocating: a first byte and up to eight after it.
 use Rattle.std.specs.Prelude.{ℕ, List, [], ◌∷◌}
 use Rattle.det_cbor.specs.declared.short_head.Behind.{Behind}
 use Rattle.det_cbor.specs.declared.short_head.Behind.TheVariants.{Nothing, One, Two, Four, Eight}

@@ -1,4 +1,4 @@
-//! The order of data items by their spellings, found without spelling them.
+//! The bytewise order of the spellings of data items, found without spelling them.
 
 ghost use Rattle.std.specs.Prelude.{◌≡◌};
 ghost use Rattle.std.specs.Ordering.{nat_cmp};
@@ -34,7 +34,7 @@ fn compare_by_parts(left: &Item, right: &Item) -> Ordering
     }
 }
 
-// Compares what follows two heads that are the same.
+// Compares what follows the heads of two items whose heads are equal.
 #[cycle(compare)]
 fn compare_parts(left: &Item, right: &Item) -> Ordering
     ensures { result ≡ parts_order (tree_of left.now) (tree_of right.now) }
@@ -95,7 +95,7 @@ fn compare_pairs(left: &Pairs, right: &Pairs) -> Ordering
     Ordering::Equal
 }
 
-/// The bytewise order of the spellings of two valid items.
+/// Compares the spellings of two valid items byte by byte, without spelling them.
 pub(crate) fn compare_spellings(left: &Item, right: &Item) -> Ordering
     requires left { IsValid (tree_of left.now) }
     requires right { IsValid (tree_of right.now) }

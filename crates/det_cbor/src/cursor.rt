@@ -1,4 +1,4 @@
-//! A place in bytes that are read from left to right.
+//! A cursor that reads bytes from left to right.
 
 ghost use Rattle.std.specs.Prelude.{◌≡◌, ◌+◌, ◌<◌, ◌^◌, List, ℕ, length, take, Ok, Err, IfOk, IfErr, OnErr, option_map};
 ghost use Rattle.std.specs.Result.{result_ok};
@@ -17,9 +17,9 @@ use crate::skip::split_item;
 use crate::{CborRefusal, Head, Reason};
 use std::marker::Model;
 
-/// Bytes that are read from left to right, and the place of the first that is left.
+/// A cursor over bytes, with the place of the next one.
 ///
-/// A call that is refused leaves the cursor where it stood.
+/// A call that is refused leaves the cursor where it was.
 #[derive(Debug, Drop)]
 pub struct Cursor<'a> {
     rest: &'a [u8],
@@ -38,7 +38,7 @@ impl<'a> Model for Cursor<'a> {
 }
 
 impl<'a> Cursor<'a> {
-    /// A cursor on bytes whose first stands at a place.
+    /// A cursor over `bytes`, whose first byte is at `place`.
     pub fn new(bytes: &'a [u8], place: u64) -> Cursor<'a>
         requires { place + length bytes.now < 2 ^ 64 }
         ensures { result ≡ record { left = bytes.now; place = place } }
@@ -65,7 +65,7 @@ impl<'a> Cursor<'a> {
         self.rest.len()
     }
 
-    /// The next head (RFC 8949, section 3). Counts no levels.
+    /// Reads the next head (RFC 8949, section 3). Does not count levels.
     pub fn head(&mut self) -> Result<Head, CborRefusal>
         ensures exact { option_map (λ head. (head, self.new)) (result_ok result)
             ≡ next_head self.old }
@@ -87,7 +87,8 @@ impl<'a> Cursor<'a> {
         }
     }
 
-    // A fault of a head or a string that was to stand here.
+    // The refusal of a head or a string that was expected here: at the end of the input if it is
+    // truncated, otherwise here.
     fn refusal(&self, reason: Reason) -> CborRefusal
         ensures { result ≡ refusal_at self.now (place_in self.now.left reason) reason }
     {
@@ -98,8 +99,8 @@ impl<'a> Cursor<'a> {
         CborRefusal { place, reason }
     }
 
-    /// The next bytes, as many as are asked for, lent for as long as the input lives. Fewer are
-    /// refused as truncated, at the end of the input.
+    /// Takes the next `count` bytes, which live as long as the input. If fewer are left, the
+    /// refusal is `Truncated`, at the end of the input.
     pub fn bytes(&mut self, count: u64) -> Result<&'a [u8], CborRefusal>
         ensures exact { option_map (λ piece. (piece.now, self.new)) (result_ok result)
             ≡ next_bytes count self.old }
@@ -118,8 +119,8 @@ impl<'a> Cursor<'a> {
         Ok(piece)
     }
 
-    /// Passes over one whole item, and hands out its bytes. It is judged as `decode` judges it:
-    /// levels are counted from this item. Takes no memory.
+    /// Skips one whole item and returns its bytes. The item is judged as by `decode`, with levels
+    /// counted from this item. Allocates nothing.
     pub fn skip(&mut self) -> Result<&'a [u8], CborRefusal>
         ensures exact { option_map (λ piece. (piece.now, self.new)) (result_ok result)
             ≡ next_item self.old }

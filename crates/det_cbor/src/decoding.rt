@@ -15,7 +15,7 @@ use crate::validity::MAX_LEVELS;
 use crate::{Bytes, CborFault, HeadKind, Inner, Item, Items, Pairs, Reason, Text};
 use std::alloc::Global;
 
-// Reads an item with at most so many levels.
+// Reads one item that nests at most `levels` deep.
 #[cycle(read)]
 #[tactic(auto, using(crate::proofs::ReadingSteps::item_at_is))]
 fn read_item(alloc: Global, bytes: &[u8], levels: u8) -> Result<(Item, &[u8]), ReadFault>
@@ -93,8 +93,9 @@ fn read_pairs(
     Ok((pairs, rest))
 }
 
-/// The item that a prefix of the bytes spells, and the length of that prefix (RFC 8949, section
-/// 4.2.1). Bytes after it are ignored. Allocates only for the item, and frees it all after a fault.
+/// Decodes the item at the front of the bytes, and returns it with the number of bytes that it
+/// takes (RFC 8949, section 4.2.1). Bytes after it are ignored. Allocates only for the item, and
+/// frees all of it after a fault.
 pub fn decode(alloc: Global, bytes: &[u8]) -> Result<(Item, usize), CborFault>
     ensures item { IfOk result (λ r. StartsWithItem bytes.now (tree_of r.0) r.1) }
     ensures fault { IfErr result (IsFaultOf bytes.now) }

@@ -1,17 +1,17 @@
-//! Copies in memory of their own.
+//! Fallible copies.
 
 ghost use Rattle.std.specs.Prelude.{◌≡◌, IfOk};
 
 use crate::Text;
 use std::alloc::{AllocError, Global};
 
-/// A value that can be copied into memory of its own.
+/// A value that can be copied, unless memory runs out.
 pub trait Duplicate: Drop {
-    /// An equal value in memory of its own.
+    /// Returns an equal value in memory of its own.
     fn copy(&self, alloc: Global) -> Result<Self, AllocError>
         ensures { IfOk result (λ other. other ≡ self.now) };
 
-    /// Equal values in memory of their own.
+    /// Copies each of the values.
     fn copy_all(values: &[Self], alloc: Global) -> Result<Vec<Self>, AllocError>
         ensures { IfOk result (λ copies. copies.items ≡ values.now) }
     {

@@ -1,4 +1,4 @@
-//! Writing data items at the end of a list of bytes.
+//! Writing data items to the end of a list of bytes.
 
 ghost use Rattle.std.specs.Prelude.{◌≡◌, ◌++◌, OnOk, OnErr, IfOk};
 ghost use Rattle.det_cbor.specs.DataItem.{spell, spell_items, spell_pairs, IsValid, Spells};
@@ -13,7 +13,7 @@ use crate::item_head::head_of;
 use crate::{Bytes, Item, Items, Pairs, push_head};
 use std::alloc::{AllocError, Global};
 
-/// The one spelling of a valid item. `decode` gives the item back, whatever follows the spelling.
+/// Encodes a valid item in its one spelling. `decode` gives the item back, whatever bytes follow.
 #[tactic(auto, using(crate::proofs::ReadingBack::reads_back))]
 pub fn encode(alloc: Global, item: &Item) -> Result<Bytes, AllocError>
     requires { IsValid (tree_of item.now) }
@@ -26,7 +26,7 @@ pub fn encode(alloc: Global, item: &Item) -> Result<Bytes, AllocError>
     Ok(out)
 }
 
-// Adds the head that an item begins with.
+// Appends an item's head.
 fn push_item_head(out: &mut Bytes, item: &Item) -> Result<(), AllocError>
     ensures ok { OnOk result
         (out.new
@@ -37,9 +37,9 @@ fn push_item_head(out: &mut Bytes, item: &Item) -> Result<(), AllocError>
     push_head(out, head_of(item))
 }
 
-/// Adds an item's spelling at the end. Where memory runs out, a part of the spelling may have been added.
+/// Appends an item's spelling. If memory runs out, a part of it may have been appended.
 ///
-/// The call recurses as deep as the item nests, which is bounded for a valid item.
+/// Recurses as deep as the item nests, which is at most 16 levels for a valid item.
 #[cycle(push)]
 pub fn push_item(out: &mut Bytes, item: &Item) -> Result<(), AllocError>
     ensures ok { OnOk result (out.new ≡ out.old ++ spell (tree_of item.now)) }
@@ -49,7 +49,7 @@ pub fn push_item(out: &mut Bytes, item: &Item) -> Result<(), AllocError>
     push_parts(out, item)
 }
 
-// Adds what follows the head.
+// Appends what follows an item's head.
 #[cycle(push)]
 fn push_parts(out: &mut Bytes, item: &Item) -> Result<(), AllocError>
     ensures ok { OnOk result (out.new ≡ out.old ++ spell_parts (tree_of item.now)) }

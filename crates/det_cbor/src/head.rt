@@ -1,4 +1,4 @@
-//! One head of an item: what it begins, and its value.
+//! Heads of data items: the kind of item, and a value.
 
 ghost use Rattle.std.specs.Prelude.{◌≡◌, ◌^◌, ◌+◌, ◌<◌, length, ℕ, List, Ok, Err, IfOk, IfErr};
 ghost use Rattle.std.specs.Int.{w8, w16, w32, w64};
@@ -24,9 +24,9 @@ pub enum HeadKind {
     Null,
 }
 
-/// A head. Its value is a number, a string's length, a count of items or pairs, or a tag.
+/// A head. Its value is a number, the length of a string, a count of items or pairs, or a tag.
 ///
-/// The value of false and of null is 0, and that of true is 1.
+/// The value is 0 for false and for null, and 1 for true.
 #[derive(Clone, Copy, Debug, PartialEq, Eq)]
 pub struct Head {
     pub kind: HeadKind,
@@ -47,7 +47,7 @@ fn kind_of(major: u8) -> HeadKind
     }
 }
 
-// A number that has no shorter head, where it is not below the least of its width.
+// Accepts a number that needs its width. A number below `least` has a shorter head.
 fn shortest(number: u64, least: u64, rest: &[u8]) -> Result<(u64, &[u8]), Reason>
     ensures { map_ok (λ f. (f.0, f.1.now)) result ≡ shortest_from least number rest.now }
 {
@@ -108,7 +108,7 @@ fn argument(low: u8, bytes: &[u8]) -> Result<(u64, &[u8]), Reason>
     }
 }
 
-// False, true or null, or why there is none.
+// Reads false, true or null from the lower five bits of a first byte.
 fn simple(low: u8) -> Result<Head, Reason>
     ensures { result ≡ simple_value low }
 {
@@ -140,8 +140,8 @@ fn read_head(bytes: &[u8]) -> Result<(Head, &[u8]), Reason>
     }
 }
 
-/// The head at the front and the bytes after it, or why there is none. Indefinite and reserved
-/// heads are told by their first byte, before what is cut short.
+/// Splits the head off the front. Indefinite and reserved heads are refused by their first byte
+/// alone, even if the input is also cut short.
 pub(crate) fn split_head(bytes: &[u8]) -> Result<(Head, &[u8]), Reason>
     ensures exact { map_ok (λ f. (f.0, f.1.now)) result ≡ head_at bytes.now }
     ensures begins { IfOk result (λ f. BeginsWith bytes.now f.0 f.1.now) }

@@ -1,4 +1,4 @@
-//! Writing heads at the end of a list of bytes.
+//! Writing heads to the end of a list of bytes.
 
 ghost use Rattle.std.specs.Prelude.{◌≡◌, ◌∷◌, ◌++◌, ◌<◌, OnOk, OnErr};
 ghost use Rattle.det_cbor.specs.Prefix.{IsPrefix};
@@ -23,7 +23,7 @@ pub(crate) fn major_type(kind: HeadKind) -> u8
     }
 }
 
-// The number that stands in the head: false is 20, true 21 and null 22.
+// The argument in the head: 20 for false, 21 for true and 22 for null.
 pub(crate) fn argument(head: Head) -> u64
     requires { IsValueOf head.kind head.value }
     ensures { result ≡ argument_of head.kind head.value }
@@ -35,7 +35,7 @@ pub(crate) fn argument(head: Head) -> u64
     }
 }
 
-// Adds a first byte and what follows it.
+// Appends a first byte and the bytes after it.
 fn push_parts(out: &mut Bytes, first: u8, rest: &[u8]) -> Result<(), AllocError>
     ensures ok { OnOk result (out.new ≡ out.old ++ first ∷ rest.now) }
     ensures err { OnErr result (IsPrefix out.old out.new) }
@@ -44,7 +44,7 @@ fn push_parts(out: &mut Bytes, first: u8, rest: &[u8]) -> Result<(), AllocError>
     out.extend(rest)
 }
 
-/// Adds a head in its shortest form. Where memory runs out, a part of the head may have been added.
+/// Appends a head in its shortest form. If memory runs out, a part of it may have been appended.
 pub fn push_head(out: &mut Bytes, head: Head) -> Result<(), AllocError>
     requires { IsValueOf head.kind head.value }
     ensures ok { OnOk result (out.new ≡ out.old ++ spelled head) }

@@ -22,7 +22,7 @@ pub enum Item {
     Null,
 }
 
-/// The item after a tag, in memory of its own.
+/// The item inside a tag, in a box.
 #[cycle(item)]
 #[derive(Debug, Drop)]
 pub struct Inner {
@@ -48,7 +48,7 @@ impl Model for Inner {
 }
 
 impl Inner {
-    /// Puts an item into memory of its own.
+    /// Boxes an item.
     pub fn new(alloc: Global, item: Item) -> Result<Inner, AllocError>
         ensures { IfOk result (λ inner. inner ≡ tree_of item) }
     {
@@ -56,7 +56,7 @@ impl Inner {
         Ok(Inner { held })
     }
 
-    /// The item, lent.
+    /// Borrows the item.
     pub fn as_item(&self) -> &Item
         ensures { tree_of result.now ≡ self.now }
     {

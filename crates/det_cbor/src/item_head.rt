@@ -1,4 +1,4 @@
-//! The head that an item begins with.
+//! The head of an item.
 
 ghost use Rattle.std.specs.Prelude.{◌≡◌};
 ghost use Rattle.det_cbor.specs.HeadSpelling.{major_of, argument_of, IsValueOf};
@@ -7,14 +7,14 @@ ghost use Rattle.det_cbor.specs.ItemTree.{tree_of};
 
 use crate::{Head, HeadKind, Item};
 
-// A head of its parts, so that each kind of item stands on one line.
+// Short for the struct, so that each kind of item below fits on one line.
 fn head(kind: HeadKind, value: u64) -> Head
     ensures { result ≡ record { kind = kind; value = value } }
 {
     Head { kind, value }
 }
 
-/// The head that an item begins with.
+/// The head that the item's spelling begins with.
 #[tactic(auto, using(crate::proofs::Counts::items_counted, crate::proofs::Counts::pairs_counted))]
 pub(crate) fn head_of(item: &Item) -> Head
     ensures whole { IsValueOf result.kind result.value }

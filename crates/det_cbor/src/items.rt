@@ -34,7 +34,7 @@ impl Model for Items {
 }
 
 impl Items {
-    /// A list of no items, which grows by this allocator. Takes no memory.
+    /// An empty list; allocates nothing until it grows.
     pub fn new(alloc: Global) -> Items
         ensures { result ≡ [] }
     {
@@ -43,21 +43,21 @@ impl Items {
         }
     }
 
-    /// The list that a vector holds. Takes no memory and copies nothing.
+    /// Wraps a vector. Allocates and copies nothing.
     pub fn from_vec(items: Vec<Item>) -> Items
         ensures { result ≡ trees_of items.items }
     {
         Items { held: items }
     }
 
-    /// The vector that the list was made of. Takes no memory and copies nothing.
+    /// Unwraps the vector. Allocates and copies nothing.
     pub fn into_vec(self) -> Vec<Item>
         ensures { trees_of result.items ≡ self }
     {
         self.held
     }
 
-    /// Adds an item at the end. An item for which there is no memory is dropped.
+    /// Appends an item. If memory runs out, the item is dropped.
     pub fn push(&mut self, item: Item) -> Result<(), AllocError>
         ensures ok { OnOk result (self.new ≡ self.old ++ tree_of item ∷ []) }
         ensures err { OnErr result (self.new ≡ self.old) }
@@ -72,7 +72,7 @@ impl Items {
         self.held.len()
     }
 
-    /// The items, lent.
+    /// Borrows the items.
     pub fn as_slice(&self) -> &[Item]
         ensures { trees_of result.now ≡ self.now }
     {

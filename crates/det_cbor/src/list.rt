@@ -1,4 +1,4 @@
-//! Lists.
+//! Growable lists.
 
 ghost use Rattle.std.specs.Prelude.{◌≡◌, [], ◌∷◌, ◌++◌, length, OnOk, OnErr, IsTrue, ◌↔◌, IfOk, slice_get};
 ghost use Rattle.std.specs.Option.{option_copied};
@@ -7,7 +7,7 @@ use crate::{Bytes, Duplicate, Text};
 use std::alloc::{AllocError, Global};
 use std::marker::Model;
 
-/// A list in memory of its own.
+/// A growable list.
 #[derive(Debug, Drop)]
 pub struct List<T> {
     pub(crate) held: Vec<T>,
@@ -39,7 +39,7 @@ impl<T> Model for List<T> {
 }
 
 impl<T: Drop> List<T> {
-    /// A list of no elements, which grows by this allocator. Takes no memory.
+    /// An empty list; allocates nothing until it grows.
     pub fn new(alloc: Global) -> List<T>
         ensures { result ≡ [] }
     {
@@ -48,21 +48,21 @@ impl<T: Drop> List<T> {
         }
     }
 
-    /// The list that a vector holds. Takes no memory and copies nothing.
+    /// Wraps a vector. Allocates and copies nothing.
     pub fn from_vec(elements: Vec<T>) -> List<T>
         ensures { result ≡ elements.items }
     {
         List { held: elements }
     }
 
-    /// The vector that the list was made of. Takes no memory and copies nothing.
+    /// Unwraps the vector. Allocates and copies nothing.
     pub fn into_vec(self) -> Vec<T>
         ensures { result.items ≡ self }
     {
         self.held
     }
 
-    /// Adds an element at the end. One for which there is no memory is dropped.
+    /// Appends an element. If memory runs out, the element is dropped.
     pub fn push(&mut self, element: T) -> Result<(), AllocError>
         ensures ok { OnOk result (self.new ≡ self.old ++ element ∷ []) }
         ensures err { OnErr result (self.new ≡ self.old) }
@@ -77,21 +77,21 @@ impl<T: Drop> List<T> {
         self.held.len()
     }
 
-    /// Whether there are no elements.
+    /// Whether the list is empty.
     pub fn is_empty(&self) -> bool
         ensures { IsTrue result ↔ (self.now ≡ []) }
     {
         self.held.is_empty()
     }
 
-    /// The element at an index, or `None` past the end.
+    /// The element at `index`, or `None` past the end.
     pub fn get(&self, index: usize) -> Option<&T>
         ensures { option_copied result ≡ slice_get self.now index }
     {
         self.held.get(index)
     }
 
-    /// The elements, lent.
+    /// Borrows the elements.
     pub fn as_slice(&self) -> &[T]
         ensures { result.now ≡ self.now }
     {
@@ -100,7 +100,7 @@ impl<T: Drop> List<T> {
 }
 
 impl<T: Duplicate> List<T> {
-    /// An equal list in memory of its own.
+    /// Copies the list and each of its elements.
     pub fn copy(&self, alloc: Global) -> Result<List<T>, AllocError>
         ensures { IfOk result (λ other. other ≡ self.now) }
     {
@@ -117,7 +117,7 @@ impl<T: Duplicate> Duplicate for List<T> {
 }
 
 impl List<Bytes> {
-    /// Whether another list has the same byte strings.
+    /// Whether the other list holds the same byte strings, in the same order.
     pub fn is_same(&self, other: &List<Bytes>) -> bool
         ensures { IsTrue result ↔ (self.now ≡ other.now) }
     {

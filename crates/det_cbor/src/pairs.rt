@@ -34,7 +34,7 @@ impl Model for Pairs {
 }
 
 impl Pairs {
-    /// A list of no pairs, which grows by this allocator. Takes no memory.
+    /// An empty list; allocates nothing until it grows.
     pub fn new(alloc: Global) -> Pairs
         ensures { result ≡ [] }
     {
@@ -43,21 +43,21 @@ impl Pairs {
         }
     }
 
-    /// The list that a vector holds. Takes no memory and copies nothing.
+    /// Wraps a vector. Allocates and copies nothing.
     pub fn from_vec(pairs: Vec<(Item, Item)>) -> Pairs
         ensures { result ≡ pair_trees_of pairs.items }
     {
         Pairs { held: pairs }
     }
 
-    /// The vector that the list was made of. Takes no memory and copies nothing.
+    /// Unwraps the vector. Allocates and copies nothing.
     pub fn into_vec(self) -> Vec<(Item, Item)>
         ensures { pair_trees_of result.items ≡ self }
     {
         self.held
     }
 
-    /// Adds a pair at the end. A pair for which there is no memory is dropped.
+    /// Appends a pair. If memory runs out, the pair is dropped.
     pub fn push(&mut self, key: Item, value: Item) -> Result<(), AllocError>
         ensures ok { OnOk result (self.new ≡ self.old ++ (tree_of key, tree_of value) ∷ []) }
         ensures err { OnErr result (self.new ≡ self.old) }
@@ -72,7 +72,7 @@ impl Pairs {
         self.held.len()
     }
 
-    /// The pairs of a key and its value, lent.
+    /// Borrows the pairs, each a key and its value.
     pub fn as_slice(&self) -> &[(Item, Item)]
         ensures { pair_trees_of result.now ≡ self.now }
     {

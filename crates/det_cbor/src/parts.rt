@@ -1,4 +1,5 @@
-//! Parts of items that hold no items: heads, strings, and the order of keys.
+//! The parts of an item that are not items themselves: heads, strings, and the order of a map's
+//! keys.
 
 ghost use Rattle.std.specs.Prelude.{◌≡◌, ◌<◌, ◌≤◌, length, IfOk, option_map};
 ghost use Rattle.det_cbor.specs.HeadReading.{map_ok, head_at};
@@ -10,7 +11,8 @@ use crate::reason::Stop;
 use crate::{Head, Reason};
 use std::cmp::Ordering;
 
-/// A fault of a head or a string: at the end where the input ends, and else at the head.
+/// The fault of a head or a string that begins at `bytes`: at the end of the input if it is
+/// truncated, otherwise at the head.
 pub(crate) fn stop(bytes: &[u8], reason: Reason) -> Stop
     ensures { result ≡ stop_at bytes.now reason }
 {
@@ -21,8 +23,8 @@ pub(crate) fn stop(bytes: &[u8], reason: Reason) -> Stop
     Stop { left, reason }
 }
 
-/// The levels for the parts of an item that has at most so many, and whose head stands first among
-/// the bytes.
+/// The levels that are left inside an array, a map or a tag. With no level left it is refused at
+/// its head, which is the front of `bytes`.
 #[tactic(auto, using(crate::proofs::ReadingSteps::level_left, crate::proofs::ReadingSteps::no_level_left))]
 pub(crate) fn part_levels(bytes: &[u8], levels: u8) -> Result<u8, Stop>
     ensures reader { map_ok item_at result ≡ nested bytes.now (reader_at levels) }
@@ -35,7 +37,7 @@ pub(crate) fn part_levels(bytes: &[u8], levels: u8) -> Result<u8, Stop>
     Ok(levels - 1)
 }
 
-/// The head at the front, and the bytes after it.
+/// Splits the head off the front.
 pub(crate) fn first_head(bytes: &[u8]) -> Result<(Head, &[u8]), Stop>
     ensures { map_ok (λ f. (f.0, f.1.now)) result ≡ stopped bytes.now (head_at bytes.now) }
 {
@@ -45,7 +47,7 @@ pub(crate) fn first_head(bytes: &[u8]) -> Result<(Head, &[u8]), Stop>
     }
 }
 
-// The bytes of a string after its head, and what follows them.
+// Splits a string of `count` bytes off the bytes after its head.
 fn string(count: u64, rest: &[u8]) -> Result<(&[u8], &[u8]), Reason>
     ensures { map_ok (λ s. (s.0.now, s.1.now)) result ≡ string_at count rest.now }
 {
@@ -55,7 +57,7 @@ fn string(count: u64, rest: &[u8]) -> Result<(&[u8], &[u8]), Reason>
     Ok(rest.split_at(count as usize))
 }
 
-/// The bytes as a text, or `None` where they are not UTF-8.
+/// The bytes as text, or `None` if they are not UTF-8.
 #[tactic(auto, using(crate::proofs::Utf8::good_utf8, crate::proofs::Utf8::bad_utf8))]
 pub fn as_text(bytes: &[u8]) -> Option<&str>
     ensures { option_map (λ t. t.now) result ≡ utf8_text bytes.now }
@@ -73,7 +75,7 @@ fn text(count: u64, rest: &[u8]) -> Result<(&str, &[u8]), Reason>
     }
 }
 
-/// The bytes of a string whose head stands first among the bytes, and what follows them.
+/// Splits a string off the bytes after its head. `bytes` begin with that head.
 pub(crate) fn string_in<'a>(
     bytes: &[u8],
     count: u64,
@@ -88,7 +90,7 @@ pub(crate) fn string_in<'a>(
     }
 }
 
-/// The same for a text.
+/// Splits a text off the bytes after its head. `bytes` begin with that head.
 pub(crate) fn text_in<'a>(
     bytes: &[u8],
     count: u64,
@@ -102,14 +104,14 @@ pub(crate) fn text_in<'a>(
     }
 }
 
-/// The bytes that were read before the rest, which stands at their end.
+/// The bytes up to `rest`, which is their tail.
 pub(crate) fn read_before<'a>(bytes: &'a [u8], rest: &[u8]) -> &'a [u8]
     ensures { result.now ≡ read_of bytes.now rest.now }
 {
     &bytes[..bytes.len().saturating_sub(rest.len())]
 }
 
-/// Judges a key that stands first among these bytes, after the key before it.
+/// Checks that a key sorts above the key before it. `bytes` begin with the key.
 pub(crate) fn order(bytes: &[u8], before: Option<&[u8]>, key: &[u8]) -> Result<(), Stop>
     ensures { result ≡ stopped bytes.now (in_order (option_map (λ b. b.now) before.entry) key.now) }
 {

@@ -1,4 +1,5 @@
-//! Writing the pieces of items at the end of a list of bytes. Where memory runs out, a part of a piece may have been added.
+//! Writing parts of items to the end of a list of bytes. If memory runs out, a part of a piece may
+//! have been appended.
 
 ghost use Rattle.std.specs.Prelude.{◌≡◌, ◌++◌, OnOk, OnErr};
 ghost use Rattle.std.specs.Str.{IsUtf8};
@@ -10,7 +11,7 @@ ghost use Rattle.det_cbor.specs.Prefix.{IsPrefix};
 use crate::{Bytes, Head, HeadKind, push_head};
 use std::alloc::AllocError;
 
-/// Adds the head of a kind and a value.
+/// Appends the head of this kind and value.
 pub fn push_kind(out: &mut Bytes, kind: HeadKind, value: u64) -> Result<(), AllocError>
     requires { IsValueOf kind value }
     ensures ok { OnOk result
@@ -20,7 +21,7 @@ pub fn push_kind(out: &mut Bytes, kind: HeadKind, value: u64) -> Result<(), Allo
     push_head(out, Head { kind, value })
 }
 
-/// Adds the head of an array of so many items.
+/// Appends the head of an array of `count` items.
 pub fn push_count(out: &mut Bytes, count: u64) -> Result<(), AllocError>
     ensures ok { OnOk result (out.new ≡ out.old ++ head_bytes 4 count) }
     ensures err { OnErr result (IsPrefix out.old out.new) }
@@ -28,7 +29,7 @@ pub fn push_count(out: &mut Bytes, count: u64) -> Result<(), AllocError>
     push_kind(out, HeadKind::Array, count)
 }
 
-/// Adds an unsigned number.
+/// Appends an unsigned number.
 pub fn push_number(out: &mut Bytes, number: u64) -> Result<(), AllocError>
     ensures ok { OnOk result (out.new ≡ out.old ++ spell (UnsignedInteger number)) }
     ensures err { OnErr result (IsPrefix out.old out.new) }
@@ -36,7 +37,7 @@ pub fn push_number(out: &mut Bytes, number: u64) -> Result<(), AllocError>
     push_kind(out, HeadKind::Unsigned, number)
 }
 
-/// Adds false or true.
+/// Appends false or true.
 pub fn push_flag(out: &mut Bytes, flag: bool) -> Result<(), AllocError>
     ensures ok { OnOk result (out.new ≡ out.old ++ spell (Boolean flag)) }
     ensures err { OnErr result (IsPrefix out.old out.new) }
@@ -44,7 +45,7 @@ pub fn push_flag(out: &mut Bytes, flag: bool) -> Result<(), AllocError>
     out.push(if flag { 0xf5 } else { 0xf4 })
 }
 
-/// Adds null.
+/// Appends null.
 pub fn push_null(out: &mut Bytes) -> Result<(), AllocError>
     ensures ok { OnOk result (out.new ≡ out.old ++ spell NullItem) }
     ensures err { OnErr result (IsPrefix out.old out.new) }
@@ -52,7 +53,7 @@ pub fn push_null(out: &mut Bytes) -> Result<(), AllocError>
     out.push(0xf6)
 }
 
-/// Adds a byte string of this content.
+/// Appends a byte string with this content.
 pub fn push_string(out: &mut Bytes, content: &[u8]) -> Result<(), AllocError>
     ensures ok { OnOk result (out.new ≡ out.old ++ spell (ByteString content.now)) }
     ensures err { OnErr result (IsPrefix out.old out.new) }
@@ -62,7 +63,7 @@ pub fn push_string(out: &mut Bytes, content: &[u8]) -> Result<(), AllocError>
     out.extend(content)
 }
 
-/// Adds a text.
+/// Appends a text.
 pub fn push_text(out: &mut Bytes, text: &str) -> Result<(), AllocError>
     ensures ok { OnOk result (out.new ≡ out.old ++ spell (TextString text.now)) }
     ensures err { OnErr result (IsPrefix out.old out.new) }

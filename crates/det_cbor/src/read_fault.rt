@@ -1,4 +1,4 @@
-//! Why a reader that takes memory stopped.
+//! Why a reader that allocates has stopped.
 
 ghost use Rattle.std.specs.Prelude.{◌≡◌};
 ghost use Rattle.det_cbor.specs.declared.read_fault.ReadFault.TheVariants as faults;

@@ -1,4 +1,4 @@
-//! A head in its shortest form, without memory.
+//! A head in its shortest form, held without allocating.
 
 ghost use Rattle.std.specs.Prelude.{◌≡◌, ◌∷◌, ◌<◌};
 ghost use Rattle.det_cbor.specs.HeadSpelling.{spelled, IsValueOf};
@@ -9,7 +9,7 @@ use crate::head_writing::{argument, major_type};
 use crate::{Head, HeadKind};
 use std::marker::Model;
 
-// The bytes behind the first.
+// The bytes after the first one.
 #[derive(Debug, Drop)]
 pub(crate) enum Behind {
     Nothing,
@@ -19,7 +19,7 @@ pub(crate) enum Behind {
     Eight([u8; 8]),
 }
 
-/// A head in its shortest form (RFC 8949, section 4.2.1): one to nine bytes. Takes no memory.
+/// A head in its shortest form (RFC 8949, section 4.2.1): one to nine bytes. Allocates nothing.
 #[derive(Debug, Drop)]
 pub struct ShortHead {
     first: u8,
@@ -36,7 +36,7 @@ impl Model for ShortHead {
     ghost view = { λ h. short_bytes h.first h.behind };
 }
 
-// The head of a major type and an argument.
+// The shortest head of a major type and an argument.
 #[tactic(auto, unfolding(crate::specs::Heads::head_bytes))]
 fn shortest(major: u8, argument: u64) -> ShortHead
     requires { major < 8 }
@@ -79,7 +79,7 @@ fn slice_of(behind: &Behind) -> &[u8]
 }
 
 impl ShortHead {
-    /// The head of a kind and a value.
+    /// The head of this kind and value.
     pub fn new(kind: HeadKind, value: u64) -> ShortHead
         requires { IsValueOf kind value }
         ensures { result ≡ spelled (record { kind = kind; value = value }) }
@@ -87,7 +87,7 @@ impl ShortHead {
         shortest(major_type(kind), argument(Head { kind, value }))
     }
 
-    /// The first byte, and those behind it.
+    /// The first byte, and the bytes after it.
     pub fn parts(&self) -> (u8, &[u8])
         ensures { self.now ≡ result.0 ∷ result.1.now }
     {

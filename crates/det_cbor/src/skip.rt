@@ -1,4 +1,4 @@
-//! Passing over one whole item, which is judged as it is when it is read.
+//! Skipping one whole item, which is judged as when it is read.
 
 ghost use Rattle.std.specs.Prelude.{◌≡◌, ◌≤◌, ◌+◌, ◌++◌, ℕ, take, length, None, Ok, Err, IfOk, IfErr};
 ghost use Rattle.det_cbor.specs.declared.reason.Reason.{Reason};
@@ -13,7 +13,7 @@ use crate::reason::Stop;
 use crate::validity::MAX_LEVELS;
 use crate::{CborRefusal, HeadKind};
 
-/// The bytes after the first item, which has at most so many levels.
+/// Skips the first item, which may nest at most `levels` deep, and returns the bytes after it.
 #[cycle(skip)]
 #[tactic(auto, using(crate::proofs::Skipping::skip_at_is))]
 pub(crate) fn skip_item(bytes: &[u8], levels: u8) -> Result<&[u8], Stop>
@@ -64,7 +64,7 @@ fn skip_pairs(count: u64, bytes: &[u8], levels: u8) -> Result<&[u8], Stop>
     Ok(rest)
 }
 
-// The bytes of the first item and those after it, or the fault, with its place among the bytes.
+// Splits the first item off. A refusal counts its place from the first byte.
 #[tactic(auto, unfolding(crate::specs::ItemSkipping::item_split))]
 fn split(bytes: &[u8]) -> Result<(&[u8], &[u8]), CborRefusal>
     ensures { map_ok (λ f. (f.0.now, f.1.now)) result ≡ item_split bytes.now }
@@ -81,7 +81,7 @@ fn split(bytes: &[u8]) -> Result<(&[u8], &[u8]), CborRefusal>
     }
 }
 
-/// The bytes of the first item and those after it, or the fault, with its place among the bytes.
+/// Splits the first item off. A refusal counts its place from the first byte.
 pub(crate) fn split_item(bytes: &[u8]) -> Result<(&[u8], &[u8]), CborRefusal>
     ensures exact { map_ok (λ f. (f.0.now, f.1.now)) result ≡ item_split bytes.now }
     ensures parts { IfOk result (λ f. bytes.now ≡ f.0.now ++ f.1.now) }

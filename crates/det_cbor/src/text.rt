@@ -1,11 +1,11 @@
-//! A text.
+//! Growable text.
 
 ghost use Rattle.std.specs.Prelude.{◌≡◌, [], ◌++◌, length, IfOk, OnOk, OnErr, string_bytes};
 
 use std::alloc::{AllocError, Global};
 use std::marker::Model;
 
-/// A text in memory of its own. A contract sees the bytes of its UTF-8.
+/// A growable text. Contracts see its UTF-8 bytes.
 #[derive(Debug, Drop)]
 pub struct Text {
     held: String,
@@ -20,7 +20,7 @@ impl Model for Text {
 }
 
 impl Text {
-    /// A text of no characters, which grows by this allocator. Takes no memory.
+    /// An empty text; allocates nothing until it grows.
     pub fn new(alloc: Global) -> Text
         ensures { result ≡ [] }
     {
@@ -29,21 +29,14 @@ impl Text {
         }
     }
 
-    /// The text that a string holds. Takes no memory and copies nothing.
+    /// Wraps a string. Allocates and copies nothing.
     pub fn from_string(text: String) -> Text
         ensures { result ≡ string_bytes text }
     {
         Text { held: text }
     }
 
-    /// The string that the text was made of. Takes no memory and copies nothing.
-    pub fn into_string(self) -> String
-        ensures { string_bytes result ≡ self }
-    {
-        self.held
-    }
-
-    /// A text of these characters, copied.
+    /// Copies `text` into a new text.
     pub fn from_str(alloc: Global, text: &str) -> Result<Text, AllocError>
         ensures { IfOk result (λ made. made ≡ text.now) }
     {
@@ -52,7 +45,7 @@ impl Text {
         })
     }
 
-    /// Adds a text at the end.
+    /// Appends a text.
     pub fn push_str(&mut self, text: &str) -> Result<(), AllocError>
         ensures ok { OnOk result (self.new ≡ self.old ++ text.now) }
         ensures err { OnErr result (self.new ≡ self.old) }
@@ -60,21 +53,21 @@ impl Text {
         self.held.push_str(text)
     }
 
-    /// The number of bytes.
+    /// The length in bytes.
     pub fn len(&self) -> usize
         ensures { result ≡ length self.now }
     {
         self.held.len()
     }
 
-    /// The text, lent.
+    /// Borrows the text.
     pub fn as_str(&self) -> &str
         ensures { result.now ≡ self.now }
     {
         self.held.as_str()
     }
 
-    /// An equal text in memory of its own.
+    /// Copies the text.
     pub fn copy(&self, alloc: Global) -> Result<Text, AllocError>
         ensures { IfOk result (λ other. other ≡ self.now) }
     {

@@ -10,27 +10,27 @@ use crate::compare::compare_spellings;
 use crate::{Item, Items, Pairs};
 use std::cmp::Ordering;
 
-// How many arrays, maps and tags may stand round one another.
+// How deep arrays, maps and tags may nest.
 pub(crate) const MAX_LEVELS: u8 = 16;
 
-/// Whether the keys of each map ascend in the bytewise order of their spellings, texts are UTF-8, and arrays, maps and
-/// tags nest at most 16 deep.
+/// Whether an item is valid: the keys of each map ascend in the bytewise order of their spellings,
+/// texts are UTF-8, and arrays, maps and tags nest at most 16 deep.
 ///
-/// Takes no memory, and looks no deeper than the 17th level.
+/// Allocates nothing, and looks no deeper than the 17th level.
 pub fn valid(item: &Item) -> bool
     ensures { IsTrue result ↔ IsValid (tree_of item.now) }
 {
     is_valid_within(0, item)
 }
 
-// Whether a head can hold a number. Its type has that range, so this is said for the proof alone.
+// Whether a head can hold the number. Any `u64` fits; the proof needs it said.
 fn is_number(number: u64) -> bool
     ensures { IsTrue result ↔ (number < 2 ^ 64) }
 {
     number <= u64::MAX
 }
 
-// Whether these are bytes whose count a head can hold, which they are by their type.
+// Whether a head can hold the number of bytes, which it always can.
 fn is_string(bytes: &[u8]) -> bool
     ensures { IsTrue result ↔ IsString bytes.now }
 {
@@ -43,7 +43,7 @@ fn is_text(text: &str) -> bool
     is_string(text.as_bytes())
 }
 
-// Whether a head can hold the count of these items, as above.
+// Whether a head can hold the number of items, which it always can.
 #[tactic(auto, using(crate::proofs::Counts::items_counted))]
 fn is_item_count(items: &Items) -> bool
     ensures { IsTrue result ↔ (item_count (items_of items.now) < 2 ^ 64) }
@@ -58,7 +58,7 @@ fn is_pair_count(pairs: &Pairs) -> bool
     is_number(pairs.len() as u64)
 }
 
-// Whether a key stands above the key before it.
+// Whether a key sorts above the key before it.
 fn is_above(before: Option<&Item>, key: &Item) -> bool
     requires key { IsValid (tree_of key.now) }
     requires before { IfSome before (λ x. IsValid (tree_of x.now)) }
@@ -71,7 +71,7 @@ fn is_above(before: Option<&Item>, key: &Item) -> bool
     }
 }
 
-// Whether an item is valid with so many levels around it.
+// Whether an item is valid inside `levels` arrays, maps and tags.
 #[cycle(valid)]
 fn is_valid_within(levels: u8, item: &Item) -> bool
     ensures { IsTrue result ↔ IsValidWithin levels (tree_of item.now) }

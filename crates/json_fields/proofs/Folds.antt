@@ -12,11 +12,11 @@ use Rattle.json_fields.specs.Flaws.{under, flawed}
 use Rattle.json_fields.specs.Pointers.{key_token}
 use Rattle.json_fields.specs.Objects.{Takes, members_of, object_of}
 
--- the elements read after some that were read before
+-- the elements that are read, after those read before
 abbrev pub after : {A : Type 0} → List A → Result (List A) Flaw → Result (List A) Flaw
 after xs read = read >>= λ ys. Ok (xs ++ ys)
 
--- a fault, told as that of a part
+-- a fault as that of a part of the whole
 abbrev pub Moved : List ℕ → JsonFault → Result Unit JsonFault → Type 0
 Moved token fault result = (said : Result Unit Flaw) → Gives (λ x. x) (Err fault) said → Gives (λ x. x) result (under token said)
 
@@ -24,7 +24,7 @@ pub members_of-taken : {D : Type 0} (takes : Takes D) (d e : D) (k : List ℕ) (
     → takes d k x ≡ Ok e → members_of takes d (member k x others) ≡ members_of takes e others
 members_of-taken takes d e k x others h = rw h
 
--- the flaw of what was not read
+-- the flaw of something that was not read
 abbrev flaw_or : Flaw → Result Unit Flaw → Flaw
 flaw_or other (Ok x) = other
 flaw_or other (Err f) = f

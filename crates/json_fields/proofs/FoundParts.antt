@@ -1,4 +1,4 @@
--- The part of a value that a pointer of flaws finds.
+-- The part of a value that the pointer of a flaw finds.
 use Rattle.std.proofs.Common.{◌≡◌, ◌≢◌, ℕ, zero, suc, ◌^◌, ◌<◌, List, [], ◌∷◌, ◌++◌, length, get_or, Bool, true, false, not, ◌||◌, ◌==◌, decimal, Option, Some, None, option_and_then, refl, sym, ap, subst, ◌∙◌, arith, append-nil, ⊎_elim, ne_eqb, eq-eqb, lt-ltb}
 use Rattle.std.specs.Char.{digit_value}
 use Rattle.std.specs.Str.Parse.{AllDigits}
@@ -95,7 +95,7 @@ or_true : (b : Bool) → (b || true) ≡ true
 or_true true = refl
 or_true false = refl
 
--- one digit, or no zero before the others
+-- there is a single digit, or no leading zero
 is_short : (n : ℕ) → n < 2 ^ 64 → (length (decimal n) == 1 || not (get_or (decimal n) 0 0 == 48)) ≡ true
 is_short n fits = ⊎_elim zero_digit other_digits (cases_eq n 0)
   where

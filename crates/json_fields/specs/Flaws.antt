@@ -7,12 +7,12 @@ use Rattle.json_fields.specs.declared.flaw.FlawKind.{FlawKind}
 abbrev pub flawed : {A : Type 0} → FlawKind → Result A Flaw
 flawed kind = Err (record { kind = kind; pointer = [] })
 
--- a result for a part, told for the whole, where the part stands under this token of a pointer
+-- the result for a part, as a result for the whole, in which the part is found under this token of a pointer
 abbrev pub under : {A : Type 0} → List ℕ → Result A Flaw → Result A Flaw
 under token (Ok x) = Ok x
 under token (Err f) = Err (record { kind = f.kind; pointer = token ++ f.pointer })
 
--- the result found, or a flaw of the value itself
+-- what was found, or a flaw of the value itself
 abbrev pub found_or : {A : Type 0} → FlawKind → Option A → Result A Flaw
 found_or kind (Some x) = Ok x
 found_or kind None = flawed kind

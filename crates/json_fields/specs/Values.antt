@@ -4,7 +4,7 @@ use Rattle.std.specs.Result.{result_ok}
 use Rattle.det_cbor.specs.HeadReading.{◌>>=◌}
 use Rattle.serde_json.specs.Data.{Data}
 use Rattle.serde_json.specs.Find.{as_number, as_u64, as_str, as_bool}
-use Rattle.hex.specs.Hex.{decode_of, decode_sized}
+use Rattle.hex.specs.Hex.{decode_of}
 use Rattle.uuid.specs.Text.{parsed}
 use Rattle.json_fields.specs.declared.flaw.Flaw.{Flaw}
 use Rattle.json_fields.specs.declared.flaw.FlawKind.TheVariants.{Field, Hex, Uuid}
@@ -19,17 +19,13 @@ number_up_to limit d =
 abbrev pub flag_of : Data → Result Bool Flaw
 flag_of d = found_or Field (as_bool d)
 
--- a text, by the bytes of its UTF-8
+-- a text, as the bytes of its UTF-8
 abbrev pub text_of : Data → Result (List ℕ) Flaw
 text_of d = found_or Field (as_str d)
 
--- bytes, by two hexadecimal digits each
+-- bytes, from two hexadecimal digits each
 abbrev pub hex_of : Data → Result (List ℕ) Flaw
 hex_of d = text_of d >>= λ text. found_or Hex (result_ok (decode_of text))
-
--- so many bytes
-abbrev pub sized_hex_of : ℕ → Data → Result (List ℕ) Flaw
-sized_hex_of n d = text_of d >>= λ text. found_or Hex (result_ok (decode_sized text n))
 
 -- the sixteen bytes of a UUID (RFC 9562), in any of its text forms
 abbrev pub uuid_of : Data → Result (List ℕ) Flaw

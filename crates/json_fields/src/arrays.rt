@@ -11,7 +11,7 @@ use det_cbor::Bytes;
 use serde_json::Value;
 use std::alloc::Global;
 
-/// How one element of an array is read.
+/// How the elements of an array are read.
 pub trait Form {
     type Item: Drop;
 
@@ -25,7 +25,7 @@ pub trait Form {
         ensures { Gives (λ x. x) result (reads self.now (view value.now)) };
 }
 
-/// An array, each of its elements by the same form.
+/// Reads an array, each element by the same form.
 pub fn array<F: Form>(alloc: Global, value: &Value, form: &F) -> Result<Vec<F::Item>, JsonFault>
     ensures { Gives (λ v. v.items) result (array_of (F.reads form.now) (view value.now)) }
 {
@@ -42,7 +42,7 @@ pub fn array<F: Form>(alloc: Global, value: &Value, form: &F) -> Result<Vec<F::I
     Ok(items)
 }
 
-/// Bytes, each as `hex` reads them.
+/// The form of bytes, which are read by `hex`.
 #[derive(Drop)]
 pub struct HexBytes;
 

@@ -1,4 +1,4 @@
-//! Flaws of a value, and their places.
+//! The flaws of a value, and where they are.
 
 ghost use Rattle.std.specs.Prelude.{◌≡◌};
 ghost use Rattle.json_fields.specs.declared.flaw.JsonFault.TheVariants as faults;
@@ -13,14 +13,15 @@ pub enum JsonFault {
     NoMemory,
 }
 
-/// The flaw of a value.
+/// What is wrong with a value.
 #[derive(Clone, Copy, Debug, PartialEq, Eq)]
 pub enum FlawKind {
-    /// It is of the wrong kind, or breaks a rule of its kind; or a field is unknown, or missing.
+    /// The value is of the wrong kind or breaks a rule of its kind, or a field is unknown or
+    /// missing.
     Field,
-    /// A text that is not hexadecimal, two digits for each byte, or not of so many bytes.
+    /// The text is not hexadecimal with two digits for each byte, or has another number of bytes.
     Hex,
-    /// A text that is no UUID.
+    /// The text is not a UUID.
     Uuid,
 }
 
@@ -28,8 +29,8 @@ pub enum FlawKind {
 #[derive(Debug, Drop)]
 pub struct Flaw {
     pub kind: FlawKind,
-    /// Where it is, from the value that was read: a JSON Pointer (RFC 6901). A missing field has the place that it
-    /// would have.
+    /// Where the flaw is, counted from the value that was read: a JSON Pointer (RFC 6901). A
+    /// missing field is at the place that it would have.
     pub pointer: Text,
 }
 

@@ -2,8 +2,8 @@
 
 ghost use Rattle.json_fields.specs.PointerLaws.{Escapes, MissingPlaces, PointerLaws};
 
-/// A flaw is told at the part of the value that it is of, and a missing field where it would be
-/// (RFC 6901).
+/// A flaw is reported at the part of the value that is flawed, and a missing field where it would
+/// be (RFC 6901).
 pub fn pointer_laws()
     ensures escapes { Escapes }
     ensures missing { MissingPlaces }

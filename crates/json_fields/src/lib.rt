@@ -1,4 +1,5 @@
-//! Reading the fields of JSON values (RFC 8259): what is wrong first, and where, by a JSON Pointer (RFC 6901).
+//! Reading the fields of JSON values (RFC 8259): the first flaw is reported with its place, as a
+//! JSON Pointer (RFC 6901).
 #![tactic(auto)]
 
 mod arrays;
@@ -13,4 +14,4 @@ pub use flaw::{Flaw, FlawKind, JsonFault};
 pub use law::pointer_laws;
 pub use objects::{Draft, object, required};
 pub use pointer::{at_index, at_key};
-pub use values::{flag, flawed, hex, number, sized_hex, text, uuid};
+pub use values::{flag, flawed, hex, number, text, uuid};

@@ -10,18 +10,20 @@ use crate::{FlawKind, JsonFault, at_key};
 use serde_json::Value;
 use std::alloc::Global;
 
-/// A kind of object, while its members are read.
+/// An object whose members are being read.
 pub trait Draft {
     ghost use Rattle.json_fields.specs.Objects.{Takes};
 
     ghost takes: { Takes Self };
 
-    /// Takes one more member. An unknown key is a flaw of the value. After a fault the draft holds anything.
+    /// Takes the next member. An unknown key is a flaw of its value. After a fault the draft may
+    /// hold anything.
     fn take(&mut self, alloc: Global, key: &str, value: &Value) -> Result<(), JsonFault>
         ensures { Gives (λ _. self.new) result (takes self.old key.now (view value.now)) };
 }
 
-/// Reads an object's members into a draft, in the order of their keys' bytes. After a fault the draft holds anything.
+/// Reads an object's members into a draft, in the bytewise order of their keys. After a fault the
+/// draft may hold anything.
 pub fn object<D: Draft>(alloc: Global, value: &Value, draft: &mut D) -> Result<(), JsonFault>
     ensures { Gives (λ _. draft.new) result (object_of D.takes draft.old (view value.now)) }
 {
@@ -38,7 +40,7 @@ pub fn object<D: Draft>(alloc: Global, value: &Value, draft: &mut D) -> Result<(
     Ok(())
 }
 
-/// A required field of an object, under this key.
+/// A required field of an object, which has this key.
 pub fn required<T: Drop>(alloc: Global, key: &str, field: Option<T>) -> Result<T, JsonFault>
     ensures { Gives (λ x. x) result (said_required key.now field) }
 {

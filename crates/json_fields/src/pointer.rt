@@ -1,4 +1,4 @@
-//! Where a part stands in the whole (RFC 6901).
+//! The place of a part in the whole (RFC 6901).
 
 ghost use Rattle.std.specs.Prelude.{◌≡◌, ◌++◌, Result, IfOk, string_bytes};
 ghost use Rattle.json_fields.specs.declared.flaw.Flaw.{Flaw};
@@ -10,7 +10,7 @@ use crate::{Flaw, JsonFault};
 use det_cbor::Text;
 use std::alloc::{AllocError, Global};
 
-// A name as a pointer writes it, without the slash before it.
+// A name as it appears in a pointer, without the slash before it.
 fn escaped(alloc: Global, key: &str) -> Result<String, AllocError>
     ensures { IfOk result (λ s. string_bytes s ≡ escape key.now) }
 {
@@ -28,14 +28,14 @@ fn escaped(alloc: Global, key: &str) -> Result<String, AllocError>
     }
 }
 
-// A step from a value to a part of it.
+// A step from a value to one of its parts.
 #[derive(Clone, Copy)]
 enum Step<'a> {
     Key(&'a str),
     Index(usize),
 }
 
-// A place, counted from where the step begins.
+// Puts a step in front of a pointer.
 fn step_below(alloc: Global, step: Step<'_>, pointer: &Text) -> Result<Text, AllocError>
     ensures { IfOk result (λ p. p ≡ step_token step.entry ++ pointer.now) }
 {
@@ -49,7 +49,7 @@ fn step_below(alloc: Global, step: Step<'_>, pointer: &Text) -> Result<Text, All
     }
 }
 
-// The reading of a part, with the flaw's place counted from the whole.
+// Passes on what was read of a part, with the place of a flaw counted from the whole.
 fn at_step<T>(alloc: Global, step: Step<'_>, read: Result<T, JsonFault>) -> Result<T, JsonFault>
     ensures { (said : Result T Flaw) → Gives (λ x. x) read said
         → Gives (λ x. x) result (under (step_token step.entry) said) }
@@ -67,7 +67,7 @@ fn at_step<T>(alloc: Global, step: Step<'_>, read: Result<T, JsonFault>) -> Resu
     }
 }
 
-/// The reading of a member's value, with the flaw's place counted from the object.
+/// Passes on what was read of a member, with the place of a flaw counted from the object.
 pub fn at_key<T>(alloc: Global, key: &str, read: Result<T, JsonFault>) -> Result<T, JsonFault>
     ensures { (said : Result T Flaw) → Gives (λ x. x) read said
         → Gives (λ x. x) result (under (key_token key.now) said) }
@@ -75,7 +75,7 @@ pub fn at_key<T>(alloc: Global, key: &str, read: Result<T, JsonFault>) -> Result
     at_step(alloc, Step::Key(key), read)
 }
 
-/// The reading of an element, with the flaw's place counted from the array.
+/// Passes on what was read of an element, with the place of a flaw counted from the array.
 pub fn at_index<T>(alloc: Global, index: usize, read: Result<T, JsonFault>) -> Result<T, JsonFault>
     ensures { (said : Result T Flaw) → Gives (λ x. x) read said
         → Gives (λ x. x) result (under (index_token index) said) }

@@ -5,16 +5,16 @@ ghost use Rattle.serde_json.specs.View.{view};
 ghost use Rattle.json_fields.specs.declared.flaw.Flaw.{Flaw};
 ghost use Rattle.json_fields.specs.Answers.{Gives};
 ghost use Rattle.json_fields.specs.Flaws.{flawed as said_flawed};
-ghost use Rattle.json_fields.specs.Values.{number_up_to, flag_of, text_of, hex_of, sized_hex_of, uuid_of};
+ghost use Rattle.json_fields.specs.Values.{number_up_to, flag_of, text_of, hex_of, uuid_of};
 
 use crate::{Flaw, FlawKind, JsonFault};
 use det_cbor::{Bytes, Text};
-use hex::{FromHex, FromHexError};
+use hex::FromHexError;
 use serde_json::Value;
 use std::alloc::Global;
 use uuid::Uuid;
 
-/// A flaw of the value itself. Takes no memory.
+/// A flaw of the value itself. Allocates nothing.
 pub fn flawed<T>(alloc: Global, kind: FlawKind) -> Result<T, JsonFault>
     ensures { Gives (λ x. x) result (said_flawed kind) }
 {
@@ -24,7 +24,7 @@ pub fn flawed<T>(alloc: Global, kind: FlawKind) -> Result<T, JsonFault>
     }))
 }
 
-/// A whole number up to a limit. Takes no memory.
+/// Reads a whole number up to a limit. Allocates nothing.
 pub fn number(alloc: Global, value: &Value, limit: u64) -> Result<u64, JsonFault>
     ensures { Gives (λ n. n) result (number_up_to limit (view value.now)) }
 {
@@ -34,7 +34,7 @@ pub fn number(alloc: Global, value: &Value, limit: u64) -> Result<u64, JsonFault
     }
 }
 
-/// True or false. Takes no memory.
+/// Reads true or false. Allocates nothing.
 pub fn flag(alloc: Global, value: &Value) -> Result<bool, JsonFault>
     ensures { Gives (λ b. b) result (flag_of (view value.now)) }
 {
@@ -44,7 +44,7 @@ pub fn flag(alloc: Global, value: &Value) -> Result<bool, JsonFault>
     }
 }
 
-/// A text, copied.
+/// Reads and copies a text.
 pub fn text(alloc: Global, value: &Value) -> Result<Text, JsonFault>
     ensures { Gives (λ t. t) result (text_of (view value.now)) }
 {
@@ -54,7 +54,7 @@ pub fn text(alloc: Global, value: &Value) -> Result<Text, JsonFault>
     }
 }
 
-/// Bytes, as a text of two hexadecimal digits for each, of either case.
+/// Reads bytes from a text of two hexadecimal digits each, in either case.
 pub fn hex(alloc: Global, value: &Value) -> Result<Bytes, JsonFault>
     ensures { Gives (λ b. b) result (hex_of (view value.now)) }
 {
@@ -68,21 +68,8 @@ pub fn hex(alloc: Global, value: &Value) -> Result<Bytes, JsonFault>
     }
 }
 
-/// So many bytes, as `hex`. Takes no memory.
-pub fn sized_hex<const N: usize>(alloc: Global, value: &Value) -> Result<[u8; N], JsonFault>
-    ensures { Gives (λ b. b) result (sized_hex_of N (view value.now)) }
-{
-    match value.as_str() {
-        Some(text) => match <[u8; N] as FromHex>::from_hex(text) {
-            Ok(bytes) => Ok(bytes),
-            Err(_) => flawed(alloc, FlawKind::Hex),
-        },
-        None => flawed(alloc, FlawKind::Field),
-    }
-}
-
-/// The bytes of a UUID (RFC 9562): 32 hexadecimal digits, hyphenated ones, those in braces or behind `urn:uuid:`.
-/// Takes no memory.
+/// Reads the bytes of a UUID (RFC 9562): 32 hexadecimal digits, plain, hyphenated, in braces, or
+/// after `urn:uuid:`. Allocates nothing.
 pub fn uuid(alloc: Global, value: &Value) -> Result<[u8; 16], JsonFault>
     ensures { Gives (λ b. b) result (uuid_of (view value.now)) }
 {

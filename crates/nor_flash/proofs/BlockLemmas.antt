@@ -1,4 +1,4 @@
--- Blocks of a device of which another block was changed, and what becomes of the disk.
+-- A device of which one block was changed, and what becomes of the disk.
 use Rattle.std.proofs.Common.{◌≡◌, ◌≢◌, inl, inr, ⊎_elim, ◌<◌, ◌≤◌, ◌+◌, ◌-◌, ◌*◌, ℕ, List, length, take, replicate, Option, Some, None, ◌&&◌, nat_lt, eqb, get_or, refl, sym, ◌∙◌, ap, subst, arith}
 use Rattle.std.specs.Int.{w64, from_be_bytes}
 use Rattle.std.specs.List.{slice_range}
@@ -14,7 +14,7 @@ use Rattle.nor_flash.specs.NorLaws.{length-with_block, with_block-in, with_block
 
 -- ---- names
 
--- all three names are those of the block
+-- all three names are set to this block
 pub record AreNames (m a b c block : ℕ) : Type 0 where
   pub first : a ≡ block
   pub second : b ≡ block
@@ -34,11 +34,11 @@ pub none_unless : (o : Option ℕ) → ((c : ℕ) → o ≡ Some c → ⊥) → 
 none_unless None other = refl
 none_unless (Some c) other = absurd (other c refl)
 
--- a number that no block has
+-- the number in an erased name, which is no block's
 abbrev pub blank_name : ℕ
 blank_name = 18446744073709551615
 
--- one of the names is blank: no block is named
+-- if one of the names is blank, no block is named
 pub first_blank : (m a b c : ℕ) → m ≤ blank_name → a ≡ blank_name → named_by m a b c ≡ None
 first_blank m a b c few is = none_unless (named_by m a b c) (λ block at. let names = names_of m a b c block at in omega (arith, names.first, names.within, is, few))
 
@@ -48,7 +48,7 @@ second_blank m a b c few is = none_unless (named_by m a b c) (λ block at. let n
 pub third_blank : (m a b c : ℕ) → m ≤ blank_name → c ≡ blank_name → named_by m a b c ≡ None
 third_blank m a b c few is = none_unless (named_by m a b c) (λ block at. let names = names_of m a b c block at in omega (arith, names.third, names.within, is, few))
 
--- three names of one block name it
+-- three names set to the same block name it
 pub three_names : (m a b c block : ℕ) → a ≡ block → b ≡ block → c ≡ block → block < m → named_by m a b c ≡ Some block
 three_names m a b c block first second third within = grind (arith, first, second, third, within)
 
@@ -63,7 +63,7 @@ erased_read block n room before now size fits same read all i low high =
     ap (λ l. get_or l (i - 4096 * block) 0) read ∙ get_or-between before (4096 * block) (4096 * block + n) (i - 4096 * block) 0 (omega (arith, low, high, size)) in
     ap (λ l. get_or l i 0) same ∙ subst (λ (j : ℕ). get_or before j 0 ≡ 255) at (sym got ∙ all (i - 4096 * block) (omega (arith, low, high, long, size)))
 
--- it has a byte that is not 0xFF: it was not erased
+-- a block with a byte that is not 0xFF is not erased
 pub not_erased : (block i : ℕ) (room before : List ℕ) → IsFirstOther room 255 i → 4096 * block + 4096 ≤ length before
     → room ≡ slice_range before (4096 * block) (4096 * block + 4096) → IsErased block before → ⊥
 not_erased block i room before other fits read erased =
@@ -131,12 +131,12 @@ module _ (m : ℕ) (a : List ℕ) (fits : length a ≡ 4096 * (m + 4)) where
     with_block_same b behind other =
         ap (λ (l : List ℕ). written l (4096 * b) (image_block m d)) (front_same behind) ∙ ap (written (front m a) (4096 * b)) (image_same other)
 
-    -- another block that is erased stays so
+    -- another block that is erased stays erased
     pub erased_same : (j : ℕ) → block ≢ j → IsErased j a → IsErased j d
     erased_same j other erased i low high =
         same.same i (⊎_elim (λ below. inr (omega (arith, below, low))) (λ above. inl (omega (arith, above, other, low, high))) (cases_lt block j)) ∙ erased i low high
 
-    -- the block that the image block stands for
+    -- what becomes of the named block does not matter, since the image block replaces it
     pub block_is_over : block < m → with_block m block d ≡ with_block m block a
     block_is_over within =
         let d_fits : length d ≡ length a = same.size in

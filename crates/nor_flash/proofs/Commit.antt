@@ -1,4 +1,4 @@
--- The last name is programmed: from then on the block stands in the image block.
+-- Setting the last name: from then on the block is in the image block.
 use Rattle.std.proofs.Common.{◌≡◌, inl, inr, ⊎_elim, ◌<◌, ◌≤◌, ◌+◌, ◌*◌, ◌^◌, ℕ, zero, suc, List, length, Option, Some, None, refl, sym, ◌∙◌, ap, subst, arith}
 use Rattle.suit_edge.specs.Flash.{Flash, Grows, Keeps, ImageOn}
 use Rattle.suit_edge.specs.Ranges.{AreBytes, SameOn, written}
@@ -59,7 +59,7 @@ module _ (m size : ℕ) (all : 4096 * (m + 4) ≡ size) (few : m ≤ blank_name)
   pub not_committed : IsCommit m block a phases.GivenUp b
   not_committed = by_seen phases.GivenUp (inl (front_same m a.reads fits (m + 3) b.reads kept.reads (omega arith)))
 
-  -- all three names are then of the block
+  -- all three names are then set to the block
   pub named_then : name_in (m + 2) a.reads ≡ block → block < m → name_in (m + 3) b.reads ≡ block → named m b.reads ≡ Some block
   named_then second within third =
       let one = name_same m a.reads fits (m + 3) b.reads kept.reads (m + 1) (λ e. absurd (omega (arith, e))) (omega arith) in
@@ -69,7 +69,7 @@ module _ (m size : ℕ) (all : 4096 * (m + 4) ≡ size) (few : m ≤ blank_name)
   pub shown_then : named m b.reads ≡ Some block → plain m b.reads ≡ with_block m block a.reads
   shown_then is = plain_named m block b.reads is ∙ with_block_same m a.reads fits (m + 3) b.reads kept.reads block (omega arith) (λ e. absurd (omega (arith, e)))
 
--- the name of an erased block that is programmed
+-- a name in an erased block, once it is programmed
 pub programmed_name : (old new bytes : List ℕ) (j block : ℕ) → 4096 * j + 4096 ≤ length old → IsErased j old → block < 2 ^ 64 → bytes ≡ to_be_bytes w64 block → length bytes ≡ 8
     → AreBytes bytes → new ≡ cleared old (4096 * j) bytes → name_in j new ≡ block
 unfolding name_in cleared

@@ -109,7 +109,7 @@ unfolding cleared
 cleared_written old bytes place fits clears =
     ap (written old place) (ands_kept (slice_range old place (place + length bytes)) bytes (length-between old place (place + length bytes) fits ∙ omega arith) clears)
 
--- the disk's part of what is written there
+-- the front of the device after the write is the disk after it
 pub front_written : (m : ℕ) (old bytes : List ℕ) (place : ℕ) → 4096 * (m + 4) ≡ length old → place + length bytes ≤ 4096 * m
     → front m (written old place bytes) ≡ written (front m old) place bytes
 front_written m old bytes place all inside =

@@ -1,4 +1,4 @@
--- A disk whose blocks are the device's.
+-- A disk whose blocks are as they are on the device.
 use Rattle.std.proofs.Common.{◌≡◌, ◌<◌, ◌≤◌, ◌+◌, ◌*◌, ℕ, List, length, None, refl, sym, ◌∙◌, ap, subst, arith, get_or-take}
 use Rattle.std.specs.List.{slice_range}
 use Rattle.std.proofs.lemmas.List.{ext_get_or}

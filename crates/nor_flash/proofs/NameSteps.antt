@@ -1,4 +1,4 @@
--- The three names are erased, one after another.
+-- The three names are erased one by one.
 use Rattle.std.proofs.Common.{◌≡◌, ◌≢◌, ◌⊎◌, ⊎_elim, ◌<◌, ◌≤◌, ◌+◌, ◌*◌, ℕ, List, length, ◌∙◌, sym, subst, arith}
 use Rattle.suit_edge.specs.Flash.{Flash, IsFlash, IsSettled, Grows, Keeps}
 use Rattle.suit_edge.specs.Ranges.{AreBytes, SameOn}
@@ -20,7 +20,7 @@ pub record IsCalm (size : ℕ) (f : Flash) : Type 0 where
 pub calm_at : (size : ℕ) (f : Flash) (extent : ℕ) → extent ≡ size → IsFlash f extent → IsSettled f → AreBytes f.reads → IsCalm size f
 calm_at size f extent is law settled bytes = record { law = subst (λ (n : ℕ). IsFlash f n) is law; settled = settled; bytes = bytes }
 
--- its disk is one
+-- the disk on such a device obeys the laws
 pub calm_disk : (size : ℕ) (phase : Phase) (f : Flash) → IsCalm size f → IsFlash (nor_flash (blocks_of size) phase f) (4096 * blocks_of size)
 calm_disk size phase f calm = nor_obeys size phase f calm.law calm.settled calm.bytes
 
@@ -52,7 +52,7 @@ module _ (size : ℕ) (all : 4096 * (blocks_of size + 4) ≡ size) (few : blocks
       three_names = steady_then (blocks_of size) (4096 * blocks_of size) phase phase phase a c d (calm_disk size phase c calm_c) two_names
           (quiet_step (blocks_of size) size phase c d (blocks_of size + 3) calm_c.law calm_c.settled (third_quiet (blocks_of size) few c.reads (calm_c.law.fits ∙ sym all) phase can first second names still) kept_3 grown_3)
 
--- then all three are erased
+-- all three names are erased then
 pub all_erased : (m : ℕ) (b c d : List ℕ) → length b ≡ 4096 * (m + 4) → (first second : ℕ) → AreFirstNames first second → IsErased (m + first) b
     → SameOn (OutsideBlock (m + second)) b c → IsErased (m + second) c → SameOn (OutsideBlock (m + 3)) c d → IsErased (m + 3) d → AreErased m d
 all_erased m b c d fits first second names erased kept erased_2 kept_2 erased_3 =

@@ -1,4 +1,4 @@
--- The disk is read while a block is named.
+-- Reading the disk while a block is named.
 use Rattle.std.proofs.Common.{◌≡◌, ◌⊎◌, inl, inr, ⊎_elim, ◌<◌, ◌≤◌, ◌+◌, ◌-◌, ◌*◌, ℕ, List, length, get_or, refl, sym, ◌∙◌, subst, ap, arith}
 use Rattle.std.specs.List.{slice_range}
 use Rattle.std.proofs.lemmas.Bool.{cases_lt}
@@ -31,17 +31,17 @@ module _ (m block : ℕ) (within : block < m) (a : List ℕ) (fits : length a �
   bare_size : length bare ≡ n
   bare_size = omega (arith, length-between a place (place + n) (omega (arith, fits, inside)))
 
-  -- a byte outside the block is the device's
+  -- a byte outside the named block is the device's
   beside : (k : ℕ) → k < n → OutsideBlock block (place + k) → get_or bare k 0 ≡ get_or wanted k 0
   beside k lt out =
       get_or-between a place (place + n) k 0 (omega arith)
       ∙ sym (get_or-between shown place (place + n) k 0 (omega arith) ∙ with_block-out m (length a) room_for a refl block within (place + k) (omega (arith, lt, inside)) out)
 
-  -- the range has no byte of the block
+  -- the range has no byte of the named block
   pub none_named : ((k : ℕ) → k < n → OutsideBlock block (place + k)) → bare ≡ wanted
   none_named out = ext_get_or 0 bare wanted (bare_size ∙ sym wanted_size) (λ k lt. beside k (omega (arith, lt, bare_size)) (out k (omega (arith, lt, bare_size))))
 
-  -- a part of it has
+  -- a part of the range is in the named block
   module _ (start from to : ℕ) (at : start ≡ 4096 * block) (low : start ≤ from) (high : to ≤ start + 4096) (order : from ≤ to) (first : place ≤ from) (last : to ≤ place + n)
       (below : (k : ℕ) → k < from - place → place + k < start) (above : (k : ℕ) → to - place ≤ k → k < n → start + 4096 ≤ place + k) where
     abbrev part : List ℕ

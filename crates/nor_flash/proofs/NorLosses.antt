@@ -11,7 +11,7 @@ use Rattle.nor_flash.specs.MemoryNorLaws.{memory_rests, nor_reads_bytes, now_rea
 use Rattle.nor_flash.specs.NorLossLaws.{NorLossLaw}
 use Rattle.nor_flash.proofs.NorSteps.{step_or_before}
 
--- a device on which no call was counted
+-- a device on which no call has been counted
 abbrev state : ℕ → List Step → NorState
 state blocks steps = record { blocks = blocks; steps = steps; erases = 0; calls = uncalled [] }
 

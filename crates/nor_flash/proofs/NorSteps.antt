@@ -31,7 +31,7 @@ after_step-fits : (bytes : List ℕ) (s : Step) → (range_of s).place + (range_
 unfolding after_step
 after_step-fits bytes s fits = ap (λ (b : Bool). if b then with_range bytes s (range_of s) else bytes) (le-leb _ _ fits)
 
--- a step leaves all but its range
+-- a step changes only its range
 after_step-outside : (bytes : List ℕ) (s : Step) → SameOn (Outside (range_of s).place (range_of s).size) bytes (after_step bytes s)
 unfolding after_step
 after_step-outside bytes s = by_test (nat_le ((range_of s).place + (range_of s).size) (length bytes)) refl
@@ -47,7 +47,7 @@ after_step-outside bytes s = by_test (nat_le ((range_of s).place + (range_of s).
 
 -- ---- what a power loss leaves
 
--- of one step more
+-- the same after one more step
 left_more : (reads : List ℕ) (later : List Step) (s : Step) (image : List ℕ) → AreBytes reads → IsLeft reads later image → IsLeft reads (later ++ s ∷ []) image
 left_more reads [] s image are left =
     subst (λ (l : List ℕ). SameOn (Outside (range_of s).place (range_of s).size) reads l × AreBytes l) (sym left) (same_start (Outside (range_of s).place (range_of s).size) reads, are)
@@ -70,7 +70,7 @@ module _ (blocks : ℕ) (steps new_steps : List Step) (s : Step) (more : new_ste
   pub reads_step : nor_reads blocks new_steps ≡ after_step (nor_reads blocks steps) s
   reads_step = ap (nor_reads blocks) more ∙ nor_reads-push blocks steps s
 
-  -- the images of a moment stay
+  -- the images of a moment remain possible
   pub grows_step : Grows (flash_of blocks steps) (flash_of blocks new_steps)
   grows_step t image le may =
       let n = may.moment in
@@ -86,14 +86,14 @@ module _ (blocks : ℕ) (steps new_steps : List Step) (s : Step) (more : new_ste
   abbrev OnRange : List ℕ → Type 0
   OnRange image = SameOn (Outside (range_of s).place (range_of s).size) (nor_reads blocks steps) image
 
-  -- in the step
+  -- during the step
   at_step : (n : ℕ) (image : List ℕ) → length steps ≤ n → n ≤ length steps → IsLeft (nor_reads blocks (take n new_steps)) (drop n new_steps) image → OnRange image
   at_step n image low high left =
       let none : drop n new_steps ≡ s ∷ [] = later n high ∙ ap (λ (l : List Step). l ++ s ∷ []) (drop_all n steps low) in
       let all : take n new_steps ≡ steps = front n high ∙ take_all n steps low in
       (subst (λ (l : List Step). IsLeft (nor_reads blocks l) (s ∷ []) image) all (subst (λ (l : List Step). IsLeft (nor_reads blocks (take n new_steps)) l image) none left)).0
 
-  -- behind it
+  -- after the step
   past_step : (n : ℕ) (image : List ℕ) → length new_steps ≤ n → IsLeft (nor_reads blocks (take n new_steps)) (drop n new_steps) image → OnRange image
   past_step n image low left =
       let is : IsLeft (nor_reads blocks (take n new_steps)) [] image = subst (λ (l : List Step). IsLeft (nor_reads blocks (take n new_steps)) l image) (drop_all n new_steps low) left in
@@ -123,7 +123,7 @@ module _ (blocks : ℕ) (steps new_steps : List Step) (s : Step) (more : new_ste
     same = same;
   }
 
-  -- all but the range is left alone
+  -- everything outside the range is left alone
   pub keeps_step : Keeps (Outside (range_of s).place (range_of s).size) (flash_of blocks steps) (flash_of blocks new_steps)
   keeps_step = record {
     reads = subst OnRange (sym reads_step) (after_step-outside (nor_reads blocks steps) s);
@@ -162,7 +162,7 @@ pub cleared_range : (bytes : List ℕ) (place : ℕ) (piece : List ℕ) → clea
 unfolding cleared
 cleared_range bytes place piece = refl
 
--- a slice of a `Vec` that was written goes back to it
+-- writing a slice of a `Vec` back to it
 pub put_back : (new items : List ℕ) (len : ℕ) → length new ≡ length items → len ≡ length items → take len (new ++ drop (length new) items) ≡ new
 put_back new items len size full =
     let none : drop (length new) items ≡ [] = drop_all (length new) items (omega (arith, size)) in
@@ -189,7 +189,7 @@ module _ (before now : NorState) where
   grows_taken s taken =
       subst (Grows (memory_nor before)) (sym (ap (λ (n : ℕ). flash_of n now.steps) taken.blocks)) (grows_step before.blocks before.steps now.steps s taken.steps)
 
-  -- whatever a program or an erase answers
+  -- for either answer of a program or an erase
   module _ (s : Step) where
     pub keeps_exact : (answer : Edge) → StepsExactly answer before now s → Keeps (Outside (range_of s).place (range_of s).size) (memory_nor before) (memory_nor now)
     keeps_exact Done does = keeps_taken s does.1
@@ -199,7 +199,7 @@ module _ (before now : NorState) where
     grows_exact Done does = grows_taken s does.1
     grows_exact Failed does = ⊎_elim (λ spoils. grows_taken (spoiling s) spoils.1) (λ starves. grows_held starves.1) does
 
-    -- one that is done fills its range
+    -- a call that is done fills its range
     pub filled_exact : (answer : Edge) → (range_of s).place + (range_of s).size ≤ 4096 * before.blocks → StepsExactly answer before now s
         → IfDone answer ((memory_nor now).reads ≡ with_range (memory_nor before).reads s (range_of s))
     filled_exact Failed fits does = tt

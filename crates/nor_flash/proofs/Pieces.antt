@@ -1,4 +1,4 @@
--- A range of a block is written as a whole block.
+-- Writing a range of a block as a whole block.
 use Rattle.std.proofs.Common.{◌≡◌, inl, inr, ⊎_elim, ◌<◌, ◌≤◌, ◌+◌, ◌-◌, ◌*◌, ℕ, List, length, get_or, sym, ◌∙◌, subst, arith}
 use Rattle.std.specs.List.{slice_range}
 use Rattle.std.proofs.lemmas.Bool.{cases_lt}
@@ -42,7 +42,7 @@ module _ (old : List ℕ) (bytes : List ℕ) (block from place : ℕ) (at : plac
       (written_outside old (4096 * block) whole block_fits).same i (⊎_elim (λ low. inl low) (λ high. inr (omega (arith, high, whole_long))) out)
       ∙ sym ((written_outside old place bytes range_fits).same i (⊎_elim (λ low. inl (omega (arith, low, at))) (λ high. inr (omega (arith, high, at, inside))) out))
 
-  -- within it, beside the range
+  -- in the block, outside the range
   beside : (k : ℕ) → k < 4096 → Outside from (length bytes) k → get_or as_block (4096 * block + k) 0 ≡ get_or as_range (4096 * block + k) 0
   beside k lt out =
       written_within old (4096 * block) whole block_fits k (omega (arith, whole_long, lt))
@@ -50,7 +50,7 @@ module _ (old : List ℕ) (bytes : List ℕ) (block from place : ℕ) (at : plac
       ∙ get_or-between old (4096 * block) (4096 * block + 4096) k 0 (omega arith)
       ∙ sym ((written_outside old place bytes range_fits).same (4096 * block + k) (⊎_elim (λ low. inl (omega (arith, low, at))) (λ high. inr (omega (arith, high, at))) out))
 
-  -- and within the range
+  -- in the range
   in_range : (j : ℕ) → j < length bytes → get_or as_block (4096 * block + (from + j)) 0 ≡ get_or as_range (4096 * block + (from + j)) 0
   in_range j lt =
       let is : place + j ≡ 4096 * block + (from + j) = omega (arith, at) in
@@ -80,7 +80,7 @@ module _ (old : List ℕ) (bytes : List ℕ) (block from place : ℕ) (at : plac
       (cases_lt i (4096 * block + 4096)))
       (cases_lt i (4096 * block)))
 
--- all other places are as they were
+-- all other places stay as they are
 pub replaced_keeps : (a b : Flash) (size place : ℕ) (bytes : List ℕ) → IsFlash a size → IsFlash b size → place + length bytes ≤ size
     → IsReplaced a b (written a.reads place bytes) → Keeps (Outside place (length bytes)) a b
 replaced_keeps a b size place bytes law_a law_b fits put = record {

@@ -14,7 +14,7 @@ use Rattle.nor_flash.specs.declared.phase.Phase.TheVariants as phases
 use Rattle.nor_flash.specs.Blocks.{plain}
 use Rattle.nor_flash.specs.NorDisks.{AreErased, HoldsPhase, nor_flash, seen}
 
--- so many of the bytes are written
+-- the first n bytes are written
 pub record IsUpTo (m place : ℕ) (bytes : List ℕ) (n : ℕ) (a b : Flash) : Type 0 where
   pub erased : AreErased m b.reads
   pub written : plain m b.reads ≡ written (plain m a.reads) place (take n bytes)
@@ -73,7 +73,7 @@ module _ (m place : ℕ) (bytes : List ℕ) (fits : place + length bytes ≤ 409
       grows = subst (λ (p : Phase). Grows (nor_flash m phases.Settled a) (nor_flash m p d)) settled (grows_on grown);
     }
 
-    -- a piece of what only clears bits does so too
+    -- a piece of bytes that only clear bits only clears bits too
     pub piece_clears : OnlyClears (slice_range (plain m a.reads) place (place + length bytes)) bytes
         → OnlyClears (slice_range (plain m b.reads) (place + at) (place + at + length piece)) piece
     piece_clears clears i lt =

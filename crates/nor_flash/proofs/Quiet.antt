@@ -1,4 +1,4 @@
--- Blocks of which the disk does not depend.
+-- Blocks that the disk does not depend on.
 use Rattle.std.proofs.Common.{◌≡◌, ◌≢◌, ◌⊎◌, inl, inr, ⊎_elim, ◌<◌, ◌≤◌, ◌+◌, ◌*◌, ℕ, List, length, Option, Some, None, refl, sym, ◌∙◌, subst, arith}
 use Rattle.std.proofs.lemmas.Bool.{cases_lt}
 use Rattle.nor_flash.specs.declared.phase.Phase.{Phase}
@@ -8,7 +8,8 @@ use Rattle.nor_flash.specs.NorDisks.{AreFirstNames, CanClear, IsQuiet, IsQuietAt
 use Rattle.nor_flash.proofs.BlockLemmas.{AreNames, names_of, none_unless, blank_name, first_blank, second_blank, third_blank, three_names, erased_name, block_is_over, plain_unnamed, plain_named, name_same, front_same, named_same, with_block_same}
 
 module _ (m : ℕ) (a d : List ℕ) (fronts : front m d ≡ front m a) where
-  -- a disk that is plain in both ways
+  -- a disk whose rewrite is given up is unchanged if each block that is named now was named before, with the
+  -- same bytes
   given_up_by : (named_back : (c : ℕ) → named m d ≡ Some c → (named m a ≡ Some c) × (with_block m c d ≡ with_block m c a))
       → (o : Option ℕ) → named m d ≡ o → IsQuietAt m phases.GivenUp a d
   given_up_by named_back None is = record { shows = inl (plain_unnamed m d is ∙ fronts); sees = fronts; holds = tt }
@@ -39,7 +40,7 @@ blank_none m few l j some near is = ⊎_elim
     (cases_lt j 2)
 
 module _ (m : ℕ) (few : m ≤ blank_name) (a : List ℕ) (fits : length a ≡ 4096 * (m + 4)) (phase : Phase) where
-  -- the last two names differ: whatever becomes of the first one, no block is named
+  -- if the last two names differ, no block is named whatever becomes of the first one
   pub first_name_quiet : CanClear m phase a → name_in (m + 2) a ≢ name_in (m + 3) a → IsQuiet m phase a (m + 1)
   first_name_quiet can other d same =
       let two = name_same m a fits (m + 1) d same (m + 2) (λ e. absurd (omega (arith, e))) (omega arith) in
@@ -48,7 +49,7 @@ module _ (m : ℕ) (few : m ≤ blank_name) (a : List ℕ) (fits : length a ≡ 
       (λ c is. let names = names_of m (name_in (m + 1) d) (name_in (m + 2) d) (name_in (m + 3) d) c is in
       absurd (other (sym two ∙ names.second ∙ sym names.third ∙ three)))
 
-  -- they are equal: whatever becomes of the second one, a block that is named then was named before
+  -- if they are equal, a block that is named whatever becomes of the second one was named before
   pub second_name_quiet : CanClear m phase a → name_in (m + 2) a ≡ name_in (m + 3) a → IsQuiet m phase a (m + 2)
   second_name_quiet can equal d same =
       let one = name_same m a fits (m + 2) d same (m + 1) (λ e. absurd (omega (arith, e))) (omega arith) in
@@ -60,7 +61,7 @@ module _ (m : ℕ) (few : m ≤ blank_name) (a : List ℕ) (fits : length a ≡ 
         with_block_same m a fits (m + 2) d same c (omega arith) (λ e. absurd (omega (arith, e))),
       ))
 
-  -- one name is blank: whatever becomes of another one, no block is named
+  -- if one name is blank, no block is named whatever becomes of another one
   pub other_name_quiet : (phase ≡ phases.GivenUp) ⊎ (phase ≡ phases.Unsettled) → (blank other : ℕ) → blank < 4 → other < 4 → 1 ≤ blank → 1 ≤ other → blank ≢ other
       → IsErased (m + blank) a → IsQuiet m phase a (m + other)
   other_name_quiet can blank other near_blank near_other some_blank some_other apart erased d same =
@@ -72,13 +73,13 @@ module _ (m : ℕ) (few : m ≤ blank_name) (a : List ℕ) (fits : length a ≡ 
       (⊎_elim (λ given. inl given) (λ un. inr (un, before)) can)
       (λ c at. absurd (cc (at, behind)))
 
-  -- the image block, while no block is named
+  -- the image block, as long as no block is named
   pub image_quiet : phase ≡ phases.GivenUp → named m a ≡ None → IsQuiet m phase a m
   image_quiet given none d same =
       let behind : named m d ≡ None = named_same m a fits m d same (omega arith) ∙ none in
       clear_at m a d (front_same m a fits m d same (omega arith)) phase (inl given) (λ c at. absurd (cc (at, behind)))
 
-  -- the first name, once the named block is as the image block
+  -- the first name, once the named block equals the image block
   pub finished_quiet : (b : ℕ) → phase ≡ phases.Unsettled → named m a ≡ Some b → with_block m b a ≡ front m a → IsQuiet m phase a (m + 1)
   finished_quiet b un is copied d same =
       let two = name_same m a fits (m + 1) d same (m + 2) (λ e. absurd (omega (arith, e))) (omega arith) in
@@ -99,14 +100,14 @@ module _ (m : ℕ) (few : m ≤ blank_name) (a : List ℕ) (fits : length a ≡ 
           plain_named m c d at ∙ with_block_same m a fits (m + 1) d same c (omega arith) (λ e. absurd (omega (arith, e)))
           ∙ subst (λ (x : ℕ). with_block m x a ≡ front m a) (sym is_b) copied ∙ sym plain_a
 
-  -- the block that is named
+  -- the named block
   pub rewriting_quiet : (b : ℕ) → b < m → phase ≡ phases.Rewriting b → named m a ≡ Some b → IsQuiet m phase a b
   rewriting_quiet b within rewriting is d same =
       let behind : named m d ≡ Some b = named_same m a fits b d same (omega arith) ∙ is in
       let plains : plain m d ≡ plain m a = plain_named m b d behind ∙ block_is_over m a fits b d same within ∙ sym (plain_named m b a is) in
       subst (λ (p : Phase). IsQuietAt m p a d) (sym rewriting) (record { shows = inl plains; sees = plains; holds = behind })
 
-  -- the first one of two is blank: the other one, and the last one
+  -- if one of the first two names is blank: the other one, and the last one
   pub second_quiet : (phase ≡ phases.GivenUp) ⊎ (phase ≡ phases.Unsettled) → (first second : ℕ) → AreFirstNames first second → IsErased (m + first) a → IsQuiet m phase a (m + second)
   second_quiet can first second two erased = ⊎_elim
       (λ h. other_name_quiet can first second (omega (arith, h.0)) (omega (arith, h.1)) (omega (arith, h.0)) (omega (arith, h.1)) (λ e. absurd (omega (arith, e, h.0, h.1))) erased)

@@ -1,4 +1,4 @@
--- A block is replaced: the image block and the first two names, and what the disk is at the end.
+-- Replacing a block: the image block and the first two names, and the disk at the end.
 use Rattle.std.proofs.Common.{◌≡◌, ◌≢◌, inl, ⊎_elim, ◌<◌, ◌≤◌, ◌+◌, ◌*◌, ℕ, List, length, refl, sym, ◌∙◌, ap, subst, arith}
 use Rattle.std.specs.List.{slice_range}
 use Rattle.suit_edge.specs.Flash.{Flash, Now, Grows, IsFlash, IsSame, IsSettled, Keeps, Passes}
@@ -42,7 +42,7 @@ image_stored m old new bytes all long are erased done =
     subst (λ (n : ℕ). slice_range new (4096 * m) (4096 * m + n) ≡ bytes) long
     (ap (λ (l : List ℕ). slice_range l (4096 * m) (4096 * m + length bytes)) over ∙ written_range old (4096 * m) bytes (omega (arith, all, long)))
 
--- then the disk would have the new bytes, were the block named
+-- if the block were named then, the disk would have the new bytes
 pub stored_shows : (m block : ℕ) (device before bytes : List ℕ) → front m device ≡ before → image_block m device ≡ bytes → with_block m block device ≡ written before (4096 * block) bytes
 unfolding with_block
 stored_shows m block device before bytes fronts stored =

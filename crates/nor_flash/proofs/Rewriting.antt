@@ -1,4 +1,4 @@
--- The block that is named is written anew.
+-- Rewriting the named block.
 use Rattle.std.proofs.Common.{◌≡◌, inl, inr, ⊎_elim, ◌<◌, ◌≤◌, ◌+◌, ◌-◌, ◌*◌, ℕ, suc, List, [], ◌∷◌, length, Some, get_or, refl, sym, ◌∙◌, ap, subst, arith, get_or-take}
 use Rattle.std.specs.Int.Bits.{bit_and}
 use Rattle.std.specs.List.{slice_range}

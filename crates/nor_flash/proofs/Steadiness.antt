@@ -7,7 +7,7 @@ use Rattle.nor_flash.specs.declared.phase.Phase.{Phase}
 use Rattle.nor_flash.specs.Blocks.{OutsideBlock, plain}
 use Rattle.nor_flash.specs.NorDisks.{IsQuiet, IsSteady, Shows, nor_flash, seen}
 
--- what the disk reads, and the disk of the device, may be left
+-- a power loss may leave what the disk reads, and the disk on the device
 shown_now : (m : ℕ) (phase : Phase) (a : Flash) (size : ℕ) → IsFlash a size → (image : List ℕ) → Shows m phase a.reads image → Now (nor_flash m phase a) image
 shown_now m phase a size law image shows = ⊎_elim (λ sees. inr (omega arith, sees)) (λ plainly. inl (a.reads, law.reads_may, plainly)) shows
 
@@ -58,7 +58,7 @@ read_step m phase a b same grown =
           (λ h. inr (omega (arith, h.0, same.images.later), h.1 ∙ sym sees)) may;
     }
 
--- another phase, in which the disk reads the same
+-- the phase changes, and the disk reads the same
 pub phase_step : (m : ℕ) (before phase : Phase) (a : Flash) → seen m phase a.reads ≡ seen m before a.reads → IsSteady m before a phase a
 phase_step m before phase a sees = record {
   same = record {
@@ -72,7 +72,7 @@ phase_step m before phase a sees = record {
   grows = λ t image le may. ⊎_elim (λ h. inl h) (λ h. inr (h.0, h.1 ∙ sym sees)) may;
 }
 
--- one after another
+-- one call after another
 pub steady_then : (m size : ℕ) (p q r : Phase) (a b c : Flash) → IsFlash (nor_flash m q b) size → IsSteady m p a q b → IsSteady m q b r c → IsSteady m p a r c
 steady_then m size p q r a b c law first second = record {
   same = same_flash_then (nor_flash m p a) (nor_flash m q b) (nor_flash m r c) size law first.same second.same;

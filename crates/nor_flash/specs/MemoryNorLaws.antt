@@ -63,7 +63,7 @@ pub length-nor_reads : (blocks : ℕ) (steps : List Step) → length (nor_reads 
 unfolding nor_reads
 length-nor_reads blocks steps = length-after_steps (replicate (4096 * blocks) 255) steps ∙ length-replicate {A = ℕ} (4096 * blocks) 255
 
--- ---- they are bytes
+-- ---- bytes
 
 ands_bytes : (xs ys : List ℕ) → AreBytes xs → AreBytes (ands xs ys)
 ands_bytes [] ys are i = are i
@@ -137,7 +137,7 @@ nor_reads_bytes blocks steps = after_steps_bytes (replicate (4096 * blocks) 255)
 pub memory_cells : (s : NorState) → AreBytes (memory_nor s).reads
 memory_cells s = nor_reads_bytes s.blocks s.steps
 
--- what is left at the last moment
+-- what a power loss leaves at the last moment
 left_last : (reads : List ℕ) (later : List Step) (image : List ℕ) → later ≡ [] → IsLeft reads later image → image ≡ reads
 left_last reads later image none left = subst (λ (l : List Step). IsLeft reads l image) none left
 

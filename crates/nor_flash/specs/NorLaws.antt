@@ -1,4 +1,4 @@
--- A disk over a device obeys the laws of every disk.
+-- A disk over NOR flash obeys the laws of every disk.
 use Rattle.std.proofs.Common.{◌≡◌, inl, inr, ⊎_elim, ◌<◌, ◌≤◌, ◌+◌, ◌-◌, ◌*◌, ℕ, List, length, Option, Some, None, Bool, true, false, ◌&&◌, nat_lt, eqb, if◌then◌else◌, get_or, refl, sym, ◌∙◌, ap, subst, arith, get_or-take}
 use Rattle.std.proofs.lemmas.Bool.{cases_lt, and_parts, ltb-true}
 use Rattle.std.proofs.lemmas.List.{get_or_past, length-take-le}
@@ -11,12 +11,12 @@ use Rattle.nor_flash.specs.declared.phase.Phase.TheVariants as phases
 use Rattle.nor_flash.specs.Blocks.{OutsideBlock, front, image_block, name_in, named, named_by, plain, plain_by, with_block}
 use Rattle.nor_flash.specs.NorDisks.{blocks_of, nor_flash, seen}
 
--- what a chain of tests has chosen
+-- a test that gives something is true
 pub some_true : (t : Bool) (n c : ℕ) → (if t then Some n else None) ≡ Some c → (t ≡ true) × (n ≡ c)
 some_true true n c is = (refl, cc)
 some_true false n c is = cc
 
--- a block that is named is one of the disk
+-- a named block is one of the disk's
 pub named_within : (m a b c block : ℕ) → named_by m a b c ≡ Some block → block < m
 named_within m a b c block is =
     let chosen = some_true (eqb a b && (eqb b c && nat_lt a m)) a block is in
@@ -57,14 +57,14 @@ module _ (m size : ℕ) (room : 1 ≤ m → 4096 * (m + 4) ≤ size) (device : L
     image_fits : 4096 * block + length (image_block m device) ≤ length (front m device)
     image_fits = omega (arith, length-front, length-image (omega arith), within)
 
-    -- within the block
+    -- inside the block
     pub with_block-in : (k : ℕ) → k < 4096 → get_or (with_block m block device) (4096 * block + k) 0 ≡ get_or device (4096 * m + k) 0
     unfolding with_block
     with_block-in k lt =
         written_within (front m device) (4096 * block) (image_block m device) image_fits k (omega (arith, length-image (omega arith)))
         ∙ get_or-between device (4096 * m) (4096 * m + 4096) k 0 (omega arith)
 
-    -- and outside it
+    -- outside the block
     pub with_block-out : (i : ℕ) → i < 4096 * m → OutsideBlock block i → get_or (with_block m block device) i 0 ≡ get_or device i 0
     unfolding with_block
     with_block-out i low out =
@@ -72,7 +72,7 @@ module _ (m size : ℕ) (room : 1 ≤ m → 4096 * (m + 4) ≤ size) (device : L
         (⊎_elim (λ before. inl before) (λ behind. inr (omega (arith, behind, length-image (omega arith)))) out)
         ∙ get_or-take (4096 * m) device i 0 low
 
-  -- ---- they are bytes
+  -- ---- bytes
 
   module _ (are : AreBytes device) where
     front_bytes : AreBytes (front m device)
@@ -103,7 +103,7 @@ module _ (m size : ℕ) (room : 1 ≤ m → 4096 * (m + 4) ≤ size) (device : L
     unfolding plain
     plain_bytes = by_bytes (named m device) (named_within m (name_in (m + 1) device) (name_in (m + 2) device) (name_in (m + 3) device))
 
--- the device has the blocks of the disk and four more, if the disk has any
+-- if the disk has any block, the device has four more
 pub has_room : (size : ℕ) → 1 ≤ blocks_of size → 4096 * (blocks_of size + 4) ≤ size
 has_room size some = omega arith
 

@@ -11,7 +11,7 @@ use crate::{BLOCK, Nor};
 use lane_bytes::first_other;
 use suit_edge::Edge;
 
-/// How many blocks the disk has: the device's without the last four.
+/// The number of blocks of the disk: all of the device's but the last four.
 pub(crate) fn count<N: Nor>(nor: &N) -> u64
     ensures count { result ≡ blocks_of (N.extent nor.now) }
     ensures few { result + 4 < 2 ^ 52 }
@@ -43,7 +43,7 @@ pub(crate) fn erase<N: Nor>(nor: &mut N, block: u64) -> Edge
     }
 }
 
-/// The number that a block begins with. None is a failure of the device.
+/// The number that a block begins with, or `None` if the device failed.
 pub(crate) fn name<N: Nor>(nor: &mut N, block: u64) -> Option<u64>
     requires { 4096 * block + 4096 ≤ N.extent nor.old }
     ensures size { N.extent nor.new ≡ N.extent nor.old }
@@ -61,7 +61,7 @@ pub(crate) fn name<N: Nor>(nor: &mut N, block: u64) -> Option<u64>
     }
 }
 
-/// The block that the names tell, if they tell one. None is a failure of the device.
+/// The block that the names name, if any. The outer `None` means that the device failed.
 pub(crate) fn named_block<N: Nor>(nor: &mut N) -> Option<Option<u64>>
     ensures size { N.extent nor.new ≡ N.extent nor.old }
     ensures counts { ReadCounts result (N.faults nor.old) (N.faults nor.new) }
@@ -88,7 +88,7 @@ pub(crate) fn named_block<N: Nor>(nor: &mut N) -> Option<Option<u64>>
     Some(one_name(first, second, third, image))
 }
 
-/// The block that three names tell, of so many.
+/// The block that all three names name, if they agree and the disk has it.
 fn one_name(first: u64, second: u64, third: u64, blocks: u64) -> Option<u64>
     ensures value { result ≡ named_by blocks first second third }
     ensures within { IfSome result (λ block. block < blocks) }

@@ -1,11 +1,11 @@
-//! A disk that is one of two.
+//! A disk of one of two types.
 
 ghost use Rattle.nor_flash.specs.EitherDisk.{either_flash, either_number, either_obeys};
 ghost use Rattle.std.specs.Prelude.{◌&&◌};
 
 use suit_edge::{Disk, Edge};
 
-/// A disk of one of two types. Where both tell what they hold, it tells what its own disk does.
+/// A disk of one of two types. If the contracts of both types say what a disk holds, so do these.
 #[derive(Drop)]
 pub enum EitherDisk<A, B> {
     First(A),

@@ -17,15 +17,15 @@ use suit_edge::Edge;
 /// The name of the file, in the working directory.
 const NAME: &str = "suit.nor";
 
-/// The number of bytes of the device: 1,028 blocks, of which a disk over it has 1,024.
+/// The size of the device in bytes: 1,028 blocks, of which a disk over it has 1,024.
 const SIZE: u64 = 4_210_688;
 
 /// The bytes of an erased block.
 const ERASED: [u8; BLOCK] = [0xff; BLOCK];
 
-/// NOR flash of 4,210,688 bytes in the file `suit.nor` of the working directory. The file is opened
-/// at the first call. One that is missing is made, a shorter one is filled with 0xFF, and of a
-/// longer one the rest is left alone. Each program and erase is synced. It tells nothing of what it
+/// NOR flash of 4,210,688 bytes in the file `suit.nor` of the working directory, which is opened at
+/// the first call. A missing file is created, a shorter one is filled up with 0xFF, and the rest of
+/// a longer one is left alone. Each program and erase is synced. Its contracts do not say what it
 /// holds.
 #[derive(Drop)]
 pub struct FileNor<R: Files<File = File> + Drop> {
@@ -42,7 +42,7 @@ impl<R: Files<File = File> + Drop> Model for FileNor<R> {
 }
 
 impl<R: Files<File = File> + Drop> FileNor<R> {
-    /// The device in the files that a runtime reaches. No call on the outside is made.
+    /// A device in a file that the runtime reaches. Opens nothing yet.
     pub fn new(rt: R) -> FileNor<R>
         ensures { result ≡ 0 }
     {
@@ -53,14 +53,14 @@ impl<R: Files<File = File> + Drop> FileNor<R> {
         }
     }
 
-    /// Whether the file is there, which is not made here. Where that cannot be told it counts as
-    /// there, so that its first call fails.
+    /// Whether the file exists; it is not created. If that cannot be told, the answer is yes, so
+    /// that the first call on the device fails.
     pub fn is_there(rt: &R) -> bool {
         fs::exists(rt, NAME).unwrap_or(true)
     }
 }
 
-// Fills the file with 0xFF from its end on.
+// Fills the file with 0xFF from its end up to the size of the device, and syncs it.
 fn fill(file: &File, end: u64) -> io::Result<()> {
     let mut place = end;
     while place < SIZE {
@@ -71,7 +71,7 @@ fn fill(file: &File, end: u64) -> io::Result<()> {
     file.sync_all()
 }
 
-// Opens the file, and makes it as long as the device.
+// Opens the file, and fills it up to the size of the device.
 fn open<R: Files<File = File>>(rt: &R) -> io::Result<File> {
     let file = OpenOptions::new()
         .read(true)
@@ -85,7 +85,7 @@ fn open<R: Files<File = File>>(rt: &R) -> io::Result<File> {
     Ok(file)
 }
 
-// The file, which is opened at the first call.
+// Takes the open file, or opens it at the first call.
 fn take<R: Files<File = File>>(rt: &R, file: &mut Option<File>) -> io::Result<File> {
     match file.take() {
         Some(file) => Ok(file),
@@ -105,7 +105,7 @@ fn read<R: Files<File = File>>(
     done
 }
 
-// Writes bytes, and syncs them.
+// Writes bytes and syncs them.
 fn write<R: Files<File = File>>(
     rt: &R,
     file: &mut Option<File>,
@@ -120,7 +120,7 @@ fn write<R: Files<File = File>>(
     done
 }
 
-// Clears bits of what stands there.
+// Clears, from `place` on, the bits that are not set in `bytes`.
 fn program<R: Files<File = File>>(
     rt: &R,
     file: &mut Option<File>,
@@ -138,7 +138,7 @@ fn program<R: Files<File = File>>(
     write(rt, file, place, room)
 }
 
-// Counts an error, and tells it as a fault.
+// Counts an error as a fault.
 fn counts(faults: &mut u64, done: io::Result<()>) -> Edge
     ensures counts { EdgeCounts result faults.old faults.new }
     ensures ok { OnOk done (result ≡ edge.Done) }

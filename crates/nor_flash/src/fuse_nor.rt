@@ -1,4 +1,4 @@
-//! NOR flash whose power fails.
+//! NOR flash whose power fails after a number of calls.
 
 ghost use Rattle.nor_flash.specs.Blocks.{IsDeviceSize, IsErased, OutsideBlock, cleared};
 ghost use Rattle.nor_flash.specs.FuseNor.{BurnsExactly, FuseState};
@@ -18,9 +18,9 @@ use crate::{MemoryNor, Nor};
 use std::marker::Model;
 use suit_edge::Edge;
 
-/// NOR flash in memory that takes so many calls, and then fails each and changes nothing, as if its
-/// power were gone. `size` is not counted. It counts its own erases, also those that are not passed
-/// on.
+/// NOR flash in memory that serves a number of calls, and then fails every one and changes nothing,
+/// as if its power were gone. `size` is not counted. It counts its own erases, including those that
+/// it does not pass on.
 #[derive(Drop)]
 pub struct FuseNor {
     nor: MemoryNor,
@@ -37,7 +37,7 @@ impl Model for FuseNor {
 }
 
 impl FuseNor {
-    /// The device, which takes so many calls more.
+    /// A device that serves `passes` more calls.
     pub fn new(nor: MemoryNor, passes: u64) -> FuseNor
         ensures { result ≡ record { nor = nor; passes = passes; faults = 0; erases = 0 } }
     {
@@ -49,14 +49,14 @@ impl FuseNor {
         }
     }
 
-    /// The device as the calls left it.
+    /// Returns the device inside, as the calls left it.
     pub fn into_nor(self) -> MemoryNor
         ensures { result ≡ self.nor }
     {
         self.nor
     }
 
-    /// How often a call of the device failed because memory ran out.
+    /// How many calls of the device failed because memory ran out.
     pub fn starved(&self) -> u64
         ensures { result ≡ self.now.nor.calls.starved }
     {
@@ -64,7 +64,7 @@ impl FuseNor {
     }
 }
 
-/// Takes one of the passes, if one is left.
+/// Uses up a pass, if one is left.
 fn takes_pass(passes: &mut u64) -> bool
     ensures taken { OnTrue result (passes.old ≡ passes.new + 1) }
     ensures none { OnFalse result ((passes.old ≡ 0) × (passes.new ≡ 0)) }
@@ -76,7 +76,7 @@ fn takes_pass(passes: &mut u64) -> bool
     true
 }
 
-/// Counts an answer that is a fault.
+/// Counts the answer if it is a fault.
 fn counts(faults: &mut u64, answer: Edge) -> Edge
     ensures same { result ≡ answer }
     ensures value { faults.new ≡ counts_answer answer faults.old }

@@ -2,8 +2,8 @@
 
 ghost use Rattle.nor_flash.specs.NorLossLaws.{NorLossLaw};
 
-/// The images that a power loss leaves of NOR flash in memory: any bytes in the range of the call
-/// that it breaks off, and all else as it stood.
+/// The images that a power loss may leave of NOR flash in memory: any bytes in the range of the
+/// call that it interrupts, and elsewhere what was there.
 pub fn nor_loss_laws()
     ensures { NorLossLaw }
 {}

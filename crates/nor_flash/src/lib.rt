@@ -1,4 +1,5 @@
-//! A disk over NOR flash, whose programs only clear bits and whose erases set a whole block.
+//! A disk over NOR flash, where a program only clears bits and an erase sets those of a whole
+//! block.
 #![tactic(auto)]
 
 mod blocks;
@@ -26,5 +27,5 @@ pub use nor::Nor;
 pub use nor_disk::NorDisk;
 pub use phase::Phase;
 
-/// The size of a block, which is erased as a whole.
+/// The size of a block in bytes. A block is erased as a whole.
 const BLOCK: usize = 4096;

@@ -21,11 +21,11 @@ use std::alloc::{AllocError, Global};
 use std::marker::Model;
 use suit_edge::Edge;
 
-/// What a failed program or erase leaves in each second byte of its range.
+/// What a failed program or erase leaves in every second byte of its range.
 const SPOILED: u8 = 0x55;
 
-/// NOR flash in memory. It remembers each program and erase, and so takes memory in each of them;
-/// without it they fail and change nothing.
+/// NOR flash in memory. It remembers each program and erase, so both allocate. If memory runs out,
+/// they fail and change nothing.
 #[derive(Drop)]
 pub struct MemoryNor {
     alloc: Global,
@@ -48,9 +48,9 @@ impl Model for MemoryNor {
 }
 
 impl MemoryNor {
-    /// So many blocks, all of whose bytes are 0xFF. The calls with these numbers fail: each call
-    /// but `size` is counted, from 0. A program or an erase that fails by its number leaves 0x55 in
-    /// the bytes 0, 2, 4 and so on of its range.
+    /// A device of `blocks` blocks, all of whose bytes are 0xFF. Every call but `size` is counted,
+    /// from 0, and those whose numbers are in `fails` fail. A program or an erase that fails for
+    /// its number leaves 0x55 in the bytes 0, 2, 4 and so on of its range.
     pub fn new(alloc: Global, blocks: usize, fails: &[u64]) -> Result<MemoryNor, AllocError>
         requires five { 5 ≤ blocks }
         requires fits { 4096 * blocks ≤ usize.MAX }
@@ -68,21 +68,22 @@ impl MemoryNor {
         })
     }
 
-    /// How often a block was to be erased.
+    /// How many erases were attempted.
     pub fn erases(&self) -> u64
         ensures { result ≡ self.now.erases }
     {
         self.erases
     }
 
-    /// How often a call failed because memory ran out.
+    /// How many calls failed because memory ran out.
     pub fn starved(&self) -> u64
         ensures { result ≡ self.now.calls.starved }
     {
         self.calls.starved()
     }
 
-    /// Fails in a call that was counted, and spoils so many bytes from a place on.
+    /// Fails the call that was counted last, and spoils `size` bytes from `place` on if there is
+    /// memory to remember that.
     fn fail_at(&mut self, place: usize, size: usize) -> Edge
         requires { place + size ≤ 4096 * self.old.blocks }
         ensures failed { result ≡ edge.Failed }
@@ -103,7 +104,7 @@ impl MemoryNor {
         }
     }
 
-    /// Clears bits from a place on.
+    /// Programs bytes: clears, from `place` on, the bits that are not set in `bytes`.
     fn program_at(&mut self, place: usize, bytes: &[u8]) -> Edge
         requires { place + length bytes.now ≤ 4096 * self.old.blocks }
         ensures exact { StepsExactly result self.old self.new (program_of place bytes.now) }
@@ -146,7 +147,7 @@ impl MemoryNor {
     }
 }
 
-/// Clears all bits that are not set in these bytes.
+/// Clears the bits that are not set in `bytes`.
 fn clear(room: &mut [u8], bytes: &[u8])
     requires { length room.old ≡ length bytes.now }
     ensures { room.new ≡ ands room.old bytes.now }
@@ -156,7 +157,7 @@ fn clear(room: &mut [u8], bytes: &[u8])
     }
 }
 
-/// Leaves 0x55 in each second byte.
+/// Leaves 0x55 in every second byte.
 fn spoil(room: &mut [u8])
     ensures { room.new ≡ spoiled room.old }
 {
@@ -167,7 +168,7 @@ fn spoil(room: &mut [u8])
     }
 }
 
-/// Clears bits of the bytes from a place on.
+/// Clears, from `place` on, the bits that are not set in `bytes`.
 #[tactic(auto, unfolding(crate::specs::Blocks::cleared, suit_edge::specs::Ranges::written))]
 fn clear_at(device: &mut [u8], place: usize, bytes: &[u8])
     requires { place + length bytes.now ≤ length device.old }
@@ -176,7 +177,7 @@ fn clear_at(device: &mut [u8], place: usize, bytes: &[u8])
     clear(&mut device[place..place + bytes.len()], bytes);
 }
 
-/// Puts bytes from a place on.
+/// Overwrites the bytes from `place` on.
 #[tactic(auto, unfolding(suit_edge::specs::Ranges::written))]
 fn put(device: &mut [u8], place: usize, bytes: &[u8])
     requires { place + length bytes.now ≤ length device.old }
@@ -193,7 +194,7 @@ fn set_block(device: &mut [u8], block: usize)
     put(device, BLOCK * block, &[0xff; BLOCK]);
 }
 
-/// Spoils so many bytes from a place on.
+/// Spoils `size` bytes from `place` on.
 #[tactic(auto, unfolding(suit_edge::specs::Ranges::written))]
 fn spoil_at(device: &mut [u8], place: usize, size: usize)
     requires { place + size ≤ length device.old }
@@ -219,7 +220,7 @@ fn note_program(
     Ok(())
 }
 
-/// Remembers that a block was erased.
+/// Remembers an erase.
 fn note_erase(steps: &mut Vec<Step>, block: usize) -> Result<(), AllocError>
     ensures ok { OnOk result (steps.new.items ≡ steps.old.items ++ step.Erased block ∷ []) }
     ensures err { OnErr result (steps.new.items ≡ steps.old.items) }
@@ -228,7 +229,7 @@ fn note_erase(steps: &mut Vec<Step>, block: usize) -> Result<(), AllocError>
     Ok(())
 }
 
-/// Remembers that so many bytes from a place on were spoiled.
+/// Remembers that a range was spoiled.
 fn note_spoiled(steps: &mut Vec<Step>, place: usize, size: usize) -> Result<(), AllocError>
     ensures ok { OnOk result
         (steps.new.items

@@ -1,4 +1,4 @@
-//! A device whose programs only clear bits.
+//! NOR flash: a program only clears bits.
 
 ghost use Rattle.nor_flash.specs.Blocks.{IsDeviceSize, IsErased, OutsideBlock, cleared};
 ghost use Rattle.nor_flash.specs.Rises.{Rises};
@@ -10,29 +10,29 @@ ghost use Rattle.suit_edge.specs.Ranges.{AreBytes, Outside};
 
 use suit_edge::Edge;
 
-/// Blocks of 4,096 bytes, of which each call that is done is durable.
+/// NOR flash in blocks of 4,096 bytes. A call that succeeds is durable at once.
 pub trait Nor {
-    /// Whether devices of this type tell what they hold.
+    /// Whether the contracts of this type say what a device holds.
     ghost told: { Bool };
 
-    /// The content that reads give, and what a power loss may leave.
+    /// What reads return, and what a power loss may leave.
     ghost flash: { Self → Flash };
 
-    /// The number of bytes, which no call changes.
+    /// The size in bytes, which no call changes.
     ghost extent: { Self → ℕ };
 
     /// How often a call has failed.
     ghost faults: { Self → ℕ };
 
-    /// How often a block was to be erased.
+    /// How many erases were attempted.
     ghost erases: { Self → ℕ };
 
-    /// The number of bytes.
+    /// The size in bytes.
     fn size(&self) -> u64
         ensures value { result ≡ extent self.now }
         ensures shape { IsDeviceSize (extent self.now) };
 
-    /// Reads the bytes from the place on. Where it fails, the room holds any bytes.
+    /// Fills `room` with the bytes from `place` on. If it fails, `room` may hold any bytes.
     fn read_at(&mut self, place: u64, room: &mut [u8]) -> Edge
         requires { place + length room.old ≤ extent self.old }
         ensures size { extent self.new ≡ extent self.old }
@@ -44,8 +44,8 @@ pub trait Nor {
         ensures grows { IsTrue told → Grows (flash self.old) (flash self.new) }
         ensures erases { IsTrue told → erases self.new ≡ erases self.old };
 
-    /// Clears, in the bytes from the place on, all bits that are not set in these. The range lies
-    /// in one block. If it fails, the range holds any bytes.
+    /// Clears, in the bytes from `place` on, all bits that are not set in `bytes`. The range lies
+    /// in one block. If it fails, the range may hold any bytes.
     fn program(&mut self, place: u64, bytes: &[u8]) -> Edge
         requires fits { place + length bytes.now ≤ extent self.old }
         requires block { place % 4096 + length bytes.now ≤ 4096 }
@@ -59,7 +59,7 @@ pub trait Nor {
         ensures grows { IsTrue told → Grows (flash self.old) (flash self.new) }
         ensures erases { IsTrue told → erases self.new ≡ erases self.old };
 
-    /// Sets all bytes of the block to 0xFF. If it fails, the block holds any bytes.
+    /// Sets all bytes of the block to 0xFF. If it fails, the block may hold any bytes.
     fn erase(&mut self, block: u64) -> Edge
         requires { 4096 * block + 4096 ≤ extent self.old }
         ensures size { extent self.new ≡ extent self.old }
@@ -71,9 +71,9 @@ pub trait Nor {
 
     ghost obeys: { (nor : Self) → IsTrue told → IsFlash (flash nor) (extent nor) };
 
-    /// Between calls nothing is pending.
+    /// Nothing is pending between calls.
     ghost rests: { (nor : Self) → IsTrue told → IsSettled (flash nor) };
 
-    /// What reads give are bytes.
+    /// What reads return are bytes.
     ghost cells: { (nor : Self) → IsTrue told → AreBytes (flash nor).reads };
 }

@@ -1,4 +1,4 @@
-//! A disk over a device of blocks.
+//! A disk over NOR flash.
 
 ghost use Rattle.lane_bytes.specs.Bytes.{OnlyClears};
 ghost use Rattle.nor_flash.specs.NorDisks.{blocks_of, nor_flash, seen};
@@ -17,9 +17,10 @@ use crate::{BLOCK, Nor, Phase, blocks};
 use std::marker::Model;
 use suit_edge::{Disk, Edge};
 
-/// A disk over NOR flash: the device's blocks without the last four. Those are the image block and
-/// three names. A block that is to be rewritten stands in the image block while the names tell its
-/// number, so that a power loss leaves either the old block or the new one.
+/// A disk over NOR flash. It has all blocks of the device but the last four, which are an image
+/// block and three names. The new bytes of a block are stored in the image block, and the names are
+/// set to the block's number until it is rewritten. So a power loss leaves either the old block or
+/// the new one.
 #[derive(Drop)]
 pub struct NorDisk<N: Nor + Drop> {
     nor: N,
@@ -42,7 +43,7 @@ impl<N: Nor + Drop> Model for NorDisk<N> {
 }
 
 impl<N: Nor + Drop> NorDisk<N> {
-    /// A disk over the device, of whose names nothing is known. No call of the device is made.
+    /// A disk over the device, of whose names nothing is known yet. Makes no call of the device.
     pub fn new(nor: N) -> NorDisk<N>
         ensures { result ≡ (nor, phases.Unsettled) }
     {
@@ -52,7 +53,7 @@ impl<N: Nor + Drop> NorDisk<N> {
         }
     }
 
-    /// The device as the calls left it.
+    /// Returns the device inside, as the calls left it.
     pub fn into_nor(self) -> N
         ensures { result ≡ self.0 }
     {

@@ -1,14 +1,14 @@
 //! What a disk over NOR flash knows of its names.
 
-/// What is known of the three name blocks.
+/// What is known of the three names.
 #[derive(Clone, Copy, Debug, PartialEq, Eq)]
 pub enum Phase {
-    /// Nothing is known: a block may be named.
+    /// Nothing: they may name a block.
     Unsettled,
     /// They are erased.
     Settled,
-    /// A rewrite failed before its block was named for sure. It counts no more.
+    /// A rewrite failed before its block was surely named, and no longer counts.
     GivenUp,
-    /// This block is named: its bytes are in the image block.
+    /// They name this block, whose bytes are in the image block.
     Rewriting(u64),
 }

@@ -12,7 +12,7 @@ use crate::settling::settle;
 use crate::{BLOCK, Nor, Phase, blocks};
 use suit_edge::Edge;
 
-/// Settles, unless a rewrite is given up: then the blocks are read as they stand.
+/// Settles the disk, unless a rewrite was given up: then its blocks are read as they are.
 fn ready<N: Nor>(nor: &mut N, phase: &mut Phase) -> Edge
     requires within { IsOfDisk (blocks_of (N.extent nor.old)) phase.old }
     requires holds { IsTrue N.told
@@ -36,7 +36,7 @@ fn ready<N: Nor>(nor: &mut N, phase: &mut Phase) -> Edge
     }
 }
 
-/// Reads bytes of the device into a part of the room.
+/// Reads bytes of the device into `room[from..to]`.
 #[tactic(auto, unfolding(suit_edge::specs::Ranges::written))]
 fn read_into<N: Nor>(nor: &mut N, place: u64, room: &mut [u8], from: usize, to: usize) -> Edge
     requires order { from ≤ to }
@@ -53,7 +53,7 @@ fn read_into<N: Nor>(nor: &mut N, place: u64, room: &mut [u8], from: usize, to: 
     nor.read_at(place, part)
 }
 
-/// Reads the disk while this block is named: its bytes are those of the image block.
+/// Reads the disk while a block is named: the bytes of that block are in the image block.
 fn read_named<N: Nor>(nor: &mut N, block: u64, place: u64, room: &mut [u8]) -> Edge
     requires fits { place + length room.old ≤ 4096 * blocks_of (N.extent nor.old) }
     requires within { block < blocks_of (N.extent nor.old) }
@@ -87,7 +87,7 @@ fn read_named<N: Nor>(nor: &mut N, block: u64, place: u64, room: &mut [u8]) -> E
     )
 }
 
-/// Reads the bytes of the disk from the place on.
+/// Fills `room` with the bytes of the disk from `place` on.
 pub(crate) fn read<N: Nor>(nor: &mut N, phase: &mut Phase, place: u64, room: &mut [u8]) -> Edge
     requires fits { place + length room.old ≤ 4096 * blocks_of (N.extent nor.old) }
     requires within { IsOfDisk (blocks_of (N.extent nor.old)) phase.old }

@@ -1,4 +1,4 @@
-//! A block of a settled disk is replaced as a whole.
+//! Replacing a whole block of a settled disk.
 
 ghost use Rattle.nor_flash.specs.Blocks.{IsErased, OutsideBlock, front, image_block, name_in, named, plain, with_block};
 ghost use Rattle.nor_flash.specs.NorDisks.{AreErased, HoldsPhase, IsCommit, IsOfDisk, IsPrepared, IsReplaced, IsSteady, blocks_of, nor_flash, seen};
@@ -39,7 +39,7 @@ fn store_image<N: Nor>(nor: &mut N, bytes: &[u8]) -> Edge
     nor.program(BLOCK as u64 * image, bytes)
 }
 
-/// Programs a name, whose block is erased.
+/// Sets a name, which must be erased, to a block's number.
 fn program_name<N: Nor>(nor: &mut N, name: u64, block: u64) -> Edge
     requires few { name < 4 }
     requires erased { IsTrue N.told
@@ -56,7 +56,7 @@ fn program_name<N: Nor>(nor: &mut N, name: u64, block: u64) -> Edge
     nor.program(BLOCK as u64 * (image + name), &block.to_be_bytes())
 }
 
-/// Programs the first two names. No block is named yet.
+/// Sets the first two names. They do not name the block yet.
 fn prepare<N: Nor>(nor: &mut N, block: u64) -> Edge
     requires { IsTrue N.told
         → AreErased (blocks_of (N.extent nor.old)) (N.flash nor.old).reads }
@@ -79,7 +79,7 @@ fn prepare<N: Nor>(nor: &mut N, block: u64) -> Edge
     program_name(nor, 2, block)
 }
 
-/// Programs the last name. From then on the block stands in the image block.
+/// Sets the last name. From then on the bytes of the block are those in the image block.
 fn commit<N: Nor>(nor: &mut N, block: u64) -> Edge
     requires within { block < blocks_of (N.extent nor.old) }
     requires prepared { IsTrue N.told
@@ -102,7 +102,8 @@ fn commit<N: Nor>(nor: &mut N, block: u64) -> Edge
     program_name(nor, 3, block)
 }
 
-/// Replaces a block of a settled disk. A power loss leaves the old block or the new one.
+/// Replaces a block of a settled disk. A power loss at any moment leaves the old block or the new
+/// one.
 pub(crate) fn replace<N: Nor>(nor: &mut N, phase: &mut Phase, block: u64, bytes: &[u8]) -> Edge
     requires settled { phase.old ≡ phases.Settled }
     requires within { block < blocks_of (N.extent nor.old) }

@@ -1,4 +1,4 @@
-//! Settling: a named block is rewritten, and the names are erased.
+//! Settling a disk: a named block is rewritten, and the names are erased.
 
 ghost use Rattle.nor_flash.specs.Blocks.{front, named, with_block};
 ghost use Rattle.nor_flash.specs.NorDisks.{AreErased, AreFirstNames, CanClear, HoldsPhase, IsOfDisk, IsQuiet, IsSteady, blocks_of};
@@ -11,7 +11,7 @@ ghost use Rattle.suit_edge.specs.Faults.{EdgeCounts};
 use crate::{BLOCK, Nor, Phase, blocks};
 use suit_edge::Edge;
 
-/// Erases the three names, of which these two go first.
+/// Erases the three names: `first`, then `second`, then the last one.
 fn erase_names<N: Nor>(nor: &mut N, first: u64, second: u64) -> Edge
     requires { AreFirstNames first second }
     ensures size { N.extent nor.new ≡ N.extent nor.old }
@@ -37,7 +37,7 @@ fn erase_names<N: Nor>(nor: &mut N, first: u64, second: u64) -> Edge
     blocks::erase(nor, image + 3)
 }
 
-/// Erases the names, beginning with one that then names no block anew.
+/// Erases the names in an order that never makes them newly name a block.
 fn clear_names<N: Nor>(nor: &mut N) -> Edge
     ensures size { N.extent nor.new ≡ N.extent nor.old }
     ensures counts { EdgeCounts result (N.faults nor.old) (N.faults nor.new) }
@@ -64,7 +64,7 @@ fn clear_names<N: Nor>(nor: &mut N) -> Edge
     }
 }
 
-/// Writes the image block over the block that is named.
+/// Copies the image block over the named block.
 fn rewrite<N: Nor>(nor: &mut N, block: u64) -> Edge
     requires { block < blocks_of (N.extent nor.old) }
     ensures size { N.extent nor.new ≡ N.extent nor.old }
@@ -93,8 +93,7 @@ fn rewrite<N: Nor>(nor: &mut N, block: u64) -> Edge
     nor.program(BLOCK as u64 * block, &room)
 }
 
-/// Rewrites the block that is named, and erases the names. Where that fails, the phase says what is
-/// left to do.
+/// Rewrites the named block and erases the names. If it fails, the phase says what is left to do.
 pub(crate) fn finish<N: Nor>(nor: &mut N, phase: &mut Phase, block: u64) -> Edge
     requires phase { phase.old ≡ phases.Rewriting block }
     requires within { block < blocks_of (N.extent nor.old) }
@@ -124,7 +123,7 @@ pub(crate) fn finish<N: Nor>(nor: &mut N, phase: &mut Phase, block: u64) -> Edge
     Edge::Done
 }
 
-/// Erases the names where no block is to be rewritten.
+/// Erases the names when no block is to be rewritten.
 fn clear<N: Nor>(nor: &mut N, phase: &mut Phase) -> Edge
     requires clears { IsTrue N.told
         → CanClear (blocks_of (N.extent nor.old)) phase.old (N.flash nor.old).reads }
@@ -149,7 +148,7 @@ fn clear<N: Nor>(nor: &mut N, phase: &mut Phase) -> Edge
     }
 }
 
-/// Settles: afterwards no block is named, and the disk is the same.
+/// Settles the disk: afterwards no block is named. What the disk reads stays the same.
 pub(crate) fn settle<N: Nor>(nor: &mut N, phase: &mut Phase) -> Edge
     requires within { IsOfDisk (blocks_of (N.extent nor.old)) phase.old }
     requires holds { IsTrue N.told
@@ -173,7 +172,7 @@ pub(crate) fn settle<N: Nor>(nor: &mut N, phase: &mut Phase) -> Edge
     }
 }
 
-/// Settles where nothing is known of the names.
+/// Settles a disk of whose names nothing is known.
 fn settle_unknown<N: Nor>(nor: &mut N, phase: &mut Phase) -> Edge
     requires { phase.old ≡ phases.Unsettled }
     ensures size { N.extent nor.new ≡ N.extent nor.old }

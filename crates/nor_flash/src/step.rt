@@ -2,14 +2,14 @@
 
 use det_cbor::Bytes;
 
-/// Bytes that were programmed from a place on.
+/// Bytes that were programmed from `place` on.
 #[derive(Debug, Drop)]
 pub(crate) struct Program {
     pub(crate) place: usize,
     pub(crate) bytes: Bytes,
 }
 
-/// So many bytes from a place on.
+/// `size` bytes from `place` on.
 #[derive(Debug, Drop)]
 pub(crate) struct Span {
     pub(crate) place: usize,
@@ -20,8 +20,8 @@ pub(crate) struct Span {
 #[derive(Debug, Drop)]
 pub(crate) enum Step {
     Programmed(Program),
-    /// The block of this number was erased.
+    /// This block was erased.
     Erased(usize),
-    /// A call failed, and left a part of the range spoiled.
+    /// A call failed, and spoiled every second byte of the range.
     Spoiled(Span),
 }

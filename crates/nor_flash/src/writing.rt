@@ -16,7 +16,7 @@ use crate::{BLOCK, Nor, Phase, blocks};
 use lane_bytes::only_clears;
 use suit_edge::Edge;
 
-/// Programs bytes of a settled disk that only clear bits of those that stand there.
+/// Programs bytes of a settled disk that only clear bits of what is there.
 fn clear_bits<N: Nor>(nor: &mut N, place: u64, bytes: &[u8]) -> Edge
     requires fits { place + length bytes.now ≤ 4096 * blocks_of (N.extent nor.old) }
     requires block { place % 4096 + length bytes.now ≤ 4096 }
@@ -45,7 +45,7 @@ fn clear_bits<N: Nor>(nor: &mut N, place: u64, bytes: &[u8]) -> Edge
     nor.program(place, bytes)
 }
 
-/// Whether the bytes only clear bits of those that stand there. None is a failure of the device.
+/// Whether the bytes only clear bits of what is there, or `None` if the device failed.
 fn clears<N: Nor>(nor: &mut N, place: u64, bytes: &[u8]) -> Option<bool>
     requires fits { place + length bytes.now ≤ N.extent nor.old }
     requires block { length bytes.now ≤ 4096 }
@@ -66,7 +66,7 @@ fn clears<N: Nor>(nor: &mut N, place: u64, bytes: &[u8]) -> Option<bool>
     }
 }
 
-/// Puts the bytes into the room.
+/// Copies the bytes into the room.
 #[tactic(auto, unfolding(suit_edge::specs::Ranges::written))]
 fn put(room: &mut [u8], from: usize, bytes: &[u8])
     requires { from + length bytes.now ≤ length room.old }
@@ -75,7 +75,7 @@ fn put(room: &mut [u8], from: usize, bytes: &[u8])
     room[from..from + bytes.len()].copy_from_slice(bytes);
 }
 
-/// Replaces the block of a settled disk in which the bytes lie.
+/// Replaces the block that the bytes lie in, on a settled disk.
 fn replace_range<N: Nor>(nor: &mut N, phase: &mut Phase, place: u64, bytes: &[u8]) -> Edge
     requires fits { place + length bytes.now ≤ 4096 * blocks_of (N.extent nor.old) }
     requires some { 1 ≤ length bytes.now }
@@ -111,7 +111,7 @@ fn replace_range<N: Nor>(nor: &mut N, phase: &mut Phase, place: u64, bytes: &[u8
     replace(nor, phase, block, &room)
 }
 
-/// Writes bytes of a settled disk that lie in one block.
+/// Writes bytes that lie in one block, on a settled disk.
 fn write_piece<N: Nor>(nor: &mut N, phase: &mut Phase, place: u64, bytes: &[u8]) -> Edge
     requires fits { place + length bytes.now ≤ 4096 * blocks_of (N.extent nor.old) }
     requires some { 1 ≤ length bytes.now }
@@ -148,7 +148,7 @@ fn write_piece<N: Nor>(nor: &mut N, phase: &mut Phase, place: u64, bytes: &[u8])
     }
 }
 
-/// How many of the bytes, which begin at that place, lie in its block.
+/// How many of `count` bytes from `place` on lie in the block of the first.
 fn piece_length(place: u64, count: usize) -> usize
     requires { 1 ≤ count }
     ensures some { 1 ≤ result }
@@ -158,7 +158,7 @@ fn piece_length(place: u64, count: usize) -> usize
     count.min(BLOCK - (place % BLOCK as u64) as usize)
 }
 
-/// Writes the bytes block by block.
+/// Writes the bytes block by block, on a settled disk.
 fn write_settled<N: Nor>(nor: &mut N, phase: &mut Phase, place: u64, bytes: &[u8]) -> Edge
     requires fits { place + length bytes.now ≤ 4096 * blocks_of (N.extent nor.old) }
     requires settled { phase.old ≡ phases.Settled }
@@ -199,7 +199,7 @@ fn write_settled<N: Nor>(nor: &mut N, phase: &mut Phase, place: u64, bytes: &[u8
     Edge::Done
 }
 
-/// Settles, and writes the bytes from the place on.
+/// Settles the disk, then writes the bytes from `place` on.
 pub(crate) fn write<N: Nor>(nor: &mut N, phase: &mut Phase, place: u64, bytes: &[u8]) -> Edge
     requires fits { place + length bytes.now ≤ 4096 * blocks_of (N.extent nor.old) }
     requires within { IsOfDisk (blocks_of (N.extent nor.old)) phase.old }

@@ -4,7 +4,7 @@ use Rattle.det_cbor.specs.ItemOrder.{items_order, pairs_order}
 use Rattle.det_cbor.specs.ItemTree.{trees_of, pair_trees_of}
 use Rattle.det_cbor.proofs.compare.+compare.Given as goal
 
--- the items so far are the same, so what is left decides
+-- the items so far are equal, so the rest decides
 abbrev pub invariant-compare_items-loop-index : goal.invariant-compare_items-loop-index
 invariant-compare_items-loop-index l =
     items_order (items_of (trees_of (drop l.index l.item-items))) (items_of (trees_of (drop l.index l.right-inside.held.items)))

@@ -4,7 +4,7 @@ use Rattle.det_cbor.specs.Faults.{Faulty}
 use Rattle.det_cbor.specs.Position.{Position, IsRefusal}
 use Rattle.det_cbor.proofs.cursor.Cursor.skip.Goals as goal
 
--- a fault of the bytes that are left is refused where they begin
+-- a fault in the bytes that are left, as a refusal at its place
 refused_from : (p : Position) (bytes : List ℕ) (start : ℕ) (e : CborRefusal) → record { left = bytes; place = start } ≡ p → Faulty 0 bytes e.place e.reason
     → IsRefusal p (Faulty 0) (record { place = start + e.place; reason = e.reason })
 refused_from p bytes start e is fault = subst (λ (q : Position). IsRefusal q (Faulty 0) (record { place = start + e.place; reason = e.reason })) is (record { at = e.place; fault = fault; place = refl })
