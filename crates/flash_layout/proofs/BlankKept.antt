@@ -33,7 +33,7 @@ blank_closed image large blank = ⊎_elim (λ small. absurd (omega (arith, small
 
 -- ---- slots
 
--- each slot lies behind the head, within the flash
+-- each slot is after the head of version 1, and inside the flash
 pub behind : (frame : Frame) (size : ℕ) (e : Entry) → IsEntry frame size e → All (λ p. IsBehindHead frame size p (slot_size e)) (slot_starts e)
 behind frame size e is = of_memory e.memory refl is.held
   where
@@ -56,14 +56,14 @@ empty_at image e p fits clear =
     get_or-take 8 bytes i 0 low ∙ get_or-between image p (p + (8 + e.capacity)) i 0 (omega (arith, low)) ∙ clear (p + i) (omega arith) (omega (arith, low)) ∙ sym (get_or-replicate 8 i 0 0 low)) in
     rw zeros (none (nat_le 0 e.capacity))
 
--- a byte of a slot's length lies behind the first bytes, and not in what stands at the base
+-- a byte of a slot's length is after the first bytes, and not in what is at the base
 length_apart : (frame : Frame) (size p n i : ℕ) → 8 ≤ n → IsBehindHead frame size p n → p ≤ i → i < p + 8 → Outside frame.base (frame_size frame) i
 length_apart frame size p n i long lies low high = ⊎_elim
     (λ before. let q = lies.2.1 (omega (arith, before)) in inl (omega (arith, q, high, long)))
     (λ from. let q = lies.2.0 from in inr (omega (arith, q, low)))
     (cases_lt p frame.base)
 
--- the lengths of slots that were cleared stay clear where no place changes where slots may be
+-- the lengths of slots that were cleared stay clear if no place changes where slots may be
 module _ (frame : Frame) (old image : List ℕ) (size : ℕ) (long : length image ≡ size) (same : (i : ℕ) → 49152 ≤ i → Outside frame.base (frame_size frame) i → get_or image i 0 ≡ get_or old i 0) where
   one_empty : (e : Entry) → All (λ p. IsBehindHead frame size p (slot_size e)) (slot_starts e) → All (IsClearAt old) (slot_starts e) → All (λ p. slot_content (slot_at e p) image ≡ []) (slot_starts e)
   one_empty e lies clear =
@@ -81,7 +81,7 @@ module _ (frame : Frame) (old image : List ℕ) (size : ℕ) (long : length imag
       (one_empty e (behind frame size e (All-head (IsEntry frame size) e layout each)) (All-head (λ (x : Entry). All (IsClearAt old) (slot_starts x)) e layout clear))
       (all_empty layout (All-tail (IsEntry frame size) e layout each) (All-tail (λ (x : Entry). All (IsClearAt old) (slot_starts x)) e layout clear))
 
--- the first bytes lie in no slot
+-- the first bytes are in no slot
 pub front_apart : (frame : Frame) (size : ℕ) (layout : List Entry) → All (IsEntry frame size) layout → (i : ℕ) → i < 49152 → OutsideAllLengths layout i
 front_apart frame size [] each i low = All-nil (λ (e : Entry). OutsideLengths (slot_starts e) i)
 front_apart frame size (e ∷ layout) each i low = All-cons (λ (x : Entry). OutsideLengths (slot_starts x) i) e layout
@@ -112,7 +112,7 @@ module _ (size : ℕ) (frame : Frame) (is : IsFrame size frame) (layout : List E
   place : FrameFacts size frame
   place = facts size frame is
 
-  -- all but the page and the root was prepared, and both stand
+  -- everything but the page and the root was prepared, and both are written
   module _ (old image : List ℕ) (long : length image ≡ size) (ready : IsPrepared frame layout old) (told : frame_told image ≡ Some frame)
       (page : slice_range image frame.base (frame.base + page_bytes frame) ≡ config_page frame layout key)
       (same : (i : ℕ) → Outside frame.base (page_bytes frame) i → Outside ROOT_GATE ROOT_BYTES i → get_or image i 0 ≡ get_or old i 0) where
@@ -160,7 +160,7 @@ module _ (size : ℕ) (frame : Frame) (is : IsFrame size frame) (layout : List E
     pub reading : (b : Flash) → IsSame start b → Passes start b P
     reading b same = weakens start b (Now start) P (λ image now blank. inl (blank image now)) same.images
 
-    -- while no gate is written that tells whether the flash is blank
+    -- while no gate is written that says whether the flash is blank
     module _ (K : ℕ → Type 0) (first : K CONFIG_GATE) (root : K ROOT_GATE) where
       pub still_closed : ((before : List ℕ) → Now start before → IsBlank before) → (image : List ℕ) → ImageOn K start image → AreGatesClosed image
       still_closed blank image on =

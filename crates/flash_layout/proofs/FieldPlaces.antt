@@ -1,4 +1,4 @@
--- The fields of a configuration page stand at their places.
+-- The fields of a configuration page are at their places.
 use Rattle.std.proofs.Common.{◌≡◌, ℕ, zero, suc, ◌+◌, ◌-◌, ◌*◌, ◌^◌, ◌<◌, ◌≤◌, List, [], ◌∷◌, ◌++◌, length, get_or, replicate, Option, Some, None, refl, sym, ap, subst, ◌∙◌, append_assoc, arith}
 use Rattle.std.specs.List.{slice_range, All}
 use Rattle.std.proofs.lemmas.List.Elements.{All-head, All-tail}
@@ -19,7 +19,7 @@ use Rattle.flash_layout.proofs.Laws.{IsShort, entry_fields, entry_long, entries_
 
 -- ---- one component
 
--- by the bytes of the two memories
+-- given the bytes of the two memories
 pub memory_placed : (m : Memory) → memory_byte memory.Flash ≡ 0 → memory_byte memory.Ram ≡ 1
     → IsMemoryByte m (memory_byte m)
 memory_placed memory.Flash flash ram = flash
@@ -48,7 +48,7 @@ identifier_placed e typed short =
 
 -- ---- components
 
--- the component of an index, in a list of bytes that has them behind k others
+-- the component with an index, in a list of bytes where it follows k others
 entry_slice : (es : List Entry) (before after : List ℕ) (i k : ℕ) (d : Entry) → All IsTypedEntry es → All IsShort es → i < length es → length before ≡ k
     → slice_range (before ++ (entries_bytes es ++ after)) (k + 142 * i) (k + 142 * (i + 1)) ≡ entry_bytes (get_or es i d)
 entry_slice [] before after i k d typed short inside long = absurd (omega (arith, inside))
@@ -67,7 +67,7 @@ entry_slice (e ∷ es) before after (suc i) k d typed short inside long =
 
 -- ---- the page
 
--- where each component's fields stand in its bytes
+-- given where each component's fields are in its bytes
 page_placed : ((e : Entry) → IsTypedEntry e → IsShort e → HasEntryPlaces e (entry_bytes e)) → (frame : Frame) (layout : List Entry) (key : Key) → AreTyped layout key → All IsShort layout → length layout ≤ most frame
     → HasPagePlaces frame layout key (config_page frame layout key)
 unfolding config_page

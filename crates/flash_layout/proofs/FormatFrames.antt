@@ -30,7 +30,7 @@ page_fewer frame body long i out = ⊎_elim
     (λ high. (inr (omega (arith, high)), (inr (omega (arith, high, long)), tt)))
     out
 
--- and so are the root and its gate
+-- the same for the root and its gate
 pub root_fewer : (body : List ℕ) → length body + 1 ≡ 10 → (i : ℕ) → Outside ROOT_GATE ROOT_BYTES i → OutsideEach (page_at ROOT_GATE (ROOT_GATE + 1) (length body)) i
 root_fewer body long i out = ⊎_elim
     (λ low. (inl low, (inl (omega (arith, low)), tt)))
@@ -41,7 +41,7 @@ module _ (size : ℕ) (frame : Frame) (is : IsFrame size frame) (layout : List E
   place : FrameFacts size frame
   place = facts size frame is
 
-  -- what is written first is none of the gates that tell whether the flash is blank
+  -- what is written first is none of the gates that say whether the flash is blank
   front_gate : (i : ℕ) → i < 49152 → Outside (record_place frame 0) (behind_pages frame) i → OutsidePrepared frame layout i
   front_gate i low out = (
     ⊎_elim (λ before. (inl before, inl (omega (arith, before)))) (λ past. (inr (omega (arith, past)), inr (omega (arith, past)))) out,
@@ -55,7 +55,7 @@ module _ (size : ℕ) (frame : Frame) (is : IsFrame size frame) (layout : List E
   pub root_gate : OutsidePrepared frame layout ROOT_GATE
   root_gate = front_gate 45056 (omega arith) (place.root 45056 (omega arith, omega arith))
 
-  -- ---- what is prepared, and then opened
+  -- ---- what is prepared and then opened
 
   module _ (start b c : Flash) (law : IsFlash start size) (law_b : IsFlash b size) (kept : Keeps (OutsidePrepared frame layout) start b) where
     pub prepared : Passes start b (IsBlankOrFormatted frame size layout key start)

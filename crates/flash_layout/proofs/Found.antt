@@ -1,4 +1,4 @@
--- Places of components, one by one.
+-- Finding components one by one.
 use Rattle.std.proofs.Common.{◌≡◌, ◌≢◌, ℕ, zero, suc, ◌+◌, ◌<◌, ◌≤◌, List, [], ◌∷◌, length, get_or, set, None, refl, sym, ap, subst, ◌∙◌, below_more, get_or-set_other, get_or-set_same, arith}
 use Rattle.flash_layout.specs.declared.layout.Entry.{Entry}
 use Rattle.flash_layout.specs.declared.layout.Memory.TheVariants.{Ram}
@@ -43,7 +43,7 @@ one_placed entries ids indices k i x e lt room is placed each =
 pub none_after : (indices : List ℕ) (k i : ℕ) → ((j : ℕ) → k ≤ j → get_or indices j 0 ≡ 0) → (j : ℕ) → k + 1 ≤ j → get_or (set indices k i) j 0 ≡ 0
 none_after indices k i rest j le = let ne : j ≢ k = omega (arith, le) in rw get_or-set_other (rest j (omega (arith, le)))
 
--- at one place stands one identifier
+-- a place has only one identifier
 pub other_places : (layout : List Entry) (ids : List (List (List ℕ))) (p : Places) → ArePlaces layout ids p → HaveOtherPlaces ids p
 other_places layout ids p are j k d below lt other same =
     let one = are.each j d (omega (arith, below, lt)) in

@@ -19,7 +19,7 @@ both_closed size frame is old once twice long first second =
       ap (λ (l : List ℕ). get_or l q 0) second ∙ written_one once q 0 fits,
     )
 
--- the gates of record pages are none of the work area
+-- the gates of the record pages are not in the work area
 pub gates_apart : (size : ℕ) (frame : Frame) → IsFrame size frame → (w : ℕ) → w < 2 → OutsideWorkGates frame (record_place frame w)
 gates_apart size frame is w few two =
     let place = facts size frame is in

@@ -1,4 +1,4 @@
--- Refusals of components, told of the slice that was judged.
+-- The refusals of components, stated of the slice that was judged.
 use Rattle.std.proofs.Common.{◌≡◌, ◌<◌, ◌≤◌, ℕ, List, length, Result, Ok, Err, subst}
 use Rattle.std.specs.Prelude.{MatchResult}
 use Rattle.suit_params.specs.Alike.{IsFirstAlike, HaveNoneAlike}

@@ -1,4 +1,4 @@
--- A layout that is spelled on a configuration page is read back.
+-- A layout that is written on a configuration page is read back.
 use Rattle.std.proofs.Common.{◌≡◌, ℕ, ◌+◌, ◌-◌, ◌*◌, ◌^◌, ◌<◌, ◌≤◌, false, ltb, List, [], ◌∷◌, ◌++◌, length, get_or, take, drop, replicate, Option, Some, None, Result, Ok, Err, refl, sym, ap, subst, ◌∙◌, append_assoc, arith}
 use Rattle.std.specs.List.{slice_range, All}
 use Rattle.std.specs.Prelude.{IfSome}
@@ -228,7 +228,7 @@ page_fields frame layout key typed short few =
 pub page_read : (frame : Frame) (size : ℕ) (bytes : List ℕ) (layout : List Entry) (key : Key) → AreTyped layout key → IsConfigPage frame size bytes layout key → page_at frame bytes ≡ Ok (layout, key)
 page_read frame size bytes layout key typed is = ap (page_at frame) is.is ∙ page_fields frame layout key typed (short_of frame size layout is.allowed) is.allowed.few
 
--- a page has as many bytes as are read of it
+-- a page has exactly the bytes that are read
 pub page_long : (frame : Frame) (size : ℕ) (layout : List Entry) (key : Key) → AreTyped layout key → IsLayout frame size layout → length (config_page frame layout key) ≡ page_bytes frame
 unfolding config_page
 page_long frame size layout key typed allowed =

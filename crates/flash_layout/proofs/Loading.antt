@@ -33,7 +33,7 @@ read_of reads room base m n same read = read ∙ ap (λ (k : ℕ). slice_range r
 
 -- ---- no frame
 
--- none has fewer bytes than the head of version 1
+-- a flash smaller than the head of version 1 has no frame
 pub small_none : (size : ℕ) (frame : Frame) → IsFrame size frame → size < 49152 → ⊥
 small_none size frame (First one base room) small = omega (arith, room, small)
 small_none size frame (Second two base room fits) small = omega (arith, base, room, small)
@@ -52,7 +52,7 @@ module _ (size : ℕ) (reads : List ℕ) (long : length reads ≡ size) (large :
     none = λ layout key frame c. none_some frame (none ∙ c.told);
   }
 
-  -- a frame that the flash may not have
+  -- a frame that is not allowed on the flash
   module _ (frame : Frame) (told : frame_told reads ≡ Some frame) (misplaced : IsFrame size frame → ⊥) where
     root_open : IsOpen reads ROOT_GATE
     root_open = ⊎_elim (λ opened. opened) (λ closed. absurd (misplaced (first closed))) (cases_eq (get_or reads 45056 0) 0xA5)
@@ -100,7 +100,7 @@ module _ (size : ℕ) (frame : Frame) (is : IsFrame size frame) (reads room : Li
     typed = typed;
   }
 
-  -- a gate is open, and there is no page
+  -- a gate is open, but there is no valid page
   pub bad : HasOpenGate reads → ((layout : List Entry) (key : Key) → AreTyped layout key → IsConfigPage frame size room layout key → ⊥) → IsBad size reads
   bad opened none = record {
     whole = omega (arith, long, has_room size frame is);
@@ -115,6 +115,6 @@ module _ (size : ℕ) (frame : Frame) (is : IsFrame size frame) (reads room : Li
   gate_by (First one base fits) opened = inl (ap (λ (k : ℕ). get_or reads k 0) (sym base) ∙ sym gate_read ∙ opened one)
   gate_by (Second two base fits low) opened = inr (second_open reads frame told two)
 
-  -- of version 1 the page's gate is read, and version 2 is told by an open root
+  -- for version 1 the page's gate was read, and version 2 is given by an open root
   pub open_gate : (frame.version ≡ 1 → get_or room 0 0 ≡ 0xA5) → HasOpenGate reads
   open_gate = gate_by is

@@ -1,4 +1,4 @@
--- A layout of version 1 by the frame of version 2.
+-- A layout of version 1, with the frame of version 2.
 use Rattle.std.proofs.Common.{◌≡◌, ◌≤◌, ℕ, List, length, get_or, arith}
 use Rattle.std.specs.List.{All}
 use Rattle.flash_layout.specs.declared.frame.Frame.{Frame}

@@ -1,4 +1,4 @@
--- An image says one configuration at most.
+-- An image has at most one configuration.
 use Rattle.std.proofs.Common.{◌≡◌, ◌<◌, ◌≤◌, ℕ, ◌+◌, ◌*◌, List, get_or, length, Option, Some, inl, inr, refl, sym, ap, subst, ◌∙◌, arith, ⊎_elim}
 use Rattle.std.proofs.lemmas.List.Edits.{get_or-between}
 use Rattle.flash_layout.specs.declared.frame.Frame.{Frame}
@@ -19,7 +19,7 @@ opens frame layout key = refl
 pub gate : (frame : Frame) (size : ℕ) (head : List ℕ) (layout : List Entry) (key : Key) → IsConfigPage frame size (config_page_of frame head) layout key → get_or head 0 0 ≡ 0xA5
 gate frame size head layout key page = sym (get_or-between head 0 (68 + 142 * most frame) 0 0 (omega arith)) ∙ ap (λ (l : List ℕ). get_or l 0 0) page.is ∙ opens frame layout key
 
--- of a configured image
+-- an image that is configured
 module _ (size : ℕ) (image : List ℕ) (layout : List Entry) (key : Key) (frame : Frame) (is : IsConfigured size image layout key frame) where
   gate_by : IsFrame size frame → HasOpenGate image
   gate_by (First one base room) =

@@ -47,7 +47,7 @@ flaw_or other (Err f) = f
 three : (m n : ℕ) → (m < n) ⊎ ((m ≡ n) ⊎ (n < m))
 three m n = grind arith
 
--- ---- what is refused is not held
+-- ---- what is refused is not allowed
 
 entry_none : Entry
 entry_none = record { identifier = []; memory = Ram; slots = 0; starts = []; capacity = 0; vendor = None; class = None; device = None }
@@ -69,7 +69,7 @@ not_held frame size layout f h (Shared i j few apart a) = overlap_not layout i j
 not_held frame size layout f h (Beyond i few apart clear a) = a.outside (h.inside i a.inside)
 not_held frame size layout f h (Misplaced _ few apart clear inside r) = base_not frame size layout f h.base r
 
--- ---- each fault is told once
+-- ---- there is only one fault of each kind
 
 alike_once : (layout : List Entry) (i j k l : ℕ) → IsFirstAlike identifier_of layout i j → IsFirstAlike identifier_of layout k l → (i ≡ k) × (j ≡ l)
 alike_once layout i j k l a b =

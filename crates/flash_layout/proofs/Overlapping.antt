@@ -1,4 +1,4 @@
--- Components that share no byte, told by their slots.
+-- Components that share no byte, in terms of their slots.
 use Rattle.std.proofs.Common.{◌≡◌, ◌<◌, ◌↔◌, ℕ, Bool, List, length, get_or, IsTrue, sym, subst₂, ◌∙◌}
 use Rattle.flash_layout.specs.declared.layout.Entry.{Entry}
 use Rattle.flash_layout.specs.Layouts.{slot_starts, slot_size, AreAllClear}

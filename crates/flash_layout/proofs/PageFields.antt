@@ -1,4 +1,4 @@
--- Fields of a page, by their places.
+-- The fields of a page, by place.
 use Rattle.std.proofs.Common.{◌≡◌, ℕ, ◌-◌, ◌^◌, ◌<◌, List, ◌++◌, length, refl}
 use Rattle.std.specs.List.{slice_range}
 use Rattle.std.proofs.lemmas.Nat.{from_be_bytes-to_be_bytes_8}

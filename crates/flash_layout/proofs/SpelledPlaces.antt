@@ -1,4 +1,4 @@
--- Identifiers that are spelled one after another are read so.
+-- Identifiers that are spelled one after another are read back.
 use Rattle.std.proofs.Common.{◌≡◌, ℕ, zero, suc, ◌+◌, ◌-◌, ◌^◌, ◌<◌, ◌≤◌, List, [], ◌∷◌, ◌++◌, length, get_or, take, drop, replicate, Result, Ok, Err, refl, sym, ap, subst, ◌∙◌, append_assoc, add-one, drop-cons, arith}
 use Rattle.std.specs.Prelude.{IsOk}
 use Rattle.std.proofs.lemmas.List.{take_at, drop_at, take_all, append-nil, length-append, length-take, take_more}
@@ -59,7 +59,7 @@ items_fit (id ∷ ids) fits =
     let count : item_count (string_items id) < 2 ^ 64 = omega (arith, count_of id, count_fits id few, few) in
     omega (arith, long, both, (head_length 4 (item_count (string_items id)) count).0, items_fit ids (omega (arith, fits, long)))
 
--- behind the array's head
+-- the position after the array's head
 pub record ReadsArray (p : Position) (ids : List (List (List ℕ))) : Type 0 where
   pub next : Position
   pub read : array_from p ≡ Ok (length ids, next)
@@ -123,7 +123,7 @@ identifier_next p ids k is lt bytes fits =
 
 -- ---- the byte strings of one
 
--- where the whole is read, so is the next of it
+-- if the whole is read, so is its next part
 pub next_is_read : (front : List (List ℕ)) (count done : ℕ) (p : Position) (total : Result (List (List ℕ)) Refusal) → done < count
     → with_front front (parts_from (count - done) p) ≡ total → IsOk total → IsOk (content_from p)
 next_is_read front count done p total lt so_far ok =
@@ -134,7 +134,7 @@ next_is_read front count done p total lt so_far ok =
     by_content (Ok c) is f = rw is refl
     by_content (Err r) is f = let bad : Err r ≡ total = rw is at f in rw is (subst IsOk (sym bad) ok)
 
--- what was read is what stands there in the whole
+-- what was read is the part of the whole at this index
 pub part_is : (parts front : List (List ℕ)) (i : ℕ) (a d : List ℕ) (rest total : Result (List (List ℕ)) Refusal) → i < length parts → length front ≡ i
     → with_front (front ++ a ∷ []) rest ≡ total → total ≡ Ok parts → a ≡ get_or parts i d
 part_is parts front i a d (Ok rest) total lt long so_far whole =
@@ -145,7 +145,7 @@ part_is parts front i a d (Ok rest) total lt long so_far whole =
     cc
 part_is parts front i a d (Err r) total lt long so_far whole = let both : ◌≡◌ {A = Result (List (List ℕ)) Refusal} (Err r) (Ok parts) = so_far ∙ whole in absurd cc
 
--- one more of them
+-- one more byte string
 module _ (parts : List (List ℕ)) (i : ℕ) (at inner next : Position) (d : List ℕ) (total : Result (List (List ℕ)) Refusal)
     (lt : i < length parts) (content : content_from at ≡ Ok (inner, next)) (so_far : with_front (take i parts) (parts_from (length parts - i) at) ≡ total) where
   pub same_next : get_or parts i d ≡ inner.left → with_front (take (i + 1) parts) (parts_from (length parts - (i + 1)) next) ≡ total
@@ -156,7 +156,7 @@ module _ (parts : List (List ℕ)) (i : ℕ) (at inner next : Position) (d : Lis
       part_is parts (take i parts) i inner.left d (parts_from (length parts - (i + 1)) next) total lt (omega (arith, length-take i parts, lt))
       (parts_step (take i parts) (length parts) i at next inner inner.left total lt (sym content) refl so_far) whole
 
--- after the last one the whole is read
+-- once the last one is read, so is the whole
 pub all_are_read : (parts : List (List ℕ)) (done : ℕ) (p : Position) (total : Result (List (List ℕ)) Refusal) → done ≡ length parts
     → with_front (take done parts) (parts_from (length parts - done) p) ≡ total → total ≡ Ok parts
 all_are_read parts done p total end so_far =
@@ -187,7 +187,7 @@ first_ok (Err s) f ok = ok
 is_ok : {A : Type 0} (r : Result A Refusal) (x : A) → r ≡ Ok x → IsOk r
 is_ok r x is = subst IsOk (sym is) refl
 
--- an answer and the position behind it
+-- an answer, and the position after it
 answer_pair : {A : Type 0} (r : Result A Refusal) (q : Position) (known : Result (A × Position) Refusal) (x a : A) (next : Position) → map_ok (λ y. (y, q)) r ≡ known → r ≡ Ok x → known ≡ Ok (a, next) → (x ≡ a) × (q ≡ next)
 answer_pair r q known x a next e is k = ok_pair x a q next (sym (answer_is (λ y. (y, q)) r known x e is) ∙ k)
 

@@ -14,7 +14,7 @@ pub spelled_parts : (parts : List (List ℕ)) → spelled_id parts ≡ head_byte
 unfolding spelled_id
 spelled_parts parts = rw (count_of parts) refl
 
--- bytes that are too long in front are too long
+-- bytes whose front is too long are too long
 pub too_long : (out part rest whole : List ℕ) → out ++ (part ++ rest) ≡ whole → 64 < length out + length part → 64 < length whole
 too_long out part rest whole is long = omega (arith, long, length-append out (part ++ rest), length-append part rest, ap length is)
 

@@ -1,4 +1,4 @@
--- Reading so many, one by one.
+-- Reading one element after another.
 use Rattle.std.proofs.Common.{◌≡◌, ℕ, suc, ◌+◌, ◌-◌, ◌*◌, ◌<◌, List, [], ◌∷◌, ◌++◌, take, drop, Result, Ok, Err, refl, sym, ap, ◌∙◌, append_assoc, arith}
 use Rattle.std.specs.List.{slice_range}
 use Rattle.std.proofs.lemmas.List.{drop-drop}
@@ -12,7 +12,7 @@ use Rattle.suit_params.specs.Reading.{content_from}
 use Rattle.flash_layout.specs.declared.layout.Entry.{Entry}
 use Rattle.flash_layout.specs.PageReading.{parts_from, entry_at, entries_at}
 
--- those that were read before, in front of what is read
+-- the elements read before, in front of those that are read
 abbrev pub with_front : {A : Type 0} → List A → Result (List A) Refusal → Result (List A) Refusal
 with_front front (Ok rest) = Ok (front ++ rest)
 with_front front (Err r) = Err r
@@ -50,7 +50,7 @@ entries_bad front count done at r total lt bad so_far =
     let step : with_front front (entries_at (count - done) at) ≡ Err r = rw (one, bad) refl in
     sym so_far ∙ step
 
--- where the components of a list of bytes stand
+-- the place of a component in a list of bytes
 pub entry_place : (bytes : List ℕ) (i : ℕ) → slice_range bytes (142 * i) (142 * i + 142) ≡ take 142 (drop (142 * i) bytes)
 entry_place bytes i = let n : 142 * i + 142 - 142 * i ≡ 142 = omega arith in rw n refl
 

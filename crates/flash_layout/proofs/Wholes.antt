@@ -1,4 +1,4 @@
--- A component that is read is as the rules allow it by itself, but for the size of the flash.
+-- A component that is read is allowed on its own, apart from the size of the flash.
 use Rattle.std.proofs.Common.{◌≡◌, ◌<◌, ◌≤◌, ℕ, ◌^◌, ◌-◌, Bool, true, false, true≢false, List, [], ◌∷◌, length, get_or, Option, Some, None, option_and_then, Result, Ok, refl, sym, ap, subst, ◌∙◌, arith}
 use Rattle.std.specs.Prelude.{IfSome, nat_le, ◌==◌, slice_index, if◌then◌else◌, codes, All}
 use Rattle.std.specs.Str.{bytes_eq}
@@ -68,7 +68,7 @@ id_is d id e =
     let q = kept_test (nat_le (length (spelled_id p.0)) 64) p.0 id p.2 in
     subst IsShortId q.1 (le_of (length (spelled_id p.0)) 64 q.0)
 
--- one or two, and 0 where there is none
+-- one or two starts, with 0 for one that is missing
 pub record AreStarts (s : Starts) : Type 0 where
   pub some : 1 ≤ s.count
   pub few : s.count ≤ 2
@@ -141,7 +141,7 @@ component_kept said t u key d h e =
 
 -- ---- components
 
--- as it may be, wherever its slots start
+-- a component is allowed, wherever its slots start
 abbrev pub IsFormed : Entry → Memory → Type 0
 IsFormed e memory.Flash = AreStarts (record { count = e.slots; places = e.starts })
 IsFormed e memory.Ram = IsInRam e
@@ -215,7 +215,7 @@ takes_kept t u key d h e =
     (either_kept AreRead (bytes_eq key (codes "components")) _ _
     (set_kept AreRead (components_of d) (λ entries. record t { components = Some entries }) (λ entries is. components_are d entries is)) (none_kept AreRead)) u e
 
--- the components are whole, and the frame is that of a base, or version 1's
+-- the components are allowed, and the frame has the base, or is that of version 1
 pub record IsDescribed (layout : List Entry) (frame : Frame) : Type 0 where
   pub whole : AreWhole layout
   pub base : Option ℕ

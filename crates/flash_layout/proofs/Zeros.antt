@@ -41,7 +41,7 @@ module _ (old new : List ℕ) (p : ℕ) (fits : p + 8 ≤ length old) (wrote : n
       beside : Outside p 8 i → get_or new i 0 ≡ 0
       beside out = ap (λ (l : List ℕ). get_or l i 0) wrote ∙ (written_outside old p (replicate 8 0) fits).same i out ∙ zero
 
--- ---- one slot more
+-- ---- one more slot
 
 pub slot_clear : (old new : List ℕ) (starts : List ℕ) (k : ℕ) → get_or starts k 0 + 8 ≤ length old → new ≡ written old (get_or starts k 0) (replicate 8 0)
     → ((j : ℕ) → j < k → IsClearAt old (get_or starts j 0)) → (j : ℕ) → j < k + 1 → IsClearAt new (get_or starts j 0)
@@ -56,7 +56,7 @@ slot_kept a b c size starts k law lt so_far kept =
     keeps_then (OutsideLengths starts) a b c size law so_far
     (keeps_fewer (OutsideLengths starts) (Outside (get_or starts k 0) 8) (λ i out. All-get_or (λ (q : ℕ). Outside q 8 i) starts k 0 lt out) b c kept)
 
--- ---- one component more
+-- ---- one more component
 
 pub entry_kept : (a b c : Flash) (size : ℕ) (entries : List Entry) (k : ℕ) (e d : Entry) → IsFlash b size → k < length entries → e ≡ get_or entries k d
     → Keeps (OutsideAllLengths entries) a b → Keeps (OutsideLengths (slot_starts e)) b c → Keeps (OutsideAllLengths entries) a c

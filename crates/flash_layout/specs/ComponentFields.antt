@@ -28,14 +28,15 @@ memory_named name =
 
 -- ---- values
 
--- an array of byte strings, spelled in at most 64 bytes
+-- an array of byte strings that is spelled in at most 64 bytes
 abbrev pub short_id : List (List ℕ) → Result (List (List ℕ)) Flaw
 short_id id = if nat_le (length (spelled_id id)) 64 then Ok id else flawed Field
 
+-- the identifier that an array of hexadecimal strings gives
 abbrev pub id_of : Data → Result (List (List ℕ)) Flaw
 id_of d = array_of hex_of d >>= λ id. short_id id
 
--- the memory of the kind, if it is one: it bounds the capacity, which stands before it
+-- the memory that the kind names, if it is a known one; it bounds the capacity, which is read before the kind
 abbrev pub memory_said : Data → Option Memory
 memory_said d = option_and_then memory_named (option_and_then as_str (get (codes "kind") d))
 
@@ -47,11 +48,11 @@ capacity_limit (Some memory.Ram) = MAX_RAM
 abbrev pub some_capacity : ℕ → Result ℕ Flaw
 some_capacity n = if nat_le 1 n then Ok n else flawed Field
 
--- at least one byte
+-- a capacity of at least one byte
 abbrev pub capacity_of : Option Memory → Data → Result ℕ Flaw
 capacity_of said d = number_up_to (capacity_limit said) d >>= λ n. some_capacity n
 
--- one slot that starts nowhere
+-- one slot, without a place
 abbrev pub no_starts : Starts
 no_starts = record { count = 1; places = 0 ∷ 0 ∷ [] }
 
@@ -65,7 +66,7 @@ one_or_two starts =
 abbrev pub flash_starts : Data → Result Starts Flaw
 flash_starts d = array_of (λ s. number_up_to (2 ^ 64 - 1) s) d >>= λ starts. one_or_two starts
 
--- an array of one or two starts; working memory may have none
+-- an array of one or two starts, which working memory may not have
 abbrev pub starts_of : Option Memory → Data → Result Starts Flaw
 starts_of None d = flash_starts d
 starts_of (Some memory.Flash) d = flash_starts d
@@ -84,7 +85,7 @@ no_component said = record {
   vendor = None;
 }
 
--- a member by its key
+-- takes a member, by its key
 abbrev pub takes_component : Takes ComponentFields
 takes_component t key d =
     if bytes_eq key (codes "capacity")
@@ -101,12 +102,12 @@ takes_component t key d =
     then (uuid_of d >>= λ id. Ok (record t { vendor = Some id }))
     else flawed Field
 
--- flash has to have slots
+-- flash must have slots
 abbrev pub starts_in : Memory → Option Starts → Result Starts Flaw
 starts_in memory.Flash starts = required (codes "slots") starts
 starts_in memory.Ram starts = Ok no_starts
 
--- a component of these parts
+-- a component with these parts
 abbrev pub entry_with : ComponentFields → ℕ → List (List ℕ) → Memory → Starts → Entry
 entry_with t capacity id kind starts = record {
   identifier = id;
@@ -119,11 +120,13 @@ entry_with t capacity id kind starts = record {
   device = t.device;
 }
 
+-- the component that the members describe, once all of them were taken
 abbrev pub whole : ComponentFields → Result Entry Flaw
 whole t =
     required (codes "capacity") t.capacity >>= λ capacity. required (codes "id") t.id >>= λ id.
     required (codes "kind") t.memory >>= λ kind. starts_in kind t.slots >>= λ starts.
     Ok (entry_with t capacity id kind starts)
 
+-- the component that a JSON value describes
 abbrev pub component_of : Data → Result Entry Flaw
 component_of d = object_of takes_component (no_component (memory_said d)) d >>= λ t. whole t

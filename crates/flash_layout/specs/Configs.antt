@@ -1,4 +1,4 @@
--- The configuration that an image of the flash has: a layout, a key, and the frame that tells where its parts stand.
+-- The configuration of an image of the flash: a layout, a key, and the frame that says where its parts are.
 use Rattle.std.specs.Prelude.{◌≡◌, ◌⊎◌, ◌<◌, ◌≤◌, ◌+◌, ℕ, List, length, Option, Some, None}
 use Rattle.suit_edge.specs.Faults.{Faulted}
 use Rattle.suit_edge.specs.Gate.{IsOpen}
@@ -13,19 +13,21 @@ use Rattle.flash_layout.specs.ConfigPage.{IsConfigPage}
 use Rattle.flash_layout.specs.Frames.{IsFrame, config_page_of, head_of, head_size}
 use Rattle.flash_layout.specs.Roots.{frame_told}
 
+-- what an image holds: no configuration, a bad one, or a layout and a key with their frame
 pub data Config : Type 0 where
   Blank : Config
   Bad : Config
   Configured : List Entry → Key → Frame → Config
 
--- neither the gate of version 1 nor that of the root is open
+-- neither the gate of version 1's configuration page nor that of the root is open
 abbrev pub AreGatesClosed : List ℕ → Type 0
 AreGatesClosed image = (IsOpen image CONFIG_GATE → ⊥) × (IsOpen image ROOT_GATE → ⊥)
 
--- a small flash, or gates that are not open
+-- the flash is too small for a head, or its gates are closed
 abbrev pub IsBlank : List ℕ → Type 0
 IsBlank image = (length image < HEAD_SIZE) ⊎ AreGatesClosed image
 
+-- the image has the frame, which is allowed on a flash of this size, and the page of this layout and key
 pub record IsConfigured (size : ℕ) (image : List ℕ) (layout : List Entry) (key : Key)
     (frame : Frame) : Type 0 where
   pub placed : IsFrame size frame
@@ -34,14 +36,14 @@ pub record IsConfigured (size : ℕ) (image : List ℕ) (layout : List Entry) (k
   pub typed : AreTyped layout key
   pub page : IsConfigPage frame size (config_page_of frame (head_of frame image)) layout key
 
--- an open gate, and no layout and key
+-- a gate is open, but there is no layout and key that are allowed
 pub record IsBad (size : ℕ) (image : List ℕ) : Type 0 where
   pub whole : HEAD_SIZE ≤ length image
   pub gate : IsOpen image CONFIG_GATE ⊎ IsOpen image ROOT_GATE
   pub none : (layout : List Entry) (key : Key) (frame : Frame)
       → IsConfigured size image layout key frame → ⊥
 
--- by an image of a flash of that size
+-- the image has this configuration, on a flash of this size
 abbrev pub ConfigOf : ℕ → List ℕ → Config → Type 0
 ConfigOf size image Blank = IsBlank image
 ConfigOf size image Bad = IsBad size image
@@ -49,7 +51,7 @@ ConfigOf size image (Configured layout key frame) = IsConfigured size image layo
 
 -- ---- the frame
 
--- the frame that the root tells, if it is one of a flash of that size
+-- the frame that the root gives, if it is allowed on a flash of this size
 abbrev pub FrameOf : ℕ → List ℕ → Option Frame → Type 0
 FrameOf size image (Some frame) = IsFrame size frame × (frame_told image ≡ Some frame)
 FrameOf size image None =
@@ -57,12 +59,12 @@ FrameOf size image None =
 
 -- ---- the answers of a load
 
--- the count of faults rose for a fault, and stayed otherwise
+-- the count of faults rises for a fault, and stays otherwise
 abbrev pub LoadCounts : Loaded → ℕ → ℕ → Type 0
 LoadCounts loaded.FlashFault before now = Faulted before now
 LoadCounts _ before now = now ≡ before
 
--- a layout and a key that the rules allow on a flash of the size, which has that frame
+-- a layout and a key that are allowed on a flash of this size with this frame
 pub record IsAllowed (frame : Frame) (size : ℕ) (layout : List Entry) (key : Key) : Type 0 where
   pub frame_is : IsFrame size frame
   pub whole : head_size frame ≤ size
@@ -70,11 +72,12 @@ pub record IsAllowed (frame : Frame) (size : ℕ) (layout : List Entry) (key : K
   pub key_is : IsKey key
   pub typed : AreTyped layout key
 
+-- a configuration that was loaded is allowed on a flash of this size
 abbrev pub LoadsAllowed : ℕ → Loaded → Type 0
 LoadsAllowed size (loaded.Config layout key frame) = IsAllowed frame size layout key
 LoadsAllowed size _ = Unit {0}
 
--- as the image says, unless there was a fault or memory ran out
+-- the answer is what the image says, or there was a fault, or memory ran out
 abbrev pub LoadsExactly : ℕ → List ℕ → Loaded → Type 0
 LoadsExactly size image (loaded.Config layout key frame) =
     ConfigOf size image (Configured layout key frame)

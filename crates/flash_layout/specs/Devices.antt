@@ -16,12 +16,14 @@ use Rattle.flash_layout.specs.declared.device_fields.DeviceFields.{DeviceFields}
 use Rattle.flash_layout.specs.ComponentFields.{component_of}
 use Rattle.flash_layout.specs.Roots.{second_frame}
 
+-- there must be at least one component
 abbrev pub some_components : List Entry → Result (List Entry) Flaw
 some_components entries = if nat_le 1 (length entries) then Ok entries else flawed Field
 
 abbrev pub components_of : Data → Result (List Entry) Flaw
 components_of d = array_of component_of d >>= λ entries. some_components entries
 
+-- takes a member, by its key
 abbrev pub takes_device : Takes DeviceFields
 takes_device t key d =
     if bytes_eq key (codes "base")
@@ -30,7 +32,7 @@ takes_device t key d =
     then (components_of d >>= λ entries. Ok (record t { components = Some entries }))
     else flawed Field
 
--- a base chooses version 2
+-- a base selects version 2
 abbrev pub frame_with : Option ℕ → Frame
 frame_with None = VERSION_1
 frame_with (Some base) = second_frame base
@@ -38,7 +40,7 @@ frame_with (Some base) = second_frame base
 abbrev pub no_device : DeviceFields
 no_device = record { base = None; components = None }
 
--- the components and the frame that a value of JSON says, or the first flaw of its fields
+-- the components and the frame that a JSON value describes, or the first flaw of its fields
 abbrev pub described_layout : Data → Result (List Entry × Frame) Flaw
 described_layout d =
     object_of takes_device no_device d

@@ -1,4 +1,4 @@
--- What the places of a frame have to do with one another, whatever its version is.
+-- How the places of a frame are related, for either version.
 use Rattle.std.proofs.Common.{◌≡◌, inl, inr, ◌<◌, ◌^◌, ◌≤◌, zero, suc, ℕ, ◌+◌, ◌-◌, List, length, get_or, take, drop, ◌∙◌, ap, arith}
 use Rattle.std.specs.Prelude.{◌==◌, if◌then◌else◌}
 use Rattle.std.specs.List.{slice_range}
@@ -10,33 +10,34 @@ use Rattle.flash_layout.specs.declared.frame.TheConstants.{CONFIG_GATE, ROOT_BYT
 use Rattle.flash_layout.specs.Frames.{First, Second, IsFrame, bank_from, bank_of, bank_place, bank_size, by_version, config_page_of, config_size, frame_size, head_of, head_size, page_bytes, record_from, record_place}
 use Rattle.flash_layout.specs.Layouts.{AreClear, IsBehindHead}
 
--- the bytes of the record pages and the banks
+-- the size of the record pages and the banks
 abbrev pub behind_pages : Frame → ℕ
 behind_pages frame = 8192 + bank_size frame + bank_size frame
 
--- of a frame of a flash of that size
+-- these hold of a frame on a flash of this size
 pub record FrameFacts (size : ℕ) (frame : Frame) : Type 0 where
-  -- the record pages and the banks lie apart from the gate of version 1 and from the root
+  -- the record pages and the banks are apart from the gate of version 1's configuration page, and from the
+  -- root
   pub gate : Outside (record_place frame 0) (behind_pages frame) CONFIG_GATE
   pub root : (i : ℕ) → Within ROOT_GATE ROOT_BYTES i
       → Outside (record_place frame 0) (behind_pages frame) i
-  -- eight components are read at least, and all that is read stands on that page
+  -- the bytes that are read have room for at least eight components, and are all on the configuration page
   pub some : 1204 ≤ page_bytes frame
   pub page : page_bytes frame ≤ config_size frame
-  -- the record pages and the banks stand behind it, to the end of the head
+  -- the record pages and the banks follow that page, up to the end of the head
   pub first_bank : bank_from frame 0 ≡ record_from frame 2
   pub second_bank : bank_from frame 1 ≡ record_from frame 2 + bank_size frame
   pub head : record_from frame 2 + bank_size frame + bank_size frame ≤ head_size frame
-  -- an envelope of 16,384 bytes has room in a bank
+  -- a bank has room for an envelope of 16,384 bytes
   pub large : 16384 ≤ bank_size frame
   pub whole : head_size frame ≤ frame_size frame
-  -- the head lies in the flash
+  -- the head is inside the flash
   pub inside : frame.base + head_size frame ≤ size
-  -- and so does the work area of version 2
+  -- the work area of version 2 is inside the flash
   pub area : frame.version ≡ 2 → frame.base + 225280 ≤ size
-  -- by places that are numbers of the code
+  -- all places are 64-bit numbers
   pub numbers : frame.base + frame_size frame < 2 ^ 64
-  -- and shares no byte with slots
+  -- the head shares no byte with a slot
   pub clear : (p n : ℕ) → IsBehindHead frame size p n → AreClear frame.base (head_size frame) p n
 
 pub by_second : (frame : Frame) (first second : ℕ) → frame.version ≡ 2 → by_version frame first second ≡ second
@@ -94,7 +95,7 @@ facts size frame (Second is base room low) =
 
 -- ---- ranges
 
--- a range of a range
+-- a range within a range
 pub within : (image : List ℕ) (base size from to : ℕ) → from ≤ to → to ≤ size → slice_range (slice_range image base (base + size)) from to ≡ slice_range image (base + from) (base + to)
 within image base size from to low high =
     let inner = drop base image in
@@ -107,7 +108,7 @@ within image base size from to low high =
 -- ---- the parts of a head
 
 module _ (size : ℕ) (frame : Frame) (is : FrameFacts size frame) where
-  -- a bank ends with the head at the latest
+  -- a bank ends within the head
   pub bank_high : (b : ℕ) → b < 2 → bank_from frame b + bank_size frame ≤ head_size frame
   bank_high zero two = omega (arith, is.first_bank, is.head)
   bank_high (suc zero) two = omega (arith, is.second_bank, is.head)
@@ -117,7 +118,7 @@ module _ (size : ℕ) (frame : Frame) (is : FrameFacts size frame) where
     pub head_long : frame.base + head_size frame ≤ length image → length (head_of frame image) ≡ head_size frame
     head_long fits = length-between image frame.base (frame.base + head_size frame) fits ∙ omega arith
 
-    -- a byte, and a range of bytes, by the place in the flash
+    -- a byte of the head, and a range of its bytes, as those of the flash
     pub byte_there : (i : ℕ) → i < head_size frame → get_or (head_of frame image) i 0 ≡ get_or image (frame.base + i) 0
     byte_there i few = get_or-between image frame.base (frame.base + head_size frame) i 0 (omega (arith, few))
 

@@ -1,4 +1,4 @@
--- Where the parts of a flash stand, by the version of its layout.
+-- Where the parts of a flash are, for each version of its layout.
 use Rattle.std.specs.Prelude.{◌≡◌, ◌≢◌, ◌<◌, ◌+◌, ◌^◌, ℕ, List, ◌∷◌, Some, None}
 use Rattle.suit_edge.specs.declared.page.TheConstants.{OPEN, CLOSED}
 use Rattle.flash_layout.specs.declared.frame.TheConstants.{VERSION_1, ROOT_BYTES, ROOT_GATE, SLOTS_START, LENGTH_SIZE, ENTRY_SIZE, FRONT_SIZE}
@@ -30,7 +30,7 @@ pub record FrameLaws : Type 0 where
   pub slots : SLOTS_START ≡ 49152
   pub length : LENGTH_SIZE ≡ 8
 
--- of layout version 2 with this base
+-- layout version 2 with this base
 pub record SecondLaws (base : ℕ) : Type 0 where
   pub size : head_size (second_frame base) ≡ 147456
   -- the configuration page: up to 32 components, so that 4,612 bytes are read
@@ -48,7 +48,7 @@ pub record SecondLaws (base : ℕ) : Type 0 where
   pub checkpoint : checkpoint_place (second_frame base) ≡ base + 155648
   pub whole : frame_size (second_frame base) ≡ 225280
 
--- what the bytes of a root tell
+-- the frame that the bytes of a root give
 pub record RootLaws : Type 0 where
   pub place : ROOT_GATE ≡ 45056
   pub bytes : ROOT_BYTES ≡ 10

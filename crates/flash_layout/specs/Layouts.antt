@@ -1,4 +1,4 @@
--- Which layouts a flash of a size may have, and which keys.
+-- Which layouts and which keys are allowed on a flash of a given size.
 use Rattle.std.specs.Prelude.{◌≡◌, ◌≢◌, ◌<◌, ◌≤◌, ◌+◌, ◌^◌, ℕ, List, [], length, take, slice_index, IfSome, All, AllPairs}
 use Rattle.flash_layout.specs.declared.frame.Frame.{Frame}
 use Rattle.flash_layout.specs.declared.frame.TheConstants.{LENGTH_SIZE, SLOTS_START}
@@ -19,11 +19,11 @@ starts_in memory.Ram starts = []
 abbrev pub slot_starts : Entry → List ℕ
 slot_starts e = starts_in e.memory (take e.slots e.starts)
 
--- a slot has eight bytes of length before its content
+-- a slot has eight bytes for the length before its content
 abbrev pub slot_size : Entry → ℕ
 slot_size e = LENGTH_SIZE + e.capacity
 
--- of two ranges the lower one ends before the higher one begins
+-- the lower of two ranges ends before the higher one begins
 abbrev pub AreClear : ℕ → ℕ → ℕ → ℕ → Type 0
 AreClear p m q n = (p ≤ q → p + m ≤ q) × (q ≤ p → q + n ≤ p)
 
@@ -31,12 +31,12 @@ AreClear p m q n = (p ≤ q → p + m ≤ q) × (q ≤ p → q + n ≤ p)
 abbrev pub IsInside : ℕ → ℕ → ℕ → Type 0
 IsInside size p n = (SLOTS_START ≤ p) × (p + n ≤ size)
 
--- and shares no byte with the head and the work area
+-- the same, and it shares no byte with the head and the work area
 abbrev pub IsBehindHead : Frame → ℕ → ℕ → ℕ → Type 0
 IsBehindHead frame size p n =
     (SLOTS_START ≤ p) × (p + n ≤ size) × AreClear frame.base (frame_size frame) p n
 
--- a range shares no byte with those that start there
+-- a range shares no byte with any of those at these starts
 abbrev pub IsClearOf : ℕ → ℕ → List ℕ → ℕ → Type 0
 IsClearOf p m starts n = All (λ q. AreClear p m q n) starts
 
@@ -45,13 +45,13 @@ AreAllClear ps m qs n = All (λ p. IsClearOf p m qs n) ps
 
 -- ---- components
 
--- working memory has one slot, which starts nowhere
+-- working memory has one slot, without a place
 abbrev pub IsInRam : Entry → Type 0
 IsInRam e =
     (e.slots ≡ 1) × (slice_index e.starts 0 ≡ 0) × (slice_index e.starts 1 ≡ 0)
     × (e.capacity ≤ 1048576)
 
--- one or two slots, apart, within the flash of this size
+-- a component in flash has one or two slots, which are apart and where they may be on a flash of this size
 abbrev pub IsInFlash : Frame → ℕ → Entry → Type 0
 IsInFlash frame size e =
     (1 ≤ e.slots) × (e.slots ≤ 2) × (e.slots ≡ 1 → slice_index e.starts 1 ≡ 0)
@@ -65,16 +65,20 @@ abbrev pub IsOfMemory : Frame → ℕ → Entry → Memory → Type 0
 IsOfMemory frame size e memory.Flash = IsInFlash frame size e
 IsOfMemory frame size e memory.Ram = IsInRam e
 
+-- the component is allowed: its identifier is spelled in at most 64 bytes, it has at least one byte of
+-- capacity, and its slots suit its memory
 pub record IsEntry (frame : Frame) (size : ℕ) (e : Entry) : Type 0 where
   pub short : length (spelled_id e.identifier) ≤ 64
   pub some : 1 ≤ e.capacity
   pub held : IsOfMemory frame size e e.memory
 
--- two components have other identifiers, and share no byte
+-- two components have different identifiers, and share no byte
 pub record AreApart (a b : Entry) : Type 0 where
   pub other : a.identifier ≢ b.identifier
   pub clear : AreAllClear (slot_starts a) (slot_size a) (slot_starts b) (slot_size b)
 
+-- the layout is allowed: it has at least one component and no more than the frame allows, each is allowed,
+-- and any two are apart
 pub record IsLayout (frame : Frame) (size : ℕ) (layout : List Entry) : Type 0 where
   pub some : 1 ≤ length layout
   pub few : length layout ≤ most frame
@@ -83,13 +87,13 @@ pub record IsLayout (frame : Frame) (size : ℕ) (layout : List Entry) : Type 0 
 
 -- ---- keys
 
--- 1 to 64 bytes, and zeros after them
+-- the key has 1 to 64 bytes, padded with zeros
 pub record IsKey (key : Key) : Type 0 where
   pub some : 1 ≤ key.length
   pub few : key.length ≤ 64
   pub rest : (i : ℕ) → key.length ≤ i → i < 64 → slice_index key.bytes i ≡ 0
 
--- ---- the bounds of the fields, by their types
+-- ---- bounds that the types of the fields give
 
 abbrev pub IsUuid : List ℕ → Type 0
 IsUuid id = length id ≡ 16

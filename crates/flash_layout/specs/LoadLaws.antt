@@ -9,18 +9,18 @@ use Rattle.flash_layout.specs.Configs.{ConfigOf, Configured, LoadCounts, LoadsAl
 use Rattle.flash_layout.specs.Frames.{IsFrame, head_size}
 
 pub record LoadLaws : Type 0 where
-  -- a loaded layout and key are allowed by the rules on a flash of the size, which has room for the head
+  -- a layout and a key that are loaded are allowed on a flash of this size, which has room for the head
   pub allowed : (frame : Frame) (size : ℕ) (layout : List Entry) (key : Key)
       → LoadsAllowed size (loaded.Config layout key frame)
       → IsLayout frame size layout × IsKey key × AreTyped layout key × (head_size frame ≤ size)
-  -- by a frame of the flash
+  -- the frame is one of the flash
   pub frame_is : (frame : Frame) (size : ℕ) (layout : List Entry) (key : Key)
       → LoadsAllowed size (loaded.Config layout key frame) → IsFrame size frame
-  -- and so is what an image says
+  -- what an image says is allowed too
   pub said : (frame : Frame) (size : ℕ) (image : List ℕ) (layout : List Entry) (key : Key)
       → length image ≤ size → ConfigOf size image (Configured layout key frame)
       → LoadsAllowed size (loaded.Config layout key frame)
-  -- two loads of one image agree
+  -- two loads of the same image agree
   pub one : (size : ℕ) (image : List ℕ) (layout others : List Entry) (key other : Key)
       (frame there : Frame) → LoadsExactly size image (loaded.Config layout key frame)
       → LoadsExactly size image (loaded.Config others other there)
@@ -31,7 +31,7 @@ pub record LoadLaws : Type 0 where
   pub not_bad : (size : ℕ) (image : List ℕ) (layout : List Entry) (key : Key) (frame : Frame)
       → LoadsExactly size image (loaded.Config layout key frame)
       → LoadsExactly size image loaded.BadConfig → ⊥
-  -- a fault alone raises the count
+  -- only a fault raises the count
   pub failed : (before : ℕ) → before < 2 ^ 64 - 1 → LoadCounts loaded.FlashFault before before → ⊥
   pub config : (layout : List Entry) (key : Key) (frame : Frame) (before now : ℕ)
       → LoadCounts (loaded.Config layout key frame) before now → now ≡ before

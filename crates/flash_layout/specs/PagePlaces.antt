@@ -1,4 +1,4 @@
--- Where the fields of the configuration page stand, by their places in it. All numbers are big-endian.
+-- Where the fields of the configuration page are. All numbers are big-endian.
 use Rattle.std.specs.Prelude.{◌≡◌, ◌<◌, ◌≤◌, ◌+◌, ◌-◌, ◌*◌, ℕ, List, ◌∷◌, length, replicate, slice_index, slice_index_or, slice_range, Option, Some, None}
 use Rattle.std.specs.Int.{w64, from_be_bytes}
 use Rattle.flash_layout.specs.declared.frame.Frame.{Frame}
@@ -15,7 +15,7 @@ abbrev pub IsMemoryByte : Memory → ℕ → Type 0
 IsMemoryByte memory.Flash byte = byte ≡ 0
 IsMemoryByte memory.Ram byte = byte ≡ 1
 
--- 17 zeros where there is no UUID, and else 1 and its 16 bytes
+-- 17 zeros if there is no UUID, otherwise 1 and its 16 bytes
 abbrev pub IsIdField : Option (List ℕ) → List ℕ → Type 0
 IsIdField None bytes = bytes ≡ replicate 17 0
 IsIdField (Some id) bytes = bytes ≡ 1 ∷ id
@@ -23,13 +23,13 @@ IsIdField (Some id) bytes = bytes ≡ 1 ∷ id
 abbrev pub IsNumberField : ℕ → List ℕ → Type 0
 IsNumberField n bytes = from_be_bytes w64 bytes ≡ n
 
--- an identifier of so many bytes in the shortest form of CBOR, at the front of 64 bytes
+-- an identifier of this length, spelled in the shortest form of CBOR and padded with zeros to 64 bytes
 abbrev pub IsIdentifierField : ℕ → List (List ℕ) → List ℕ → Type 0
 IsIdentifierField size id bytes =
     (size ≡ length (spelled_id id)) × (slice_range bytes 0 size ≡ spelled_id id)
     × (slice_range bytes size 64 ≡ replicate (64 - size) 0)
 
--- the 142 bytes of a component
+-- the fields in the 142 bytes of a component
 pub record HasEntryPlaces (e : Entry) (bytes : List ℕ) : Type 0 where
   pub memory : IsMemoryByte e.memory (slice_index bytes 0)
   pub slots : slice_index bytes 1 ≡ e.slots
@@ -41,15 +41,17 @@ pub record HasEntryPlaces (e : Entry) (bytes : List ℕ) : Type 0 where
   pub first : IsNumberField (slice_index e.starts 0) (slice_range bytes 126 134)
   pub second : IsNumberField (slice_index e.starts 1) (slice_range bytes 134 142)
 
--- of each component whose identifier has at most 64 bytes, and its 142 bytes
+-- this holds of each component whose identifier has at most 64 bytes, and of its 142 bytes
 abbrev pub OfEachEntry : (Entry → List ℕ → Type 0) → Type 0
 OfEachEntry P = (e : Entry) → IsTypedEntry e → length (spelled_id e.identifier) ≤ 64
     → P e (entry_bytes e)
 
--- where a component of the page starts
+-- the place of a component on the page
 abbrev pub entry_place : ℕ → ℕ
 entry_place i = 68 + 142 * i
 
+-- the fields of the page: the open gate, the version, the key's length, the number of components, the key,
+-- the components, and zeros
 pub record HasPagePlaces (frame : Frame) (layout : List Entry) (key : Key) (page : List ℕ)
     : Type 0 where
   pub long : length page ≡ page_bytes frame

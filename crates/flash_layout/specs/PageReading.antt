@@ -1,4 +1,4 @@
--- How a configuration page is read. The result is spelled again and compared, so nothing is judged here but what
+-- How a configuration page is read. The result is written again and compared, so this judges only what
 -- reading needs.
 use Rattle.std.specs.Prelude.{ℕ, zero, suc, ◌+◌, ◌==◌, nat_lt, if◌then◌else◌, List, [], ◌∷◌, take, drop, slice_index, slice_range, Option, Some, None, Result, Ok, Err}
 use Rattle.std.specs.Int.{w64, from_be_bytes}
@@ -18,7 +18,7 @@ use Rattle.flash_layout.specs.Frames.{most, page_bytes}
 
 -- ---- identifiers
 
--- so many byte strings
+-- the next n byte strings
 abbrev pub parts_from : ℕ → Position → Result (List (List ℕ)) Refusal
 parts_from zero p = Ok []
 parts_from (suc n) p = content_from p >>= λ c. parts_from n c.1 >>= λ rest. Ok (c.0.left ∷ rest)

@@ -1,4 +1,4 @@
--- Laws of the frame that the root of an image tells, which no clause can say.
+-- Laws of the frame that the root of an image gives, which no clause of a contract can state.
 use Rattle.std.proofs.Common.{◌≡◌, ◌≢◌, ◌<◌, ◌^◌, ⊎_elim, ℕ, ◌+◌, ◌∷◌, Bool, refl, true, false, List, length, get_or, Option, Some, None, sym, ◌∙◌, ap, subst, arith}
 use Rattle.std.specs.Prelude.{◌==◌, if◌then◌else◌}
 use Rattle.std.specs.List.{slice_range}
@@ -24,7 +24,7 @@ open_by : (root : List ℕ) → get_or root 0 0 ≡ 0xA5 → frame_by root ≡ f
 unfolding frame_by
 open_by root opened = ap (λ (b : Bool). if b then frame_in root else Some VERSION_1) (eq-eqb (get_or root 0 0) 0xA5 opened)
 
--- a root that is closed tells version 1
+-- a closed root gives version 1
 pub told_closed : (image : List ℕ) → (IsOpen image ROOT_GATE → ⊥) → frame_told image ≡ Some VERSION_1
 told_closed image closed = shut_by (root_of image) (λ opened. closed (sym (root_gate image) ∙ opened))
 
@@ -38,7 +38,7 @@ version_of : (b : Bool) (base : ℕ) (frame : Frame) → (if b then Some (second
 version_of true base frame e = sym (ap (λ (f : Frame). f.version) (some_same (second_frame base) frame e))
 version_of false base frame e = absurd (none_some frame e)
 
--- a root that is open tells no other version than 2
+-- an open root gives no version but 2
 second_in : (root : List ℕ) (frame : Frame) → frame_in root ≡ Some frame → frame.version ≡ 2
 unfolding frame_in
 second_in root frame e = version_of (get_or root 1 0 == 2) (number_at (slice_range root 2 10)) frame e
@@ -46,7 +46,7 @@ second_in root frame e = version_of (get_or root 1 0 == 2) (number_at (slice_ran
 pub open_second : (image : List ℕ) (frame : Frame) → frame_told image ≡ Some frame → IsOpen image ROOT_GATE → frame.version ≡ 2
 open_second image frame told opened = second_in (root_of image) frame (sym (open_by (root_of image) (root_gate image ∙ opened)) ∙ told)
 
--- a frame of version 1 is told by a root that is closed, and one of version 2 by one that is open
+-- version 1 is given by a closed root, and version 2 by an open one
 pub first_closed : (image : List ℕ) (frame : Frame) → frame_told image ≡ Some frame → frame.version ≡ 1 → IsOpen image ROOT_GATE → ⊥
 first_closed image frame told one opened = omega (arith, one, open_second image frame told opened)
 
@@ -56,11 +56,11 @@ second_open image frame told two = ⊎_elim (λ opened. opened) (λ closed. absu
     first : (IsOpen image ROOT_GATE → ⊥) → ⊥
     first closed = omega (arith, two, ap (λ (f : Frame). f.version) (some_same VERSION_1 frame (sym (told_closed image closed) ∙ told)))
 
--- where nothing is told, the root is open
+-- a root that gives nothing is open
 pub untold_open : (image : List ℕ) → frame_told image ≡ None → IsOpen image ROOT_GATE
 untold_open image none = ⊎_elim (λ opened. opened) (λ closed. absurd (none_some VERSION_1 (sym none ∙ told_closed image closed))) (cases_eq (get_or image 45056 0) 0xA5)
 
--- ---- by its bytes
+-- ---- roots by their bytes
 
 pub closed_by : (gate : ℕ) (rest : List ℕ) → gate ≢ 0xA5 → frame_by (gate ∷ rest) ≡ Some VERSION_1
 closed_by gate rest closed = shut_by (gate ∷ rest) closed

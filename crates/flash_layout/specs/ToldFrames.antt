@@ -1,4 +1,4 @@
--- Laws of the frame that an image tells, which no clause can say.
+-- Laws of the frame that an image gives, which no clause of a contract can state.
 use Rattle.std.proofs.Common.{◌≡◌, ⊎_elim, inl, inr, ◌≤◌, ◌+◌, ◌<◌, ℕ, List, length, get_or, Option, Some, sym, ◌∙◌, ap, subst, arith}
 use Rattle.std.specs.List.{slice_range}
 use Rattle.std.proofs.lemmas.List.Edits.{get_or-between}
@@ -11,24 +11,25 @@ use Rattle.flash_layout.specs.Frames.{config_page_of, head_of}
 use Rattle.flash_layout.specs.FrameFacts.{within}
 use Rattle.flash_layout.specs.Roots.{frame_by, frame_told}
 
--- no other frame is told
+-- no configuration of the image has another frame
 abbrev pub IsTold : ℕ → List ℕ → Frame → Type 0
 IsTold size image frame = (layout : List Entry) (key : Key) (other : Frame) → ConfigOf size image (Configured layout key other) → other ≡ frame
 
 some_same : (a b : Frame) → ◌≡◌ {A = Option Frame} (Some a) (Some b) → a ≡ b
 some_same a b e = cc
 
--- the frame that the root tells
+-- this is so of the frame that the root gives
 pub told_by : (size : ℕ) (image : List ℕ) (frame : Frame) → frame_told image ≡ Some frame → IsTold size image frame
 told_by size image frame told layout key other is = some_same other frame (sym is.told ∙ told)
 
--- an image is configured by the frame that it tells
+-- an image that is configured is so with the frame that it gives
 pub by_told : (size : ℕ) (image : List ℕ) (frame : Frame) → IsTold size image frame → (layout : List Entry) (key : Key) (other : Frame)
     → ConfigOf size image (Configured layout key other) → ConfigOf size image (Configured layout key frame)
 by_told size image frame told layout key other is =
     subst (λ (f : Frame). ConfigOf size image (Configured layout key f)) (told layout key other is) is
 
--- An image with the same first bytes and, by the frame that these tell, the same head has the same configuration.
+-- An image with the same first bytes, and the same head at the frame that they give, has the same
+-- configuration.
 pub record HasSameHead (image other : List ℕ) : Type 0 where
   pub long : length other ≡ length image
   pub front : slice_range other 0 49152 ≡ slice_range image 0 49152
@@ -77,6 +78,6 @@ config_there size image other same Bad is = record {
 }
 config_there size image other same (Configured layout key frame) is = configured_there size image other same layout key frame is
 
--- each by its own size
+-- the same, with each image's own size
 pub same_config : (image other : List ℕ) → HasSameHead image other → (config : Config) → ConfigOf (length image) image config → ConfigOf (length other) other config
 same_config image other same config is = subst (λ (n : ℕ). ConfigOf n other config) (sym same.long) (config_there (length image) image other same config is)

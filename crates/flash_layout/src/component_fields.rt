@@ -14,10 +14,10 @@ use serde_json::Value;
 use std::alloc::Global;
 use suit_params::Identifier;
 
-/// The fields that were read.
+/// The fields that have been read.
 #[derive(Drop)]
 pub(crate) struct ComponentFields {
-    /// The kind, if it is one. It is looked up before the fields are judged.
+    /// The kind, if it is a known one. It is looked up before the other fields are judged.
     memory: Option<Memory>,
     capacity: Option<u64>,
     class: Option<[u8; 16]>,
@@ -27,7 +27,7 @@ pub(crate) struct ComponentFields {
     vendor: Option<[u8; 16]>,
 }
 
-// The memory that a kind names.
+// The memory with this name.
 fn memory_named(name: &str) -> Option<Memory>
     ensures { result ≡ memory_named name.now }
 {
@@ -38,7 +38,7 @@ fn memory_named(name: &str) -> Option<Memory>
     }
 }
 
-// The memory that the kind of a component names.
+// The memory that a component's `kind` names.
 fn memory_said(value: &Value) -> Option<Memory>
     ensures { result ≡ memory_said (view value.now) }
 {
@@ -51,7 +51,7 @@ fn memory_said(value: &Value) -> Option<Memory>
     }
 }
 
-// How many bytes a component may hold.
+// The most bytes that a component may hold.
 fn capacity_limit(memory: Option<Memory>) -> u64
     ensures { result ≡ capacity_limit memory }
 {
@@ -97,7 +97,7 @@ impl Draft for ComponentFields {
     }
 }
 
-// A component of no fields.
+// A component whose fields have not been read yet.
 fn no_component(memory: Option<Memory>) -> ComponentFields
     ensures { result ≡ no_component memory }
 {
@@ -112,7 +112,7 @@ fn no_component(memory: Option<Memory>) -> ComponentFields
     }
 }
 
-// The starts of a memory, which flash has to have.
+// The starts of a component's slots. In flash they are required.
 fn starts_in(alloc: Global, memory: Memory, starts: Option<Starts>) -> Result<Starts, JsonFault>
     ensures { Gives (λ s. s) result (starts_in memory starts) }
 {
@@ -122,7 +122,7 @@ fn starts_in(alloc: Global, memory: Memory, starts: Option<Starts>) -> Result<St
     }
 }
 
-// The component of all fields.
+// Makes the component once all fields have been read.
 fn whole(alloc: Global, fields: ComponentFields) -> Result<Entry, JsonFault>
     ensures { Gives (λ e. e) result (whole fields) }
 {
@@ -143,7 +143,7 @@ fn whole(alloc: Global, fields: ComponentFields) -> Result<Entry, JsonFault>
     })
 }
 
-/// A component of a device.
+/// The form of a component in a device's description.
 #[derive(Drop)]
 pub(crate) struct OneComponent;
 

@@ -1,4 +1,4 @@
-//! Values of JSON as layouts.
+//! Reading layouts from JSON.
 
 ghost use Rattle.std.specs.Prelude.{◌≡◌, ◌≤◌, ◌↔◌, All, IfOk, IfErr, IsTrue, length, MatchResult, List};
 ghost use Rattle.serde_json.specs.View.{view};
@@ -16,7 +16,7 @@ use crate::{Entry, Frame, Layout, LayoutFault};
 use serde_json::Value;
 use std::alloc::Global;
 
-// Whether the base is as it may be on a flash of this size, where there is one.
+// Whether the base, if there is one, is allowed on a flash of this size.
 fn is_base_inside(size: u64, frame: Frame) -> bool
     ensures { IsTrue result ↔ HasBaseInside size frame }
 {
@@ -26,7 +26,7 @@ fn is_base_inside(size: u64, frame: Frame) -> bool
     is_base(size, frame.base)
 }
 
-// Refuses a base outside the flash, and a slot that shares a byte with what stands there.
+// Refuses a base outside the flash, and a slot that shares a byte with what is at the base.
 fn judge_base(size: u64, entries: &[Entry], frame: Frame) -> Result<(), LayoutFault>
     requires few { length entries.now ≤ MOST_ENTRIES }
     requires slots { All (λ e. e.slots ≤ 2) entries.now }
@@ -42,8 +42,8 @@ fn judge_base(size: u64, entries: &[Entry], frame: Frame) -> Result<(), LayoutFa
     }
 }
 
-// Refuses more components than the frame allows, two that are alike, two that share a byte, one outside the flash, and
-// a base as it may not be.
+// Refuses more components than the frame allows, two with the same identifier, two that share a
+// byte, one outside the flash, and a base that is not allowed.
 fn judge(size: u64, layout: &Layout, frame: Frame) -> Result<(), LayoutFault>
     requires { All (λ e. e.slots ≤ 2) layout.now }
     ensures { MatchResult result (λ _. AreHeld frame size layout.now)
@@ -66,7 +66,7 @@ fn judge(size: u64, layout: &Layout, frame: Frame) -> Result<(), LayoutFault>
     judge_base(size, entries, frame)
 }
 
-// As `layout_of`, which says what this means.
+// Does the work of `layout_of`.
 fn read_layout(alloc: Global, value: &Value, size: u64) -> Result<(Layout, Frame), LayoutFault>
     ensures ok { IfOk result (λ r. IsLayoutOf size (view value.now) r.0 r.1) }
     ensures refused { IfErr result (IsFaultOf size (view value.now)) }
@@ -76,12 +76,16 @@ fn read_layout(alloc: Global, value: &Value, size: u64) -> Result<(Layout, Frame
     Ok((layout, frame))
 }
 
-/// A device's description in JSON as the layout and the frame of a flash of this size: an object with `components`, an
-/// array of one to eight objects with `id`, `kind`, `capacity`, `slots` (in flash alone) and, where they are wanted,
-/// `vendor`, `class` and `device`. A number `base` chooses layout version 2, with up to 32 components. Members are
-/// judged in the order of their keys' bytes, arrays by their indices, each value whole before the next, and then the
-/// fields that are missing; after all fields how many components there are, whether two are alike, whether two share
-/// a byte, whether one lies outside the flash, and whether the base does or a slot lies over what stands there.
+/// Reads a device's description in JSON as the layout and the frame of a flash of this size: an
+/// object with `components`, an array of one to eight objects with `id`, `kind`, `capacity`,
+/// `slots` (in flash only) and, optionally, `vendor`, `class` and `device`. A number `base` selects
+/// layout version 2, with up to 32 components.
+///
+/// Members are judged in the bytewise order of their keys, and arrays in the order of their
+/// elements, each value as a whole before the next one; missing fields are refused after that. Once
+/// all fields are read, the order is: too many components, two with the same identifier, two that
+/// share a byte, one outside the flash, a base outside the flash, and a slot over what is at the
+/// base.
 pub fn layout_of(alloc: Global, value: &Value, size: u64) -> Result<(Layout, Frame), LayoutFault>
     ensures ok { IfOk result (λ r. IsLayoutOf size (view value.now) r.0 r.1) }
     ensures placed { HEAD_SIZE ≤ size → IfOk result (λ r. IsFrame size r.1) }

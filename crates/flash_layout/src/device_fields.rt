@@ -13,14 +13,14 @@ use json_fields::{Draft, FlawKind, JsonFault, array, flawed, number, object, req
 use serde_json::Value;
 use std::alloc::Global;
 
-/// The fields that were read.
+/// The fields that have been read.
 #[derive(Drop)]
 pub(crate) struct DeviceFields {
     base: Option<u64>,
     components: Option<Layout>,
 }
 
-// The frame of a device: a base chooses version 2.
+// The frame of a device. A base selects version 2.
 fn frame_with(base: Option<u64>) -> Frame
     ensures { result ≡ frame_with base }
 {
@@ -30,7 +30,7 @@ fn frame_with(base: Option<u64>) -> Frame
     }
 }
 
-/// The components of a device, each as the rules allow it by itself, and its frame.
+/// Reads a device's frame and its components, each of which is allowed on its own.
 pub(crate) fn device(alloc: Global, value: &Value) -> Result<(Layout, Frame), JsonFault>
     ensures { Gives (λ device. device) result (described_layout (view value.now)) }
 {

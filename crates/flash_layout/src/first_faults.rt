@@ -1,4 +1,5 @@
-//! The first components that are alike, share a byte, lie outside the flash, or lie over the base.
+//! The first components that have the same identifier, share a byte, lie outside the flash, or lie
+//! over the base.
 
 ghost use Rattle.std.specs.Prelude.{◌≤◌, ◌<◌, ◌↔◌, All, IsTrue, length, MatchOption};
 ghost use Rattle.suit_params.specs.Alike.{TellsAlike};
@@ -9,8 +10,8 @@ use crate::rules::{all_clear, clear, slots_of, starts_clear, starts_inside};
 use crate::{Entry, Frame};
 use suit_params::first_like;
 
-/// The first two of at most 32 components that have the same identifier: the least second one, and then the least
-/// first one.
+/// The first two of at most 32 components with the same identifier: the second is as low as
+/// possible, and then the first.
 pub(crate) fn first_alike(entries: &[Entry]) -> Option<(u32, u32)>
     requires { length entries.now ≤ MOST_ENTRIES }
     ensures { TellsAlike identifier_of entries.now result }
@@ -23,7 +24,7 @@ pub(crate) fn first_alike(entries: &[Entry]) -> Option<(u32, u32)>
     None
 }
 
-// Whether a component's slots share no byte.
+// Whether a component's slots share no byte with each other.
 fn is_clear_itself(entry: &Entry) -> bool
     ensures { IsTrue result ↔ IsClearItself entry.now }
 {
@@ -38,7 +39,7 @@ fn is_clear_itself(entry: &Entry) -> bool
     )
 }
 
-// Whether two components share no byte, or the two slots of one do not.
+// Whether two components share no byte. For one component, whether its two slots share none.
 fn share_none(entries: &[Entry], i: usize, j: usize) -> bool
     requires first { i < length entries.now }
     requires second { j < length entries.now }
@@ -53,7 +54,7 @@ fn share_none(entries: &[Entry], i: usize, j: usize) -> bool
     all_clear(slots_of(a), a.capacity, slots_of(b), b.capacity)
 }
 
-// The first component from this one on that shares a byte with it.
+// The first component from `i` on that shares a byte with component `i`.
 fn first_shared(entries: &[Entry], i: usize) -> Option<usize>
     requires inside { i < length entries.now }
     requires slots { All (λ e. e.slots ≤ 2) entries.now }
@@ -67,8 +68,8 @@ fn first_shared(entries: &[Entry], i: usize) -> Option<usize>
     None
 }
 
-/// The first two of at most 32 components that share a byte: the least first one, and then the least second
-/// one, which may be the first one itself.
+/// The first two of at most 32 components that share a byte: the first is as low as possible, and
+/// then the second, which may be the first itself.
 pub(crate) fn first_overlap(entries: &[Entry]) -> Option<(u32, u32)>
     requires few { length entries.now ≤ MOST_ENTRIES }
     requires slots { All (λ e. e.slots ≤ 2) entries.now }
@@ -82,7 +83,7 @@ pub(crate) fn first_overlap(entries: &[Entry]) -> Option<(u32, u32)>
     None
 }
 
-/// The first of at most 32 components with a slot that does not lie where slots may be on a flash of this size.
+/// The first of at most 32 components with a slot where no slot may be, on a flash of this size.
 pub(crate) fn first_outside(size: u64, entries: &[Entry]) -> Option<u32>
     requires few { length entries.now ≤ MOST_ENTRIES }
     requires slots { All (λ e. e.slots ≤ 2) entries.now }
@@ -98,7 +99,8 @@ pub(crate) fn first_outside(size: u64, entries: &[Entry]) -> Option<u32>
     None
 }
 
-/// The first of at most 32 components with a slot that shares a byte with the head or the work area of a frame.
+/// The first of at most 32 components with a slot that shares a byte with the frame's head or work
+/// area.
 pub(crate) fn first_over(frame: Frame, entries: &[Entry]) -> Option<u32>
     requires few { length entries.now ≤ MOST_ENTRIES }
     requires slots { All (λ e. e.slots ≤ 2) entries.now }

@@ -23,9 +23,10 @@ use suit_edge::{CLOSED, Disk, Edge, OPEN, open_written};
 /// The outcome of formatting a flash.
 #[derive(Clone, Copy, Debug, PartialEq, Eq)]
 pub enum Formatted {
-    /// The flash has the layout and the key.
+    /// The flash now has the layout and the key.
     Done,
-    /// The gate of the configuration page of version 1 or that of the root is open. Nothing was changed.
+    /// The gate of version 1's configuration page, or that of the root, is open. Nothing was
+    /// changed.
     NotBlank,
     /// A call of the flash failed, and its count of faults rose.
     FlashFault,
@@ -51,7 +52,7 @@ fn close_records<D: Disk>(disk: &mut D, frame: Frame) -> Edge
     }
 }
 
-/// Closes the gates of the work area of version 2, and does nothing on a flash of version 1.
+/// Closes the gates of the work area of version 2. Does nothing on a flash of version 1.
 pub fn close_work<D: Disk>(disk: &mut D, frame: Frame) -> Edge
     requires { IsFrame (D.extent disk.old) frame }
     ensures size { D.extent disk.new ≡ D.extent disk.old }
@@ -74,7 +75,7 @@ pub fn close_work<D: Disk>(disk: &mut D, frame: Frame) -> Edge
     }
 }
 
-// Sets the length of each slot of a component to 0.
+// Sets the length in each slot of a component to 0.
 fn empty_slots<D: Disk>(disk: &mut D, entry: &Entry) -> Edge
     requires { HaveLengths (D.extent disk.old) entry.now }
     ensures size { D.extent disk.new ≡ D.extent disk.old }
@@ -97,7 +98,7 @@ fn empty_slots<D: Disk>(disk: &mut D, entry: &Entry) -> Edge
     Edge::Done
 }
 
-// Sets the length of each slot of each component to 0.
+// Sets the length in each slot of each component to 0.
 fn empty_each<D: Disk>(disk: &mut D, entries: &[Entry]) -> Edge
     requires { All (HaveLengths (D.extent disk.old)) entries.now }
     ensures size { D.extent disk.new ≡ D.extent disk.old }
@@ -119,7 +120,7 @@ fn empty_each<D: Disk>(disk: &mut D, entries: &[Entry]) -> Edge
     Edge::Done
 }
 
-// Writes all but the configuration page and the root, without a sync.
+// Writes everything but the configuration page and the root. Does not sync.
 fn prepare<D: Disk>(disk: &mut D, layout: &Layout, frame: Frame) -> Edge
     requires frame { IsFrame (D.extent disk.old) frame }
     requires layout { IsLayout frame (D.extent disk.old) layout.now }
@@ -145,7 +146,7 @@ fn prepare<D: Disk>(disk: &mut D, layout: &Layout, frame: Frame) -> Edge
     }
 }
 
-// Writes the configuration page of version 1 on a prepared flash, and then opens its gate.
+// Writes the configuration page of version 1 on a prepared flash, then opens its gate.
 fn open_first<D: Disk>(disk: &mut D, layout: &Layout, key: &Key, frame: Frame) -> Edge
     requires version { frame.version ≡ 1 }
     requires frame { IsFrame (D.extent disk.old) frame }
@@ -175,7 +176,8 @@ fn open_first<D: Disk>(disk: &mut D, layout: &Layout, key: &Key, frame: Frame) -
     }
 }
 
-// Writes the configuration page of version 2 and the root on a prepared flash, and then opens the root.
+// Writes the configuration page of version 2 and the root on a prepared flash, then opens the
+// root's gate.
 fn open_second<D: Disk>(disk: &mut D, layout: &Layout, key: &Key, frame: Frame) -> Edge
     requires version { frame.version ≡ 2 }
     requires frame { IsFrame (D.extent disk.old) frame }
@@ -209,7 +211,7 @@ fn open_second<D: Disk>(disk: &mut D, layout: &Layout, key: &Key, frame: Frame) 
     }
 }
 
-// Writes the configuration page on a prepared flash, and opens the gate that tells of it.
+// Writes the configuration page on a prepared flash, then opens the gate that makes it count.
 fn open_config<D: Disk>(disk: &mut D, layout: &Layout, key: &Key, frame: Frame) -> Edge
     requires frame { IsFrame (D.extent disk.old) frame }
     requires layout { IsLayout frame (D.extent disk.old) layout.now }
@@ -236,7 +238,7 @@ fn open_config<D: Disk>(disk: &mut D, layout: &Layout, key: &Key, frame: Frame) 
     open_second(disk, layout, key, frame)
 }
 
-// Whether the gate at that place is open.
+// Whether the gate is open.
 fn is_open<D: Disk>(disk: &mut D, gate: u64) -> Result<bool, FlashFault>
     requires { gate < D.extent disk.old }
     ensures size { D.extent disk.new ≡ D.extent disk.old }
@@ -253,7 +255,8 @@ fn is_open<D: Disk>(disk: &mut D, gate: u64) -> Result<bool, FlashFault>
     }
 }
 
-/// Whether the gate of version 1 or that of the root is open. Changes nothing.
+/// Whether the gate of version 1's configuration page, or that of the root, is open. Changes
+/// nothing.
 pub fn has_open_gate<D: Disk>(disk: &mut D) -> Result<bool, FlashFault>
     requires { HEAD_SIZE ≤ D.extent disk.old }
     ensures size { D.extent disk.new ≡ D.extent disk.old }
@@ -270,8 +273,9 @@ pub fn has_open_gate<D: Disk>(disk: &mut D) -> Result<bool, FlashFault>
     }
 }
 
-/// Gives a blank flash a layout and a key: no record, and each slot empty. A power loss meanwhile leaves it blank or
-/// formatted. If the gate of version 1 or that of the root is open, nothing changes.
+/// Formats a blank flash with a layout and a key. There is no record afterwards, and each slot is
+/// empty. A power loss meanwhile leaves the flash blank or formatted. If the gate of version 1's
+/// configuration page or that of the root is open, nothing changes.
 pub fn format<D: Disk>(disk: &mut D, layout: &Layout, key: &Key, frame: Frame) -> Formatted
     requires frame { IsFrame (D.extent disk.old) frame }
     requires layout { IsLayout frame (D.extent disk.old) layout.now }

@@ -1,15 +1,15 @@
-//! Where the parts of a flash stand, and how large they are.
+//! Where the parts of a flash are, and how large they are.
 
 ghost use Rattle.std.specs.Prelude.{◌≡◌, ◌<◌, ◌≤◌, ◌↔◌, ◌+◌, ◌*◌, ◌^◌, IsTrue};
 ghost use Rattle.flash_layout.specs.Frames.{IsBase, bank_place, bank_size, by_version, checkpoint_place, config_size, frame_size, head_size, journal_place, most, page_bytes, record_place};
 
-/// Where the head of a flash is, and which version its layout has. The head is a configuration page, two record pages and
-/// two banks, one behind another.
+/// The version of a flash's layout, and where its head is. The head is a configuration page, two
+/// record pages and two banks, one after another.
 #[derive(Clone, Copy, Debug, PartialEq, Eq)]
 pub struct Frame {
-    /// The byte of the layout's version.
+    /// The version of the layout, as its byte.
     pub version: u8,
-    /// Where the head starts.
+    /// The first place of the head, in bytes.
     pub base: u64,
 }
 
@@ -19,55 +19,57 @@ pub const VERSION_1: Frame = Frame {
     base: 0,
 };
 
-/// How many bytes a head has.
+/// The size of the head of version 1, in bytes.
 pub const HEAD_SIZE: u64 = 49_152;
 
-/// The bytes of a configuration page, and of a record page.
+/// The size of a record page, and of the configuration page of version 1, in bytes.
 pub const PAGE_SIZE: u64 = 4_096;
 
-/// The bytes of a bank.
+/// The size of a bank of version 1, in bytes.
 pub const BANK_SIZE: u64 = 16_384;
 
-/// How many bytes the head of version 2 and its work area have.
+/// The size of the head and the work area of version 2, in bytes.
 pub const AREA_SIZE: u64 = 225_280;
 
-/// Where the slots of a layout begin at the earliest.
+/// The first place at which a slot may start, in bytes.
 pub const SLOTS_START: u64 = 49_152;
 
-/// How many components a layout of version 1 may have.
+/// The most components that a layout of version 1 may have.
 pub const MAX_ENTRIES: usize = 8;
 
-/// How many components a layout may have, whatever its version.
+/// The most components that a layout of any version may have.
 pub const MOST_ENTRIES: usize = 32;
 
-/// The bytes of a slot's length.
+/// The size of the length in a slot, in bytes.
 pub const LENGTH_SIZE: u64 = 8;
 
-/// The bytes of a component on the configuration page.
+/// The size of a component on the configuration page, in bytes.
 pub const ENTRY_SIZE: usize = 142;
 
-/// The bytes before the components: gate, version, two counts, and the key.
+/// The bytes before the components on the configuration page: the gate, the version, two counts,
+/// and the key.
 pub const FRONT_SIZE: usize = 68;
 
-/// The bytes of all components of version 1.
+/// The size of all components on the configuration page of version 1, in bytes.
 pub const ENTRIES_SIZE: usize = ENTRY_SIZE * MAX_ENTRIES;
 
-/// The bytes of the configuration page of version 1 that are read: all others are left as they are.
+/// How many bytes of the configuration page of version 1 are read. All others are left as they are.
 pub const PAGE_BYTES: usize = FRONT_SIZE + ENTRIES_SIZE;
 
-/// Those of each version, at most.
+/// How many bytes of the configuration page are read, at most, for any version.
 pub const MOST_BYTES: usize = FRONT_SIZE + ENTRY_SIZE * MOST_ENTRIES;
 
-/// Where the gate of the root is, behind the banks of version 1. The root tells where the head of version 2 stands.
+/// The place of the root's gate, after the banks of version 1. The root says where the head of
+/// version 2 is.
 pub const ROOT_GATE: u64 = 45_056;
 
-/// The bytes of the root: the gate, the version and the base.
+/// The size of the root in bytes: the gate, the version and the base.
 pub const ROOT_BYTES: usize = 10;
 
-/// Where the gate of the configuration page is.
+/// The place of the gate of version 1's configuration page.
 pub const CONFIG_GATE: u64 = VERSION_1.base;
 
-/// How many bytes the head has.
+/// The size of the head in bytes.
 pub fn head_size(frame: Frame) -> u64
     ensures { result ≡ head_size frame }
 {
@@ -78,7 +80,7 @@ pub fn head_size(frame: Frame) -> u64
     }
 }
 
-/// How many bytes the head and the work area behind it have.
+/// The size of the head and the work area after it, in bytes.
 pub(crate) fn frame_size(frame: Frame) -> u64
     ensures { result ≡ frame_size frame }
 {
@@ -89,14 +91,14 @@ pub(crate) fn frame_size(frame: Frame) -> u64
     }
 }
 
-/// Whether a flash of this size may have this base of layout version 2.
+/// Whether a flash of this size may have this base, for layout version 2.
 pub(crate) fn is_base(size: u64, base: u64) -> bool
     ensures { IsTrue result ↔ IsBase size base }
 {
     HEAD_SIZE <= base && AREA_SIZE <= size && base <= size - AREA_SIZE
 }
 
-/// How many components a layout may have.
+/// The most components that a layout may have.
 pub fn most(frame: Frame) -> usize
     ensures is { result ≡ most frame }
     ensures few { result ≤ MOST_ENTRIES }
@@ -116,7 +118,7 @@ pub fn page_bytes(frame: Frame) -> usize
     FRONT_SIZE + ENTRY_SIZE * most(frame)
 }
 
-// How many bytes the configuration page has.
+// The size of the configuration page in bytes.
 fn config_size(frame: Frame) -> u64
     ensures is { result ≡ config_size frame }
     ensures room { result + 2 * PAGE_SIZE ≤ head_size frame }
@@ -124,7 +126,7 @@ fn config_size(frame: Frame) -> u64
     if frame.version == 1 { PAGE_SIZE } else { 8_192 }
 }
 
-/// How many bytes a bank has.
+/// The size of a bank in bytes.
 pub fn bank_size(frame: Frame) -> u64
     ensures { result ≡ bank_size frame }
 {
@@ -135,7 +137,7 @@ pub fn bank_size(frame: Frame) -> u64
     }
 }
 
-/// Where a record page starts, with its gate: the first one for 0, the second for 1.
+/// The place of a record page, which begins with its gate: 0 is the first page, and 1 the second.
 pub fn record_page(frame: Frame, which: u64) -> u64
     requires room { frame.base + head_size frame < 2 ^ 64 }
     requires which { which < 2 }
@@ -144,7 +146,7 @@ pub fn record_page(frame: Frame, which: u64) -> u64
     frame.base + config_size(frame) + which * PAGE_SIZE
 }
 
-/// Where the page of the journal of version 2 starts, with its gate.
+/// The place of version 2's journal page, which begins with its gate.
 pub(crate) fn journal_page(frame: Frame) -> u64
     requires room { frame.base + frame_size frame < 2 ^ 64 }
     requires version { frame.version ≡ 2 }
@@ -153,7 +155,7 @@ pub(crate) fn journal_page(frame: Frame) -> u64
     frame.base + 147_456
 }
 
-/// Where the page of the checkpoint of version 2 starts, with its gate.
+/// The place of version 2's checkpoint page, which begins with its gate.
 pub(crate) fn checkpoint_page(frame: Frame) -> u64
     requires room { frame.base + frame_size frame < 2 ^ 64 }
     requires version { frame.version ≡ 2 }
@@ -162,7 +164,7 @@ pub(crate) fn checkpoint_page(frame: Frame) -> u64
     frame.base + 155_648
 }
 
-// How many bytes of banks stand before that one.
+// The size of the banks before this one, in bytes.
 fn bank_offset(frame: Frame, which: u64) -> u64
     requires { which < 2 }
     ensures is { result ≡ by_version frame (which * 16384) (which * 65536) }
@@ -175,7 +177,7 @@ fn bank_offset(frame: Frame, which: u64) -> u64
     }
 }
 
-/// Where a bank starts: the first one for 0, the second for 1.
+/// The place of a bank: 0 is the first bank, and 1 the second.
 pub fn bank(frame: Frame, which: u64) -> u64
     requires room { frame.base + head_size frame < 2 ^ 64 }
     requires which { which < 2 }

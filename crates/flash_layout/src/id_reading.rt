@@ -1,4 +1,4 @@
-//! How an identifier is read of its spelling.
+//! Reading an identifier from its spelling.
 
 ghost use Rattle.std.specs.Prelude.{◌≤◌, length};
 ghost use Rattle.suit_params.specs.Answering.{Gives};
@@ -8,7 +8,7 @@ use det_cbor::Cursor;
 use std::alloc::Global;
 use suit_params::{Fault, Identifier, copy_left, read_array, read_content};
 
-// So many byte strings.
+// Reads the next `count` byte strings.
 fn read_parts(alloc: Global, mut items: Cursor<'_>, count: u64) -> Result<Identifier, Fault>
     ensures { Gives (λ id. id) result (parts_from count items.entry) }
 {
@@ -20,7 +20,7 @@ fn read_parts(alloc: Global, mut items: Cursor<'_>, count: u64) -> Result<Identi
     Ok(parts)
 }
 
-/// The identifier that the bytes begin with.
+/// Reads the identifier at the front of the bytes.
 #[tactic(auto, unfolding(crate::specs::PageReading::identifier_at))]
 pub(crate) fn read_identifier(alloc: Global, bytes: &[u8]) -> Result<Identifier, Fault>
     requires { length bytes.now ≤ 64 }

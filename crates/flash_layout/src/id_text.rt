@@ -10,7 +10,7 @@ use serde_json::Value;
 use std::alloc::Global;
 use suit_params::Identifier;
 
-/// An array of byte strings, spelled in at most 64 bytes.
+/// Reads an identifier: an array of byte strings, spelled in at most 64 bytes.
 pub(crate) fn id(alloc: Global, value: &Value) -> Result<Identifier, JsonFault>
     ensures { Gives (λ id. id) result (id_of (view value.now)) }
 {

@@ -3,15 +3,15 @@
 ghost use Rattle.std.specs.Prelude.{◌↔◌, IsTrue};
 ghost use Rattle.flash_layout.specs.Layouts.{IsKey};
 
-/// A key, which authenticates envelopes: so many bytes, and zeros after them.
+/// A key that authenticates envelopes, padded with zeros.
 #[derive(Clone, Copy)]
 pub struct Key {
     pub bytes: [u8; 64],
-    /// How many of the bytes are the key, 1 to 64.
+    /// The length of the key in bytes, from 1 to 64.
     pub length: u8,
 }
 
-/// Whether it has 1 to 64 bytes, and zeros after them.
+/// Whether the length is from 1 to 64, and the bytes after the key are zeros.
 pub fn is_key(key: &Key) -> bool
     ensures { IsTrue result ↔ IsKey key.now }
 {

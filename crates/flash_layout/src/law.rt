@@ -7,14 +7,14 @@ ghost use Rattle.flash_layout.specs.LoadLaws.{LoadLaws};
 ghost use Rattle.flash_layout.specs.PagePlaces.{IsIdentifierField, IsIdField, IsMemoryByte, IsNumberField, OfEachEntry, PagePlaces};
 ghost use Rattle.flash_layout.specs.SlotLaws.{SlotLaws};
 
-/// Where the parts of a flash stand, and which frame a root tells.
+/// Where the parts of a flash are, and which frame a root gives.
 pub fn frame_laws()
     ensures first { FrameLaws }
     ensures second { (base : ℕ) → SecondLaws base }
     ensures root { RootLaws }
 {}
 
-/// Where the fields of a configuration page stand, and those of each component in its bytes.
+/// Where the fields of a configuration page are, and those of each component in its bytes.
 pub fn page_laws()
     ensures places { PagePlaces }
     ensures memory { OfEachEntry (λ e bytes. IsMemoryByte e.memory (slice_index bytes 0)) }
@@ -32,18 +32,18 @@ pub fn page_laws()
         IsNumberField (slice_index e.starts 1) (slice_range bytes 134 142)) }
 {}
 
-/// At most one layout and key stand on a page, and the head of an image says one configuration at most.
+/// A page holds at most one layout and key, and an image has at most one configuration.
 pub fn config_laws()
     ensures page { OneConfig }
     ensures answer { OneAnswer }
 {}
 
-/// A layout that is loaded is allowed and the one answer, and a fault alone raises the count.
+/// A layout that is loaded is allowed, and is the only answer; only a fault raises the count.
 pub fn load_laws()
     ensures { LoadLaws }
 {}
 
-/// Two slots are clear of each other exactly where they share no byte.
+/// Two slots are clear of each other if and only if they share no byte.
 pub fn slot_laws()
     ensures { SlotLaws }
 {}

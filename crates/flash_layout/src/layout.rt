@@ -15,20 +15,20 @@ pub enum Memory {
 /// A component of the device.
 #[derive(Debug, Drop)]
 pub struct Entry {
-    /// Its identifier, spelled in at most 64 bytes.
+    /// The identifier, spelled in at most 64 bytes.
     pub identifier: Identifier,
     pub memory: Memory,
     /// One or two slots in flash; one in working memory.
     pub slots: u8,
-    /// Where in the flash the slots start, 49,152 or later; 0 where there is none.
+    /// Where in the flash the slots start: at byte 49,152 or later, or 0 where there is none.
     pub starts: [u64; 2],
-    /// How many bytes a slot holds, at least 1.
+    /// How many bytes a slot holds; at least 1.
     pub capacity: u64,
-    /// The vendor's UUID, if the component has one of its own.
+    /// The vendor's UUID, if the component has its own.
     pub vendor: Option<[u8; 16]>,
-    /// The UUID of the class.
+    /// The UUID of the class, if the component has its own.
     pub class: Option<[u8; 16]>,
-    /// The UUID of the device.
+    /// The UUID of the device, if the component has its own.
     pub device: Option<[u8; 16]>,
 }
 
@@ -42,5 +42,5 @@ impl Identified for Entry {
     }
 }
 
-/// The components of a device, by their indices.
+/// The components of a device, by index.
 pub type Layout = List<Entry>;

@@ -1,4 +1,4 @@
-//! Why a value describes no layout.
+//! Why a value does not describe a layout.
 
 ghost use Rattle.std.specs.Prelude.{◌≡◌};
 ghost use Rattle.flash_layout.specs.LayoutFaults.{fault_told};
@@ -6,27 +6,30 @@ ghost use Rattle.flash_layout.specs.LayoutFaults.{fault_told};
 use det_cbor::Text;
 use json_fields::{FlawKind, JsonFault};
 
-/// Why a value describes no layout of a flash. The texts are JSON Pointers (RFC 6901): where the first wrong value
-/// stands. Components go by their numbers.
+/// Why a value does not describe a layout of a flash. The texts are JSON Pointers (RFC 6901) to the
+/// first wrong value. Components are given by their indices.
 #[derive(Debug, Drop)]
 pub enum LayoutFault {
-    /// A malformed value, an unknown field, or a missing one.
+    /// A value is malformed, or a field is unknown or missing.
     BadField(Text),
-    /// A text that is not hexadecimal, two digits for each byte.
+    /// A text is not hexadecimal with two digits for each byte.
     BadHex(Text),
-    /// A text that is no UUID.
+    /// A text is not a UUID.
     BadUuid(Text),
-    /// The number of components, above eight, or above 32 with a base.
+    /// There are this many components: more than eight, or more than 32 with a base.
     TooMany(u64),
-    /// Two components with the same identifier: the first such pair.
+    /// Two components have the same identifier. This is the first such pair.
     TwoAlike { first: u32, second: u32 },
-    /// Two components whose slots share a byte, or one whose two slots do: the first such pair.
+    /// The slots of two components share a byte, or the two slots of one component do. This is the
+    /// first such pair.
     Overlap { first: u32, second: u32 },
-    /// The first component with a slot that starts in the head of the flash or ends behind the flash.
+    /// This is the first component with a slot that starts in the first 49,152 bytes or ends after
+    /// the flash.
     Outside(u32),
-    /// The base lies in the first 49,152 bytes, or the head and the work area end behind the flash.
+    /// The base is in the first 49,152 bytes, or the head and the work area end after the flash.
     BaseOutside,
-    /// The first component with a slot that shares a byte with the head or the work area at the base.
+    /// This is the first component with a slot that shares a byte with the head or the work area at
+    /// the base.
     BaseOverlap(u32),
     NoMemory,
 }

@@ -1,4 +1,5 @@
-//! The flash's layout: which components a device has and where, and the configuration page that says so.
+//! The layout of the flash: which components a device has and where, and the configuration page
+//! that says so.
 #![tactic(auto)]
 
 mod component_fields;

@@ -16,22 +16,22 @@ use crate::{FlashFault, Frame, Key, Layout};
 use std::alloc::{AllocError, Global};
 use suit_edge::{Disk, Edge, OPEN};
 
-/// The meaning of the root and the configuration page.
+/// What the root and the configuration page say.
 #[derive(Drop)]
 pub enum Loaded {
-    /// A layout and a key that the rules allow on this flash, and its frame.
+    /// A layout and a key that are allowed on this flash, and its frame.
     Config(Layout, Key, Frame),
     /// No gate is open, or the flash has fewer than 49,152 bytes.
     Blank,
-    /// A gate is open, and there is no layout and key that the rules allow.
+    /// A gate is open, but there is no layout and key that are allowed.
     BadConfig,
-    /// The flash did not read.
+    /// A call of the flash failed.
     FlashFault,
     /// Memory ran out for the layout.
     NoMemory,
 }
 
-// Reads which frame the root tells, if any.
+// Reads which frame the root gives, if any.
 fn read_root<D: Disk>(disk: &mut D) -> Result<Option<Frame>, FlashFault>
     requires { HEAD_SIZE ≤ D.extent disk.old }
     ensures size { D.extent disk.new ≡ D.extent disk.old }
@@ -48,7 +48,7 @@ fn read_root<D: Disk>(disk: &mut D) -> Result<Option<Frame>, FlashFault>
     }
 }
 
-// Whether a flash of this size may have the frame.
+// Whether the frame is allowed on a flash of this size.
 fn is_frame(size: u64, frame: Frame) -> bool
     ensures { IsTrue result ↔ IsFrame size frame }
 {
@@ -61,7 +61,7 @@ fn is_frame(size: u64, frame: Frame) -> bool
     frame.base == 0 && HEAD_SIZE <= size
 }
 
-// Reads those bytes of a frame's configuration page that count.
+// Reads the bytes that count of a frame's configuration page.
 fn read_page_bytes<D: Disk>(disk: &mut D, frame: Frame, page: &mut [u8]) -> Edge
     requires frame { IsFrame (D.extent disk.old) frame }
     requires long { length page.old ≡ page_bytes frame }
@@ -81,7 +81,7 @@ fn read_page_bytes<D: Disk>(disk: &mut D, frame: Frame, page: &mut [u8]) -> Edge
     }
 }
 
-// The layout and the key of a frame's configuration page.
+// Reads the layout and the key from a frame's configuration page.
 fn load_page<D: Disk>(alloc: Global, disk: &mut D, frame: Frame) -> Loaded
     requires { IsFrame (D.extent disk.old) frame }
     ensures size { D.extent disk.new ≡ D.extent disk.old }
@@ -109,7 +109,7 @@ fn load_page<D: Disk>(alloc: Global, disk: &mut D, frame: Frame) -> Loaded
     }
 }
 
-/// Reads the root and the configuration page. Changes nothing, whatever it answers.
+/// Reads the root and the configuration page. Changes nothing, whatever the answer.
 pub fn load_config<D: Disk>(alloc: Global, disk: &mut D) -> Loaded
     ensures size { D.extent disk.new ≡ D.extent disk.old }
     ensures counts { LoadCounts result (D.faults disk.old) (D.faults disk.new) }
@@ -134,7 +134,7 @@ pub fn load_config<D: Disk>(alloc: Global, disk: &mut D) -> Loaded
     load_page(alloc, disk, frame)
 }
 
-/// Reads which frame the flash has, if any. Needs no memory, and changes nothing.
+/// Reads which frame the flash has, if any. Allocates nothing, and changes nothing.
 pub fn load_frame<D: Disk>(disk: &mut D) -> Result<Option<Frame>, FlashFault>
     ensures size { D.extent disk.new ≡ D.extent disk.old }
     ensures counts { ResultCounts result (D.faults disk.old) (D.faults disk.new) }

@@ -11,16 +11,18 @@ use crate::frame::{VERSION_1, is_base};
 use crate::root::second_frame;
 use crate::{Frame, Layout};
 
-/// Why a flash of layout version 1 may not get a base.
+/// Why a flash of layout version 1 cannot get a base.
 #[derive(Clone, Copy, Debug, PartialEq, Eq)]
 pub enum BaseFault {
-    /// The base lies in the first 49,152 bytes, or the head and the work area end behind the flash.
+    /// The base is in the first 49,152 bytes, or the head and the work area end after the flash.
     Outside,
-    /// The first component with a slot that shares a byte with the head or the work area at the base.
+    /// This is the first component with a slot that shares a byte with the head or the work area at
+    /// the base.
     Overlap(u32),
 }
 
-/// The frame of layout version 2 with this base, where a flash of this size has room for it beside the slots of the layout.
+/// The frame of layout version 2 with this base, if a flash of this size has room for it beside the
+/// slots of the layout.
 pub fn moved(layout: &Layout, size: u64, base: u64) -> Result<Frame, BaseFault>
     requires { IsLayout VERSION_1 size layout.now }
     ensures ok { IfOk result (IsMoved base size layout.now) }

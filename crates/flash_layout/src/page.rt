@@ -1,4 +1,4 @@
-//! The bytes of a page of the flash, and how they are put together without memory.
+//! The bytes of a page of the flash, put together without allocating.
 
 ghost use Rattle.std.specs.Prelude.{◌≡◌, ◌≤◌, ◌+◌, [], ◌++◌, drop, length, replicate};
 ghost use Rattle.flash_layout.specs.ConfigPage.{number_bytes};
@@ -7,7 +7,7 @@ ghost use Rattle.flash_layout.specs.PageReading.{number_at};
 use arrayvec::ArrayVec;
 use std::marker::Model;
 
-/// Up to so many bytes.
+/// Up to `MOST` bytes of a page.
 #[derive(Drop)]
 pub struct Page<const MOST: usize> {
     bytes: ArrayVec<u8, MOST>,
@@ -22,7 +22,7 @@ impl<const MOST: usize> Model for Page<MOST> {
 }
 
 impl<const MOST: usize> Page<MOST> {
-    /// No bytes.
+    /// An empty page.
     pub fn new() -> Page<MOST>
         ensures { result ≡ [] }
     {
@@ -31,7 +31,7 @@ impl<const MOST: usize> Page<MOST> {
         }
     }
 
-    /// Adds bytes at the end.
+    /// Appends bytes.
     pub fn put(&mut self, bytes: &[u8])
         requires { length self.old + length bytes.now ≤ MOST }
         ensures bytes { self.new ≡ self.old ++ bytes.now }
@@ -43,7 +43,7 @@ impl<const MOST: usize> Page<MOST> {
         }
     }
 
-    /// Adds zeros at the end.
+    /// Appends zeros.
     pub(crate) fn put_zeros(&mut self, count: usize)
         requires { length self.old + count ≤ MOST }
         ensures bytes { self.new ≡ self.old ++ replicate count 0 }
@@ -54,7 +54,7 @@ impl<const MOST: usize> Page<MOST> {
         }
     }
 
-    /// Adds a number in eight bytes.
+    /// Appends a number as eight big-endian bytes.
     #[tactic(auto, unfolding(crate::specs::ConfigPage::number_bytes))]
     pub fn put_number(&mut self, number: u64)
         requires { length self.old + 8 ≤ MOST }
@@ -64,7 +64,7 @@ impl<const MOST: usize> Page<MOST> {
         self.put(&number.to_be_bytes());
     }
 
-    /// The bytes behind the first one, the gate.
+    /// The bytes after the first one, which is the gate.
     pub fn behind_gate(&self) -> &[u8]
         requires { 1 ≤ length self.now }
         ensures { result.now ≡ drop 1 self.now }
@@ -72,7 +72,7 @@ impl<const MOST: usize> Page<MOST> {
         &self.as_slice()[1..]
     }
 
-    /// The bytes, lent.
+    /// Borrows the bytes.
     pub fn as_slice(&self) -> &[u8]
         ensures { result.now ≡ self.now }
     {
@@ -80,7 +80,7 @@ impl<const MOST: usize> Page<MOST> {
     }
 }
 
-/// The number of eight bytes, as `Page::put_number` adds it.
+/// The number in eight bytes, as `Page::put_number` writes it.
 #[tactic(auto, unfolding(crate::specs::PageReading::number_at))]
 pub fn read_number(bytes: &[u8]) -> u64
     requires { length bytes.now ≡ 8 }

@@ -1,4 +1,4 @@
-//! How the configuration page is read.
+//! Reading the configuration page.
 
 ghost use Rattle.std.specs.Prelude.{◌≡◌, ◌↔◌, ◌≤◌, ◌+◌, ◌*◌, ℕ, List, Some, IfOk, IfSome, IsTrue, length};
 ghost use Rattle.suit_params.specs.Answering.{Gives};
@@ -30,7 +30,7 @@ fn read_memory(byte: u8) -> Memory
     }
 }
 
-// A UUID, if there is one.
+// Reads a UUID that may be absent.
 fn read_id(bytes: &[u8]) -> Option<[u8; 16]>
     requires { length bytes.now ≡ 17 }
     ensures { result ≡ id_at bytes.now }
@@ -43,7 +43,7 @@ fn read_id(bytes: &[u8]) -> Option<[u8; 16]>
     Some(id)
 }
 
-// A component.
+// Reads a component.
 #[tactic(auto, unfolding(crate::specs::PageReading::entry_at))]
 fn read_entry(alloc: Global, bytes: &[u8]) -> Result<Entry, Fault>
     requires { length bytes.now ≡ ENTRY_SIZE }
@@ -66,7 +66,7 @@ fn read_entry(alloc: Global, bytes: &[u8]) -> Result<Entry, Fault>
     })
 }
 
-// So many components.
+// Reads `count` components.
 fn read_entries(alloc: Global, bytes: &[u8], count: usize) -> Result<Layout, Fault>
     requires { ENTRY_SIZE * count ≤ length bytes.now }
     ensures { Gives (λ l. l) result (entries_at count bytes.now) }
@@ -80,7 +80,7 @@ fn read_entries(alloc: Global, bytes: &[u8], count: usize) -> Result<Layout, Fau
     Ok(layout)
 }
 
-// The key.
+// Reads the key.
 fn read_key(page: &[u8]) -> Key
     requires { FRONT_SIZE ≤ length page.now }
     ensures { result ≡ key_at page.now }
@@ -93,7 +93,7 @@ fn read_key(page: &[u8]) -> Key
     key
 }
 
-// The layout and the key, without a judgement.
+// Reads the layout and the key, without checking that they are allowed.
 #[tactic(auto, unfolding(crate::specs::PageReading::page_at))]
 fn read_page(alloc: Global, frame: Frame, page: &[u8]) -> Result<(Layout, Key), Fault>
     requires { length page.now ≡ page_bytes frame }
@@ -107,7 +107,7 @@ fn read_page(alloc: Global, frame: Frame, page: &[u8]) -> Result<(Layout, Key), 
     Ok((layout, read_key(page)))
 }
 
-// Whether the bytes are the page of a layout and a key that the rules allow.
+// Whether the bytes are the page of this layout and key, and both are allowed.
 fn spells(frame: Frame, size: u64, page: &[u8], layout: &Layout, key: &Key) -> bool
     ensures { IsTrue result ↔ IsConfigPage frame size page.now layout.now key.now }
 {
@@ -117,8 +117,8 @@ fn spells(frame: Frame, size: u64, page: &[u8], layout: &Layout, key: &Key) -> b
     write_page(layout, key, frame).as_slice() == page
 }
 
-/// The layout and the key of a page, where the rules allow them on a flash of this size with this frame, or `None` where it
-/// is the page of none.
+/// Reads the layout and the key of a page, or `None` if the bytes are not the page of any that are
+/// allowed on a flash of this size with this frame.
 pub(crate) fn decode_page(
     alloc: Global,
     frame: Frame,

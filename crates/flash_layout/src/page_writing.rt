@@ -1,4 +1,4 @@
-//! How the configuration page is spelled.
+//! Writing the configuration page.
 
 ghost use Rattle.std.specs.Prelude.{◌≡◌, ◌≤◌, ◌+◌, ◌*◌, ◌∷◌, ◌++◌, All, length, slice_index};
 ghost use Rattle.suit_params.specs.Identifiers.{spelled_id};
@@ -12,7 +12,7 @@ use crate::{Entry, Frame, Key, Layout, Memory};
 use suit_edge::OPEN;
 use suit_params::Identifier;
 
-// Adds the length of an identifier's spelling, and the spelling with zeros after it.
+// Appends the length of an identifier's spelling, and the spelling padded with zeros.
 fn put_spelling(page: &mut Page<MOST_BYTES>, spelling: &[u8])
     requires short { length spelling.now ≤ 64 }
     requires room { length page.old + 65 ≤ MOST_BYTES }
@@ -24,7 +24,7 @@ fn put_spelling(page: &mut Page<MOST_BYTES>, spelling: &[u8])
     page.put_zeros(64 - spelling.len());
 }
 
-// Adds an identifier.
+// Appends an identifier.
 fn put_identifier(page: &mut Page<MOST_BYTES>, identifier: &Identifier)
     requires short { length (spelled_id identifier.now) ≤ 64 }
     requires room { length page.old + 65 ≤ MOST_BYTES }
@@ -37,7 +37,7 @@ fn put_identifier(page: &mut Page<MOST_BYTES>, identifier: &Identifier)
     }
 }
 
-// Adds a UUID.
+// Appends a UUID.
 fn put_uuid(page: &mut Page<MOST_BYTES>, id: &[u8; 16])
     requires { length page.old + 17 ≤ MOST_BYTES }
     ensures bytes { page.new ≡ page.old ++ 1 ∷ id.now }
@@ -47,7 +47,7 @@ fn put_uuid(page: &mut Page<MOST_BYTES>, id: &[u8; 16])
     page.put(id);
 }
 
-// Adds a UUID, or that there is none.
+// Appends a UUID that may be absent.
 fn put_id(page: &mut Page<MOST_BYTES>, id: &Option<[u8; 16]>)
     requires { length page.old + 17 ≤ MOST_BYTES }
     ensures bytes { page.new ≡ page.old ++ optional_id id.now }
@@ -59,7 +59,7 @@ fn put_id(page: &mut Page<MOST_BYTES>, id: &Option<[u8; 16]>)
     }
 }
 
-// Adds the three UUIDs of a component.
+// Appends the three UUIDs of a component.
 fn put_ids(page: &mut Page<MOST_BYTES>, entry: &Entry)
     requires { length page.old + 51 ≤ MOST_BYTES }
     ensures bytes { page.new ≡ page.old ++ ids_field entry.now }
@@ -70,7 +70,7 @@ fn put_ids(page: &mut Page<MOST_BYTES>, entry: &Entry)
     put_id(page, &entry.device);
 }
 
-// Adds a component's capacity, and where its slots start.
+// Appends a component's capacity, and where its slots start.
 fn put_numbers(page: &mut Page<MOST_BYTES>, entry: &Entry)
     requires { length page.old + 24 ≤ MOST_BYTES }
     ensures bytes { page.new ≡ page.old ++ numbers_field entry.now }
@@ -81,7 +81,7 @@ fn put_numbers(page: &mut Page<MOST_BYTES>, entry: &Entry)
     page.put_number(entry.starts[1]);
 }
 
-// The byte of a memory.
+// The byte that stands for a memory.
 fn memory_byte(memory: Memory) -> u8
     ensures { result ≡ memory_byte memory }
 {
@@ -91,7 +91,7 @@ fn memory_byte(memory: Memory) -> u8
     }
 }
 
-// Adds a component.
+// Appends a component.
 #[tactic(auto, unfolding(crate::specs::ConfigPage::entry_bytes))]
 fn put_entry(page: &mut Page<MOST_BYTES>, entry: &Entry)
     requires short { length (spelled_id entry.now.identifier) ≤ 64 }
@@ -105,7 +105,7 @@ fn put_entry(page: &mut Page<MOST_BYTES>, entry: &Entry)
     put_numbers(page, entry);
 }
 
-// Adds components.
+// Appends components.
 fn put_entries(page: &mut Page<MOST_BYTES>, entries: &[Entry])
     requires short { All (λ e. length (spelled_id e.identifier) ≤ 64) entries.now }
     requires room { length page.old + ENTRY_SIZE * length entries.now ≤ MOST_BYTES }
@@ -117,7 +117,7 @@ fn put_entries(page: &mut Page<MOST_BYTES>, entries: &[Entry])
     }
 }
 
-// Adds the open gate, the version, the lengths and the key.
+// Appends the open gate, the version, the lengths and the key.
 fn put_front(page: &mut Page<MOST_BYTES>, version: u8, count: u8, key: &Key)
     requires { length page.old + FRONT_SIZE ≤ MOST_BYTES }
     ensures bytes { page.new
@@ -128,7 +128,8 @@ fn put_front(page: &mut Page<MOST_BYTES>, version: u8, count: u8, key: &Key)
     page.put(&key.bytes);
 }
 
-/// The page of a layout and a key on a flash with this frame, with its gate open. Takes no memory.
+/// Writes the page of a layout and a key on a flash with this frame, with its gate open. Allocates
+/// nothing.
 #[tactic(auto, unfolding(crate::specs::ConfigPage::config_page))]
 pub fn write_page(layout: &Layout, key: &Key, frame: Frame) -> Page<MOST_BYTES>
     requires few { length layout.now ≤ most frame }

@@ -1,4 +1,4 @@
-//! Where a manifest's components stand in a layout.
+//! Finding a manifest's components in a layout.
 
 ghost use Rattle.std.specs.Prelude.{◌≤◌, length, IfOk, IfErr, MatchOption};
 ghost use Rattle.flash_layout.specs.Placement.{ArePlaces, HasPlace, HaveOtherPlaces, IsFirstUnknown, IsUnknown};
@@ -21,7 +21,7 @@ fn find(entries: &[Entry], identifier: &Identifier) -> Option<usize>
     None
 }
 
-/// The places of a manifest's components in a layout, or the first component that the layout lacks.
+/// Finds a manifest's components in a layout, or else the first one that the layout does not have.
 pub fn places(layout: &Layout, components: &Identifiers) -> Result<Places, Unknown>
     requires entries { length layout.now ≤ MOST_ENTRIES }
     requires components { length components.now ≤ MAX_COMPONENTS }

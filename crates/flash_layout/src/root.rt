@@ -1,4 +1,4 @@
-//! The root, which tells where the head of layout version 2 stands.
+//! The root, which says where the head of layout version 2 is.
 
 ghost use Rattle.std.specs.Prelude.{◌≡◌, length};
 ghost use Rattle.flash_layout.specs.Roots.{frame_by, frame_in, root_bytes, second_frame};
@@ -15,7 +15,7 @@ pub(crate) fn second_frame(base: u64) -> Frame
     Frame { version: 2, base }
 }
 
-// The frame that an open root tells, if it is one of version 2.
+// The frame that an open root gives, if it is one of version 2.
 #[tactic(auto, unfolding(crate::specs::Roots::frame_in))]
 fn frame_in(root: &[u8; ROOT_BYTES]) -> Option<Frame>
     ensures { result ≡ frame_in root.now }
@@ -26,7 +26,7 @@ fn frame_in(root: &[u8; ROOT_BYTES]) -> Option<Frame>
     Some(second_frame(read_number(&root[2..10])))
 }
 
-/// The frame that a root tells: that of version 1 where its gate is closed.
+/// The frame that a root gives. It is that of version 1 if the gate is closed.
 #[tactic(auto, unfolding(crate::specs::Roots::frame_by))]
 pub(crate) fn frame_by(root: &[u8; ROOT_BYTES]) -> Option<Frame>
     ensures { result ≡ frame_by root.now }
@@ -37,7 +37,7 @@ pub(crate) fn frame_by(root: &[u8; ROOT_BYTES]) -> Option<Frame>
     frame_in(root)
 }
 
-/// The root that tells this frame of version 2, with its gate open.
+/// The root that gives this frame of version 2, with its gate open.
 pub fn root_page(frame: Frame) -> Page<ROOT_BYTES>
     requires { frame.version ≡ 2 }
     ensures bytes { result ≡ root_bytes frame }

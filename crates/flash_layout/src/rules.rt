@@ -1,4 +1,4 @@
-//! Which layouts a flash may have.
+//! Which layouts are allowed on a flash.
 
 ghost use Rattle.std.specs.Prelude.{◌≡◌, ◌↔◌, ◌≤◌, ◌<◌, ◌+◌, ℕ, All, AllPairs, IsTrue, length, slice_index, slice_index_or};
 ghost use Rattle.flash_layout.specs.declared.layout.Entry.{Entry};
@@ -9,10 +9,10 @@ use crate::frame::{LENGTH_SIZE, SLOTS_START, frame_size, most};
 use crate::spelling::spell_id;
 use crate::{Entry, Frame, Layout, Memory};
 
-/// How many bytes a component in working memory may hold.
+/// The most bytes that a component in working memory may hold.
 pub const MAX_RAM: u64 = 1048576;
 
-// Whether a slot of so many bytes of content from there on ends at that place or before it.
+// Whether a slot that starts at `start` and holds up to `capacity` bytes ends at `end` or before.
 fn ends_by(start: u64, capacity: u64, end: u64) -> bool
     ensures { IsTrue result ↔ (start + (LENGTH_SIZE + capacity) ≤ end) }
 {
@@ -34,7 +34,7 @@ pub(crate) fn clear(p: u64, m: u64, q: u64, n: u64) -> bool
     }
 }
 
-// Whether a slot shares no byte with those that start there.
+// Whether a slot shares no byte with any of the slots at these starts.
 fn clear_of(p: u64, m: u64, starts: &[u64], n: u64) -> bool
     ensures { IsTrue result ↔ IsClearOf p (LENGTH_SIZE + m) starts.now (LENGTH_SIZE + n) }
 {
@@ -46,7 +46,7 @@ fn clear_of(p: u64, m: u64, starts: &[u64], n: u64) -> bool
     true
 }
 
-/// Whether no slot of the first ones shares a byte with one of the second ones.
+/// Whether no slot of the first list shares a byte with one of the second.
 pub(crate) fn all_clear(ps: &[u64], m: u64, qs: &[u64], n: u64) -> bool
     ensures { IsTrue result ↔ AreAllClear ps.now (LENGTH_SIZE + m) qs.now (LENGTH_SIZE + n) }
 {
@@ -58,7 +58,7 @@ pub(crate) fn all_clear(ps: &[u64], m: u64, qs: &[u64], n: u64) -> bool
     true
 }
 
-/// Where a component's slots in the flash start.
+/// Where a component's slots in the flash start. There are none for working memory.
 pub fn slots_of(entry: &Entry) -> &[u64]
     requires { entry.now.slots ≤ 2 }
     ensures { result.now ≡ slot_starts entry.now }
@@ -69,7 +69,7 @@ pub fn slots_of(entry: &Entry) -> &[u64]
     }
 }
 
-/// Whether slots that start there lie where slots may be on a flash of this size.
+/// Whether slots at these starts lie where slots may be on a flash of this size.
 pub(crate) fn starts_inside(size: u64, starts: &[u64], capacity: u64) -> bool
     ensures { IsTrue result ↔ All (λ p. IsInside size p (LENGTH_SIZE + capacity)) starts.now }
 {
@@ -93,7 +93,7 @@ fn is_clear_of(frame: Frame, start: u64, capacity: u64) -> bool
     }
 }
 
-/// Whether slots that start there share no byte with the head and the work area.
+/// Whether no slot at these starts shares a byte with the head and the work area.
 pub(crate) fn starts_clear(frame: Frame, starts: &[u64], capacity: u64) -> bool
     ensures { IsTrue result
         ↔ IsClearOf frame.base (frame_size frame) starts.now (LENGTH_SIZE + capacity) }
@@ -106,7 +106,7 @@ pub(crate) fn starts_clear(frame: Frame, starts: &[u64], capacity: u64) -> bool
     true
 }
 
-// Whether slots that start there may be there, on a flash of this size with this frame.
+// Whether slots at these starts are allowed on a flash of this size with this frame.
 fn starts_behind(frame: Frame, size: u64, starts: &[u64], capacity: u64) -> bool
     ensures { IsTrue result
         ↔ All (λ p. IsBehindHead frame size p (LENGTH_SIZE + capacity)) starts.now }
@@ -119,7 +119,7 @@ fn starts_behind(frame: Frame, size: u64, starts: &[u64], capacity: u64) -> bool
     true
 }
 
-// Whether a component in flash has one or two slots, apart, where they may be.
+// Whether a component in flash has one or two slots that are apart and where they may be.
 fn is_flash(frame: Frame, size: u64, entry: &Entry) -> bool
     ensures { IsTrue result ↔ IsInFlash frame size entry.now }
 {
@@ -142,14 +142,14 @@ fn is_flash(frame: Frame, size: u64, entry: &Entry) -> bool
     starts_behind(frame, size, slots_of(entry), entry.capacity)
 }
 
-// Whether a component in working memory is as it may be.
+// Whether a component in working memory is allowed.
 fn is_ram(entry: &Entry) -> bool
     ensures { IsTrue result ↔ IsInRam entry.now }
 {
     entry.slots == 1 && entry.starts[0] == 0 && entry.starts[1] == 0 && entry.capacity <= MAX_RAM
 }
 
-// Whether a component's memory is as it may be.
+// Whether a component's memory is allowed.
 fn is_held(frame: Frame, size: u64, entry: &Entry) -> bool
     ensures { IsTrue result ↔ IsOfMemory frame size entry.now entry.now.memory }
 {
@@ -159,7 +159,7 @@ fn is_held(frame: Frame, size: u64, entry: &Entry) -> bool
     }
 }
 
-// Whether the rules allow a component by itself, on a flash of this size.
+// Whether a component is allowed on its own, on a flash of this size.
 fn is_entry(frame: Frame, size: u64, entry: &Entry) -> bool
     ensures { IsTrue result ↔ IsEntry frame size entry.now }
 {
@@ -169,7 +169,7 @@ fn is_entry(frame: Frame, size: u64, entry: &Entry) -> bool
     }
 }
 
-// Whether the rules allow each by itself.
+// Whether each component is allowed on its own.
 fn each_entry(frame: Frame, size: u64, entries: &[Entry]) -> bool
     ensures { IsTrue result ↔ All (IsEntry frame size) entries.now }
 {
@@ -181,7 +181,7 @@ fn each_entry(frame: Frame, size: u64, entries: &[Entry]) -> bool
     true
 }
 
-// Whether two components have other identifiers, and share no byte.
+// Whether two components have different identifiers, and share no byte.
 fn apart(a: &Entry, b: &Entry) -> bool
     requires first { a.now.slots ≤ 2 }
     requires second { b.now.slots ≤ 2 }
@@ -193,7 +193,7 @@ fn apart(a: &Entry, b: &Entry) -> bool
     all_clear(slots_of(a), a.capacity, slots_of(b), b.capacity)
 }
 
-// Whether a component is apart from each before it.
+// Whether a component is apart from every one before it.
 fn apart_before(entries: &[Entry], last: usize) -> bool
     requires inside { last < length entries.now }
     requires slots { All (λ e. e.slots ≤ 2) entries.now }
@@ -210,7 +210,7 @@ fn apart_before(entries: &[Entry], last: usize) -> bool
     true
 }
 
-// Whether all are apart.
+// Whether every two components are apart.
 fn all_apart(entries: &[Entry]) -> bool
     requires slots { All (λ e. e.slots ≤ 2) entries.now }
     ensures { IsTrue result ↔ AllPairs AreApart entries.now }
@@ -223,10 +223,11 @@ fn all_apart(entries: &[Entry]) -> bool
     true
 }
 
-/// Whether the rules allow a layout on a flash of this size with this frame: one to eight components, or up to 32 with
-/// version 2, with different identifiers, each spelled in at most 64 bytes; working memory of 1 to 1,048,576 bytes;
-/// slots of at least one byte, of which no two share a byte, behind the first 49,152 bytes and within the flash, and
-/// clear of what stands at the base.
+/// Whether a layout is allowed on a flash of this size with this frame. It has one to eight
+/// components, or up to 32 with version 2, with different identifiers, each spelled in at most 64
+/// bytes. Working memory has 1 to 1,048,576 bytes. Slots hold at least one byte, share no byte with
+/// each other, lie after the first 49,152 bytes and within the flash, and are clear of what is at
+/// the base.
 pub fn is_layout(frame: Frame, size: u64, layout: &Layout) -> bool
     ensures { IsTrue result ↔ IsLayout frame size layout.now }
 {

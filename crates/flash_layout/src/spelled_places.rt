@@ -1,4 +1,4 @@
-//! Where components stand in a layout, by the spelling of their identifiers.
+//! Finding components in a layout by the spelling of their identifiers.
 
 ghost use Rattle.std.specs.Prelude.{◌≡◌, ◌≤◌, ◌↔◌, ℕ, List, length, Ok, IsOk, IsTrue, IfOk, IfErr, MatchOption};
 ghost use Rattle.det_cbor.specs.DataItem.{ArrayOf, spell};
@@ -12,7 +12,7 @@ use crate::{Entry, Layout, Places, Unknown};
 use det_cbor::{Bytes, Cursor};
 use suit_params::{Identifier, bytes_left, read_array, read_content, read_item};
 
-// Whether the next byte strings are these.
+// Whether the next byte strings are these parts.
 fn are_parts(parts: &[Bytes], mut items: Cursor<'_>) -> bool
     requires { IsOk (parts_from (length parts.now) items) }
     ensures { IsTrue result ↔ (parts_from (length parts.now) items.entry ≡ Ok parts.now) }
@@ -36,7 +36,7 @@ fn is_spelled(identifier: &Identifier, bytes: &[u8]) -> bool
     count == identifier.len() as u64 && are_parts(identifier.as_slice(), item)
 }
 
-// The index of the component whose identifier the bytes spell.
+// The index of the component whose identifier the bytes spell, if there is one.
 fn find_spelled(entries: &[Entry], bytes: &[u8]) -> Option<usize>
     requires { IsOk (identifier_at bytes.now) }
     ensures { (id : List (List ℕ)) → identifier_at bytes.now ≡ Ok id
@@ -50,8 +50,9 @@ fn find_spelled(entries: &[Entry], bytes: &[u8]) -> Option<usize>
     None
 }
 
-/// The places of a manifest's components in a layout, or the first component that the layout lacks. Their identifiers are
-/// told by the spelling of their array (draft-ietf-suit-manifest-25, section 8.4.5), as a manifest holds it. Takes no memory.
+/// Finds a manifest's components in a layout, or else the first one that the layout does not have.
+/// Their identifiers are given as the spelling of their array, as it is in a manifest
+/// (draft-ietf-suit-manifest-25, section 8.4.5). Allocates nothing.
 pub fn places_spelled(layout: &Layout, identifiers: &[u8]) -> Result<Places, Unknown>
     requires entries { length layout.now ≤ MOST_ENTRIES }
     requires components { (ids : List (List (List ℕ)))

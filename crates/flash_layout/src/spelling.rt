@@ -1,4 +1,4 @@
-//! Identifiers as the configuration page spells them.
+//! Identifiers as they are spelled on the configuration page.
 
 ghost use Rattle.std.specs.Prelude.{◌≡◌, ◌≤◌, ◌<◌, ◌+◌, ◌++◌, length, OnOk, OnErr, IfOk, IfErr};
 ghost use Rattle.det_cbor.specs.DataItem.{spell_items};
@@ -13,7 +13,7 @@ use suit_params::Identifier;
 /// A spelling of up to 64 bytes.
 pub(crate) type Spelling = ArrayVec<u8, 64>;
 
-// Adds a head in its shortest form (RFC 8949, section 4.2.1).
+// Appends a head in its shortest form (RFC 8949, section 4.2.1).
 fn put_head(out: &mut Spelling, kind: HeadKind, value: u64) -> Result<(), CapacityError>
     requires { IsValueOf kind value }
     ensures ok { OnOk result
@@ -27,7 +27,7 @@ fn put_head(out: &mut Spelling, kind: HeadKind, value: u64) -> Result<(), Capaci
     out.try_extend_from_slice(behind)
 }
 
-// Adds a byte string.
+// Appends a byte string.
 fn put_string(out: &mut Spelling, part: &Bytes) -> Result<(), CapacityError>
     ensures ok { OnOk result
         (out.new.items ≡ out.old.items ++ (head_bytes 2 (length part.now) ++ part.now)) }
@@ -38,7 +38,7 @@ fn put_string(out: &mut Spelling, part: &Bytes) -> Result<(), CapacityError>
     out.try_extend_from_slice(part.as_slice())
 }
 
-// Adds byte strings.
+// Appends byte strings.
 fn put_strings(out: &mut Spelling, parts: &[Bytes]) -> Result<(), CapacityError>
     ensures ok { OnOk result
         (out.new.items ≡ out.old.items ++ spell_items (string_items parts.now)) }
@@ -51,7 +51,7 @@ fn put_strings(out: &mut Spelling, parts: &[Bytes]) -> Result<(), CapacityError>
     Ok(())
 }
 
-/// An identifier's spelling, where it has at most 64 bytes. Takes no memory.
+/// Spells an identifier, if that takes at most 64 bytes. Allocates nothing.
 pub(crate) fn spell_id(identifier: &Identifier) -> Result<Spelling, CapacityError>
     ensures ok { IfOk result (λ s. s.items ≡ spelled_id identifier.now) }
     ensures short { IfOk result (λ _. length (spelled_id identifier.now) ≤ 64) }

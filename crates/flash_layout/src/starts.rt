@@ -14,12 +14,12 @@ use std::alloc::Global;
 #[derive(Clone, Copy)]
 pub(crate) struct Starts {
     pub(crate) count: u8,
-    /// 0 where there is none.
+    /// The start of each slot, or 0 where there is none.
     pub(crate) places: [u64; 2],
 }
 
 impl Starts {
-    /// Those of working memory: one slot that starts nowhere.
+    /// The starts in working memory: one slot, without a place.
     pub(crate) fn none() -> Starts
         ensures { result ≡ no_starts }
     {
@@ -30,7 +30,7 @@ impl Starts {
     }
 }
 
-// A place in the flash.
+// The form of a place in the flash.
 #[derive(Drop)]
 struct Place;
 
@@ -66,7 +66,7 @@ fn one_or_two(alloc: Global, starts: &[u64]) -> Result<Starts, JsonFault>
     }
 }
 
-// An array of one or two starts.
+// Reads an array of one or two starts.
 fn flash_starts(alloc: Global, value: &Value) -> Result<Starts, JsonFault>
     ensures { Gives (λ s. s) result (flash_starts (view value.now)) }
 {
@@ -75,7 +75,7 @@ fn flash_starts(alloc: Global, value: &Value) -> Result<Starts, JsonFault>
     Ok(starts)
 }
 
-/// An array of one or two starts, which working memory may not have.
+/// Reads an array of one or two starts, which working memory may not have.
 pub(crate) fn starts_of(
     alloc: Global,
     value: &Value,

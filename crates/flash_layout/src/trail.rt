@@ -1,4 +1,4 @@
-//! A trail: what became of the free steps of a procedure, kept so that a loss of power does not undo them.
+//! Trails: the outcomes of a procedure's free steps, kept so that a power loss does not undo them.
 
 ghost use Rattle.flash_layout.specs.Trails.{HoldsNow, IsTaken, LieWithin, list_after, list_with};
 ghost use Rattle.std.specs.Prelude.{◌≡◌, ◌<◌, ◌⊎◌, ◌∷◌, ◌++◌, [], ℕ, Bool, IfSome, IsTrue, List, None, Option, false, length, true};
@@ -10,35 +10,36 @@ ghost use Rattle.suit_edge.specs.declared.edge.Edge.TheVariants as edge;
 
 use suit_edge::{Disk, Edge};
 
-/// Outcomes of free steps, in order: those still to be recalled, and the list of those that were recalled or kept so far.
-/// A step is free where it looks at a content or makes one, or launches.
+/// The outcomes of free steps, in order: those that are still to be recalled, and the list of those
+/// that were recalled or kept so far. A step is free if it looks at a content, makes one, or
+/// launches.
 pub trait Trail {
-    /// Whether trails of this type tell their list.
+    /// Whether the contracts of this type say what its list is.
     ghost told: { Bool };
 
-    /// Whether keeping calls no disk and does not fail.
+    /// Whether keeping an outcome never calls the disk, and never fails.
     ghost silent: { Bool };
 
-    /// The outcomes still to be recalled.
+    /// The outcomes that are still to be recalled.
     ghost left: { Self → List Bool };
 
     /// The outcomes that were recalled or kept so far.
     ghost list: { Self → List Bool };
 
-    /// How many outcomes there is room for, if there is an end to it.
+    /// How many outcomes there is room for, if there is a limit.
     ghost room: { Self → Option ℕ };
 
-    /// The places of the disk that it keeps outcomes at.
+    /// The places of the disk at which outcomes are kept.
     ghost ranges: { Self → List Range };
 
-    /// The image bears the list. What it has elsewhere does not matter.
+    /// The image holds this list, whatever else is in it.
     ghost holds: { Self → List Bool → List ℕ → Type 0 };
 
     /// How many outcomes were recalled or kept so far.
     fn kept(&self) -> u64
         ensures { IsTrue told → result ≡ length (list self.now) };
 
-    /// Takes the next outcome to be recalled.
+    /// Takes the next outcome that is to be recalled.
     fn recalled(&mut self) -> Option<bool>
         ensures taken { IsTaken result (left self.old) (left self.new) }
         ensures list { IsTrue told → list self.new ≡ list_with (list self.old) result }
@@ -47,8 +48,9 @@ pub trait Trail {
         ensures room { room self.new ≡ room self.old }
         ensures ranges { ranges self.new ≡ ranges self.old };
 
-    /// Keeps an outcome. It outlives a loss of power once this is done, and a loss on the way leaves the list as it was,
-    /// or longer by this outcome. Where it fails the list is as it was, and the disk may bear either.
+    /// Keeps an outcome. Once this is done it survives a power loss; a loss meanwhile leaves the
+    /// list as it was, or with this outcome. If it fails, the list is as it was, and the disk may
+    /// hold either.
     fn keep<D: Disk>(&mut self, disk: &mut D, passed: bool) -> Edge
         requires all_recalled { left self.old ≡ [] }
         requires holds { IsTrue D.told
@@ -78,7 +80,8 @@ pub trait Trail {
         → holds trail outcomes other };
 }
 
-/// The trail of a procedure that is done again from its start: nothing is recalled and nothing kept.
+/// The trail of a procedure that starts again from its beginning: nothing is recalled, and nothing
+/// is kept.
 #[derive(Clone, Copy, Debug)]
 pub struct NoTrail;
 

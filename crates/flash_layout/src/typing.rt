@@ -1,18 +1,18 @@
-//! Bounds that the types of a component's fields set.
+//! Bounds that the types of a component's fields give.
 
 ghost use Rattle.std.specs.Prelude.{◌≡◌, ◌<◌, ◌^◌, All, IfSome, length, slice_index};
 ghost use Rattle.flash_layout.specs.Layouts.{AreTyped, IsTypedEntry, IsUuid};
 
 use crate::{Entry, Key, Layout};
 
-/// A number of the code is in the range of its type.
+/// Tells the proof that a number is in the range of its type.
 pub fn in_range(number: u64)
     ensures { number < 2 ^ 64 }
 {
     let _ = number;
 }
 
-/// Bytes of the code are as many as their type says.
+/// Tells the proof that an array has as many bytes as its type says.
 pub fn sized<const COUNT: usize>(bytes: &[u8; COUNT])
     ensures { length bytes.now ≡ COUNT }
 {
@@ -55,7 +55,8 @@ fn entries(layout: &Layout)
     }
 }
 
-/// A layout and a key of the code have fields of the lengths and ranges of their types.
+/// Tells the proof that the fields of a layout and a key have the lengths and ranges of their
+/// types.
 pub(crate) fn typed(layout: &Layout, key: &Key)
     ensures { AreTyped layout.now key.now }
 {

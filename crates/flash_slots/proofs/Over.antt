@@ -4,7 +4,7 @@ use Rattle.std.proofs.Math.Seq.{take-append-add}
 use Rattle.std.proofs.lemmas.List.{length-append, length-take-le, take-take, drop-take}
 use Rattle.suit_edge.specs.Ranges.{written}
 
--- the first bytes, where they hold the part
+-- the first n bytes, if they contain the part
 pub written_within : (l : List ℕ) (n from : ℕ) (piece : List ℕ) → from + length piece ≤ n → n ≤ length l → take n (written l from piece) ≡ written (take n l) from piece
 unfolding written
 written_within l n from piece inside fits =

@@ -1,4 +1,4 @@
--- Contents in working memory: one of them is another, and all others stay.
+-- Contents in working memory: one of them changes, and all others stay.
 use Rattle.std.proofs.Common.{◌≡◌, ◌≢◌, ◌<◌, ℕ, zero, suc, List, [], ◌∷◌, length, map, get_or, refl, ◌∙◌, ap, arith}
 use Rattle.flash_layout.specs.declared.layout.Entry.{Entry}
 use Rattle.flash_slots.specs.RamContents.{Held, IsRamOf, empty_ram, held_by, holding, ram_capacity}
@@ -15,7 +15,7 @@ same_room (held ∷ rest) (suc i) content = ap (λ (l : List ℕ). held.capacity
 pub stays : (layout : List Entry) (ram : List Held) (i : ℕ) (content : List ℕ) → IsRamOf layout ram → IsRamOf layout (holding ram i content)
 stays layout ram i content is = same_room ram i content ∙ is
 
--- of lists that are equal the first elements are, and the rests
+-- if two lists are equal, so are their first elements and their rests
 one_list : (x y : ℕ) (xs ys : List ℕ) → x ∷ xs ≡ y ∷ ys → xs ≡ ys
 one_list x y xs ys e = cc
 

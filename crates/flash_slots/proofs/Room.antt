@@ -1,4 +1,4 @@
--- A piece over the room for a content.
+-- Writing a piece into the room for a content.
 use Rattle.std.proofs.Common.{◌≡◌, inr, ◌≤◌, ℕ, ◌+◌, ◌-◌, List, ◌++◌, length, get_or, take, drop, sym, ◌∙◌, ap, arith}
 use Rattle.std.specs.List.{slice_range}
 use Rattle.std.proofs.lemmas.List.{take_all, take-take, length-drop}

@@ -8,7 +8,7 @@ use Rattle.flash_layout.specs.declared.slot.Slot.{Slot}
 use Rattle.flash_slots.specs.Contents.{IsEmptyInEach, IsEmptyOrWhole, IsEmptySlot, pieces_of}
 use Rattle.flash_slots.proofs.Stored.{still_empty}
 
--- a piece is put
+-- while a piece is written
 pub empty_since : (slot : Slot) (m n size : ℕ) (a b : Flash) → IsFlash a size → slot.start + (8 + slot.capacity) ≤ size → Keeps (Outside (slot.start + 8 + m) n) a b → IsEmptyInEach slot a
     → Passes a b (IsEmptySlot slot)
 empty_since slot m n size a b law inside kept empty =
@@ -19,11 +19,11 @@ empty_since slot m n size a b law inside kept empty =
     fits l long = omega (arith, long, inside)
 
 module _ (slot : Slot) (n : ℕ) (a b : Flash) (same : IsSame a b) (empty : IsEmptyInEach slot a) where
-  -- the pieces are made sure of
+  -- while the pieces are synced
   pub empty_until : Passes a b (IsEmptyOrWhole slot n a.reads)
   empty_until = weakens a b (Now a) (IsEmptyOrWhole slot n a.reads) (λ image now. inl (empty image now)) same.images
 
-  -- and then a length is stored
+  -- while the length is stored then
   pub whole_since : (c : Flash) (size k : ℕ) → IsFlash b size → slot.start + (8 + slot.capacity) ≤ size → n ≤ slot.capacity → IsSettled b → k ≡ 8 → Keeps (Outside slot.start k) b c
       → Passes a c (IsEmptyOrWhole slot n a.reads)
   whole_since c size k law inside few settled k_is kept =

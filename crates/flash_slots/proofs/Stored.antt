@@ -1,4 +1,4 @@
--- The content of a slot, in the flash's bytes.
+-- The content of a slot, in terms of the flash's bytes.
 use Rattle.std.proofs.Common.{◌≡◌, inl, inr, ⊎_elim, ◌<◌, ◌≤◌, ℕ, ◌+◌, ◌-◌, ◌^◌, min, List, [], ◌++◌, length, get_or, take, drop, refl, sym, ◌∙◌, ap, arith}
 use Rattle.std.specs.Int.{w64, from_be_bytes, to_be_bytes}
 use Rattle.std.specs.List.{slice_range}
@@ -13,7 +13,7 @@ use Rattle.flash_layout.specs.declared.slot.Slot.{Slot}
 use Rattle.flash_layout.specs.Slots.{LiesWithin, content_of, slot_bytes, slot_content, stored_length}
 use Rattle.flash_slots.specs.Contents.{IsRead, part_of, pieces_of}
 
--- ---- where the length and the content stand
+-- ---- where the length and the content are
 
 whole_slot : (slot : Slot) (image : List ℕ) → slot_bytes slot image ≡ take (8 + slot.capacity) (drop slot.start image)
 whole_slot slot image = let e : slot.start + (8 + slot.capacity) - slot.start ≡ 8 + slot.capacity = omega arith in ap (λ (k : ℕ). take k (drop slot.start image)) e
@@ -135,7 +135,7 @@ finished slot n old image fits few inside wrote =
     content_at slot image n (number_at_start image slot.start n old fits (omega (arith, inside)) wrote) few
     ∙ same_range image old (slot.start + 8) (slot.start + 8 + n) size (omega (arith, size, inside, few)) (λ i low high. ap (λ (l : List ℕ). get_or l i 0) wrote ∙ same.same i (inr low))
 
--- an empty slot stays empty where its length stays
+-- an empty slot stays empty if its length stays
 pub empty_stays : (slot : Slot) (old image : List ℕ) → LiesWithin (length old) slot → length image ≡ length old → ((i : ℕ) → i < slot.start + 8 → slot.start ≤ i → get_or image i 0 ≡ get_or old i 0) → slot_content slot old ≡ [] → slot_content slot image ≡ []
 empty_stays slot old image inside size same empty =
     ⊎_elim
@@ -156,12 +156,12 @@ empty_stays slot old image inside size same empty =
     zero_of fits =
         omega (arith, ap length (content_at slot old stored refl fits), ap length empty, length-between old (slot.start + 8) (slot.start + 8 + stored) (omega (arith, inside, fits)))
 
--- while pieces are put
+-- while pieces are written
 pub still_empty : (slot : Slot) (old image : List ℕ) (m n : ℕ) → LiesWithin (length old) slot → SameOn (Outside (slot.start + 8 + m) n) old image → slot_content slot old ≡ [] → slot_content slot image ≡ []
 still_empty slot old image m n inside same empty =
     empty_stays slot old image inside same.size (λ i high low. same.same i (inl (omega (arith, high)))) empty
 
--- a piece behind those before it
+-- a piece after those before it
 pub put_piece : (slot : Slot) (m : ℕ) (piece old image : List ℕ) → slot.start + 8 + m + length piece ≤ length old → image ≡ written old (slot.start + 8 + m) piece → pieces_of slot (m + length piece) image ≡ pieces_of slot m old ++ piece
 put_piece slot m piece old image inside wrote =
     joined ∙ ap (λ (l : List ℕ). l ++ slice_range image (p + m) (p + m + length piece)) before ∙ ap (λ (l : List ℕ). slice_range old p (p + m) ++ l) behind

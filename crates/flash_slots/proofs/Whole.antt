@@ -1,4 +1,4 @@
--- A content that is passed over in parts.
+-- Reading a content from beginning to end.
 use Rattle.std.proofs.Common.{◌≡◌, ◌≢◌, ⊎_elim, ◌<◌, ◌≤◌, ℕ, ◌+◌, ◌-◌, List, [], ◌∷◌, ◌++◌, length, take, drop, refl, sym, ◌∙◌, ap, arith}
 use Rattle.std.specs.List.{slice_range}
 use Rattle.std.proofs.lemmas.Bool.{cases_eq}
@@ -24,12 +24,12 @@ module _ (slot : Slot) (image : List ℕ) (n : ℕ) (few : n ≤ slot.capacity) 
       let long : length (part_of slot from count image) ≡ count = omega (arith, length-between image (slot.start + 8 + from) (slot.start + 8 + from + count) (omega (arith, inside, few, within))) in
       ap (take count) (read ∙ ap (λ (l : List ℕ). part_of slot from count l ++ drop count room) same) ∙ take_at (part_of slot from count image) (drop count room) count long
 
-  -- the bytes passed over, and the part behind them
+  -- the bytes read so far, and the next part
   pub more_passed : pieces_of slot from image ++ take count new ≡ pieces_of slot (from + count) image
   more_passed = ap (λ (l : List ℕ). pieces_of slot from image ++ l) part_is ∙ sym (split_range image (slot.start + 8) from count (omega (arith, inside, few, within)))
 
 module _ (slot : Slot) (image : List ℕ) (n : ℕ) (is : n ≡ length (slot_content slot image)) (few : n ≤ slot.capacity) (inside : LiesWithin (length image) slot) where
-  -- all of it
+  -- once all of it is read
   pub whole_content : slot_content slot image ≡ pieces_of slot n image
   whole_content = ⊎_elim
       (λ none. no_length (slot_content slot image) (sym none ∙ is) ∙ sym (no_pieces slot image) ∙ ap (λ (k : ℕ). pieces_of slot k image) (sym none))
@@ -40,7 +40,7 @@ module _ (slot : Slot) (image : List ℕ) (n : ℕ) (is : n ≡ length (slot_con
       above some = omega (arith, some)
 
   module _ (b room new : List ℕ) (from count : ℕ) (same : b ≡ image) (within : from + count ≤ n) (read : new ≡ part_of slot from count b ++ drop count room) where
-    -- the bytes passed over are the front of the bytes, and so is the part
+    -- the bytes read so far equal the front of the bytes, and so does the next part
     pub more_same : (bytes : List ℕ) → pieces_of slot from image ≡ take from bytes → take count new ≡ slice_range bytes from (from + count) → pieces_of slot (from + count) image ≡ take (from + count) bytes
     more_same bytes before part =
         let e : from + count - from ≡ count = omega arith in
@@ -52,7 +52,7 @@ module _ (slot : Slot) (image : List ℕ) (n : ℕ) (is : n ≡ length (slot_con
         let e : from + count - from ≡ count = omega arith in
         other (part_is slot image n few inside b room new from count same within read ∙ part_read slot image n from count is few some inside (omega (arith, within)) ∙ ap (λ (l : List ℕ). take count (drop from l)) equal ∙ sym (ap (λ (k : ℕ). take k (drop from bytes)) e))
 
-  -- all bytes were compared
+  -- once all bytes were compared
   pub all_same : (bytes : List ℕ) (from : ℕ) → n ≡ length bytes → from ≡ n → pieces_of slot from image ≡ take from bytes → slot_content slot image ≡ bytes
   all_same bytes from long end equal =
       whole_content ∙ ap (λ (k : ℕ). pieces_of slot k image) (sym end) ∙ equal ∙ take_all from bytes (omega (arith, long, end))

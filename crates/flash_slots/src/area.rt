@@ -1,4 +1,4 @@
-//! Room in working memory for one content.
+//! Room in working memory for a single content.
 
 ghost use Rattle.flash_slots.specs.RamContents.{Appends, Stretches, empty};
 ghost use Rattle.std.specs.Prelude.{◌≡◌, ◌≤◌, ◌+◌, ◌++◌, IfOk, length, take};
@@ -7,13 +7,13 @@ ghost use Rattle.suit_edge.specs.Ranges.{written};
 use std::alloc::{AllocError, Global};
 use std::marker::Model;
 
-/// A content would have more bytes than its component has room for, which is this many.
+/// The content would be longer than the component's capacity, which is this many bytes.
 #[derive(Clone, Copy, Debug, PartialEq, Eq)]
 pub struct TooLarge {
     pub capacity: u64,
 }
 
-/// Room for one content, which is the first bytes of it.
+/// Room for a single content, which is in its first bytes.
 #[derive(Drop)]
 pub(crate) struct Area {
     room: Vec<u8>,
@@ -51,7 +51,7 @@ fn write_over(room: &mut Vec<u8>, from: usize, piece: &[u8])
 }
 
 impl Area {
-    /// An empty content, with room for so many bytes.
+    /// An empty content, with room for `capacity` bytes.
     pub(crate) fn new(alloc: Global, capacity: usize) -> Result<Area, AllocError>
         ensures { IfOk result (λ area. area ≡ empty capacity) }
     {
@@ -61,7 +61,7 @@ impl Area {
         })
     }
 
-    /// The content, lent.
+    /// Borrows the content.
     pub(crate) fn content(&self) -> &[u8]
         ensures content { result.now ≡ self.now.content }
         ensures fits { length result.now ≤ self.now.capacity }
@@ -69,14 +69,14 @@ impl Area {
         &self.room[..self.used]
     }
 
-    /// Empties it.
+    /// Empties the content.
     pub(crate) fn clear(&mut self)
         ensures { self.new ≡ empty self.old.capacity }
     {
         self.used = 0;
     }
 
-    /// Appends a piece to the content. One for which there is no room changes nothing.
+    /// Appends a piece to the content. If it does not fit, nothing changes.
     pub(crate) fn append(&mut self, piece: &[u8]) -> Result<(), TooLarge>
         ensures { Appends self.old piece.now self.new result }
     {
@@ -91,7 +91,7 @@ impl Area {
         Ok(())
     }
 
-    /// Overwrites the content with a piece, from that byte on.
+    /// Overwrites the content with a piece, from byte `from` on.
     pub(crate) fn put(&mut self, from: usize, piece: &[u8])
         requires { from + length piece.now ≤ length self.old.content }
         ensures capacity { self.new.capacity ≡ self.old.capacity }
@@ -100,7 +100,7 @@ impl Area {
         write_over(&mut self.room, from, piece);
     }
 
-    /// Keeps the first bytes.
+    /// Cuts the content to its first `size` bytes.
     pub(crate) fn cut(&mut self, size: usize)
         requires { size ≤ length self.old.content }
         ensures capacity { self.new.capacity ≡ self.old.capacity }
@@ -109,7 +109,7 @@ impl Area {
         self.used = size;
     }
 
-    /// Extends the content to so many bytes: the new ones are any.
+    /// Extends the content to `size` bytes. The new ones may be any.
     pub(crate) fn stretch(&mut self, size: usize)
         requires behind { length self.old.content ≤ size }
         requires fits { size ≤ self.old.capacity }

@@ -2,7 +2,7 @@
 
 ghost use Rattle.flash_slots.specs.RamLaws.{RamLaws};
 
-/// Room made for a layout stays room for it, and a component's content is its own.
+/// Room that was made for a layout stays room for it, and the content of each component is its own.
 pub fn ram_laws()
     ensures { RamLaws }
 {}

@@ -1,4 +1,5 @@
-//! Contents in slots of the flash: a slot is a list of bytes, which is read in parts and replaced as a whole.
+//! The contents in slots of the flash. A content is a list of bytes that is read in parts and
+//! replaced as a whole.
 #![tactic(auto)]
 
 mod area;

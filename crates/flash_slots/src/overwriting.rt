@@ -1,4 +1,4 @@
-//! Changing a content in place: pieces over the room for it, and its length.
+//! Changing a content in place: writing pieces into the room for it, and setting its length.
 
 ghost use Rattle.flash_layout.specs.Slots.{LiesWithin, slot_content};
 ghost use Rattle.flash_slots.specs.Contents.{ResultCounts, area_of, pieces_of};
@@ -9,8 +9,8 @@ ghost use Rattle.suit_edge.specs.Ranges.{Outside, written};
 use flash_layout::{FlashFault, LENGTH_SIZE, Slot};
 use suit_edge::{Disk, Edge};
 
-/// Writes a piece over the room for the content, from one of its bytes on, whatever the content's length. It is durable
-/// only after a sync. If it fails, the piece's bytes are any.
+/// Writes a piece into the room for the content, from byte `from` on, whatever the content's
+/// length. It is durable only after a sync. If it fails, the bytes of the piece may be any.
 pub fn overwrite<D: Disk>(
     disk: &mut D,
     slot: Slot,
@@ -30,7 +30,8 @@ pub fn overwrite<D: Disk>(
         (D.flash disk.new) }
     ensures grows { IsTrue D.told → Grows (D.flash disk.old) (D.flash disk.new) }
 {
-    // Each place of the slot fits a u64, since the flash's size does.
+    // The size of the flash fits a `u64`, and so does each place of the slot. The proof learns it
+    // here.
     let _size = disk.size();
     match disk.write_at(slot.start + LENGTH_SIZE + from, piece) {
         Edge::Failed => Err(FlashFault),
@@ -38,8 +39,8 @@ pub fn overwrite<D: Disk>(
     }
 }
 
-/// Stores a length, which makes the first bytes of the room the content. It is durable only after a sync. If it fails,
-/// the slot holds any content.
+/// Stores a length, which makes that many of the first bytes the content. It is durable only after
+/// a sync. If it fails, the slot may hold any content.
 pub fn put_length<D: Disk>(disk: &mut D, slot: Slot, size: u64) -> Result<(), FlashFault>
     requires slot { LiesWithin (D.extent disk.old) slot }
     requires within { size ≤ slot.capacity }

@@ -1,4 +1,4 @@
-//! Passing over a slot's content in parts.
+//! Reading a slot's content from beginning to end.
 
 ghost use Rattle.flash_layout.specs.Slots.{LiesWithin, slot_content};
 ghost use Rattle.flash_slots.specs.Contents.{ResultCounts, pieces_of};
@@ -12,7 +12,7 @@ use lane_bytes::same;
 use suit_edge::Disk;
 use suit_params::{Digest, DigestKind, Hasher};
 
-/// The digest of so many of the first bytes of the room for the content, which are read through the other room.
+/// The digest of the first `size` bytes of the room for the content, which are read through `room`.
 pub fn digest_some<D: Disk>(
     disk: &mut D,
     slot: Slot,
@@ -40,7 +40,7 @@ pub fn digest_some<D: Disk>(
     Ok(hasher.finish())
 }
 
-/// Whether the content equals these bytes. It is read through the room.
+/// Whether the content equals these bytes. It is read through `room`.
 pub fn same_content<D: Disk>(
     disk: &mut D,
     slot: Slot,

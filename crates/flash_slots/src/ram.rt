@@ -9,8 +9,9 @@ use flash_layout::{Entry, Layout, Memory};
 use std::alloc::{AllocError, Global};
 use std::marker::Model;
 
-/// The contents of those components of a layout that are kept in working memory. All memory is taken when it is made. A
-/// component is named by its index in the layout; one of the flash has no room here.
+/// The contents of those components of a layout that are kept in working memory. All memory is
+/// allocated at the start. A component is given by its index in the layout; one in flash has no
+/// room here.
 #[derive(Drop)]
 pub struct Ram {
     areas: Vec<Area>,
@@ -36,7 +37,7 @@ fn ram_capacity_of(entry: &Entry) -> usize
 }
 
 impl Ram {
-    /// Room for the contents of a layout, which are all empty.
+    /// Makes room for the contents of a layout, all of which are empty.
     pub fn new(alloc: Global, layout: &Layout) -> Result<Ram, AllocError>
         ensures { IfOk result (λ ram. ram ≡ empty_ram layout.now) }
     {
@@ -48,7 +49,7 @@ impl Ram {
         Ok(Ram { areas })
     }
 
-    /// A component's content, lent.
+    /// Borrows a component's content.
     pub fn content(&self, component: u32) -> &[u8]
         requires { component < length self.now }
         ensures content { result.now ≡ (held_by self.now component).content }
@@ -67,7 +68,7 @@ impl Ram {
         area.clear();
     }
 
-    /// Appends a piece to a component's content. One for which there is no room changes nothing.
+    /// Appends a piece to a component's content. If it does not fit, nothing changes.
     pub fn append(&mut self, component: u32, piece: &[u8]) -> Result<(), TooLarge>
         requires { component < length self.old }
         ensures { AppendsTo self.old component piece.now self.new result }
@@ -76,7 +77,7 @@ impl Ram {
         area.append(piece)
     }
 
-    /// Overwrites a component's content with a piece, from that byte on.
+    /// Overwrites a component's content with a piece, from byte `from` on.
     pub fn put(&mut self, component: u32, from: usize, piece: &[u8])
         requires component { component < length self.old }
         requires within { from + length piece.now ≤ length (held_by self.old component).content }
@@ -88,7 +89,7 @@ impl Ram {
         area.put(from, piece);
     }
 
-    /// Keeps the first bytes of a component's content.
+    /// Cuts a component's content to its first `size` bytes.
     pub fn cut(&mut self, component: u32, size: usize)
         requires component { component < length self.old }
         requires within { size ≤ length (held_by self.old component).content }
@@ -99,7 +100,7 @@ impl Ram {
         area.cut(size);
     }
 
-    /// Extends a component's content to so many bytes: the new ones are any.
+    /// Extends a component's content to `size` bytes. The new ones may be any.
     pub fn stretch(&mut self, component: u32, size: usize)
         requires component { component < length self.old }
         requires behind { length (held_by self.old component).content ≤ size }

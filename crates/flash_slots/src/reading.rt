@@ -8,7 +8,7 @@ ghost use Rattle.suit_edge.specs.Flash.{Grows, IsSame};
 use flash_layout::{FlashFault, LENGTH_SIZE, Slot};
 use suit_edge::{Disk, Edge};
 
-/// How many bytes the content has. A stored length above the capacity reads as 0.
+/// The length of the content in bytes. A stored length above the capacity reads as 0.
 pub fn length<D: Disk>(disk: &mut D, slot: Slot) -> Result<u64, FlashFault>
     requires { LiesWithin (D.extent disk.old) slot }
     ensures size { D.extent disk.new ≡ D.extent disk.old }
@@ -32,8 +32,8 @@ pub fn length<D: Disk>(disk: &mut D, slot: Slot) -> Result<u64, FlashFault>
     }
 }
 
-/// Reads so many of the first bytes of the room for the content, from one of them on, as much as fits, and says how
-/// many. If it fails, the room holds any bytes.
+/// Reads the first `size` bytes of the room for the content, from byte `from` on. Reads as many as
+/// fit into `room`, and returns their number. If it fails, `room` may hold any bytes.
 pub fn read_some<D: Disk>(
     disk: &mut D,
     slot: Slot,
@@ -53,7 +53,8 @@ pub fn read_some<D: Disk>(
     ensures same { IsTrue D.told → IsSame (D.flash disk.old) (D.flash disk.new) }
     ensures grows { IsTrue D.told → Grows (D.flash disk.old) (D.flash disk.new) }
 {
-    // Each place of the slot fits a u64, since the flash's size does.
+    // The size of the flash fits a `u64`, and so does each place of the slot. The proof learns it
+    // here.
     let _size = disk.size();
     let rest = size - from;
     let count = if (room.len() as u64) < rest {
@@ -67,8 +68,9 @@ pub fn read_some<D: Disk>(
     }
 }
 
-/// Reads the content from one of its bytes on, as much as fits in the room, and says how many bytes: none from its end
-/// on. If it fails, the room holds any bytes.
+/// Reads the content from byte `from` on. Reads as many bytes as fit into `room`, and returns their
+/// number, which is 0 at the end of the content or after it. If it fails, `room` may hold any
+/// bytes.
 pub fn read<D: Disk>(
     disk: &mut D,
     slot: Slot,

@@ -9,23 +9,25 @@ ghost use Rattle.suit_edge.specs.Ranges.{Outside};
 use flash_layout::{FlashFault, LENGTH_SIZE, Slot};
 use suit_edge::{Disk, Edge, write_and_sync};
 
-/// An emptied slot, and how many bytes of its new content were put. Dropped, it leaves the slot empty.
+/// An emptied slot that is being filled, and how many bytes of its new content were written. If it
+/// is dropped, the slot stays empty.
 #[derive(Debug, Drop)]
 pub struct Writing {
     slot: Slot,
     written: u64,
 }
 
-/// Why a piece was not put.
+/// Why a piece was not appended.
 #[derive(Clone, Copy, Debug, PartialEq, Eq)]
 pub enum AppendFault {
-    /// The content would have more bytes than the slot has room for, which is this many. Nothing was changed.
+    /// The content would be longer than the slot's capacity, which is this many bytes. Nothing was
+    /// changed.
     TooLarge(u64),
-    /// A call of the flash failed. The slot then holds any content.
+    /// A call of the flash failed. The slot may hold any content.
     FlashFault,
 }
 
-/// Empties a slot, and syncs it. If it fails, the slot holds any content.
+/// Empties a slot and syncs it. If it fails, the slot may hold any content.
 pub fn begin<D: Disk>(disk: &mut D, slot: Slot) -> Result<Writing, FlashFault>
     requires { LiesWithin (D.extent disk.old) slot }
     ensures size { D.extent disk.new ≡ D.extent disk.old }
@@ -72,7 +74,8 @@ impl Writing {
             (D.flash disk.old) (D.flash disk.new) }
         ensures grows { IsTrue D.told → Grows (D.flash disk.old) (D.flash disk.new) }
     {
-        // Each place of the slot fits a u64, since the flash's size does.
+        // The size of the flash fits a `u64`, and so does each place of the slot. The proof learns
+        // it here.
         let _size = disk.size();
         let rest = self.slot.capacity - self.written;
         if rest < piece.len() as u64 {
@@ -87,8 +90,9 @@ impl Writing {
         }
     }
 
-    /// Syncs the pieces, and then makes them the content and syncs it. Until a length is stored the slot is empty, even
-    /// after a power loss, and from then on the pieces stand in it whole. If it fails, the slot holds any content.
+    /// Syncs the pieces, then makes them the content by storing its length, and syncs that. Until
+    /// the length is stored the slot is empty, even after a power loss; from then on it holds all
+    /// the pieces. If it fails, the slot may hold any content.
     pub fn finish<D: Disk>(self, disk: &mut D) -> Result<(), FlashFault>
         requires slot { LiesWithin (D.extent disk.old) self.slot }
         requires within { self.written ≤ self.slot.capacity }
@@ -106,7 +110,7 @@ impl Writing {
             → Keeps (Outside self.slot.start LENGTH_SIZE) (D.flash disk.old) (D.flash disk.new) }
         ensures grows { IsTrue D.told → Grows (D.flash disk.old) (D.flash disk.new) }
     {
-        // The length fits a u64, since the flash's size does.
+        // The size of the flash fits a `u64`, and so does the length. The proof learns it here.
         let _size = disk.size();
         match disk.sync() {
             Edge::Failed => return Err(FlashFault),

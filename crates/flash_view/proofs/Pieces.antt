@@ -1,4 +1,4 @@
--- A range of a disk that is compared with bytes in pieces.
+-- Comparing a range of a disk with bytes, piece by piece.
 use Rattle.std.proofs.Common.{◌≡◌, ◌<◌, ◌≤◌, ℕ, ◌+◌, ◌-◌, List, ◌++◌, length, take, drop, get_or, refl, sym, ◌∙◌, ap, arith}
 use Rattle.std.specs.List.{slice_range}
 use Rattle.std.proofs.Math.Seq.{take-add}
@@ -6,7 +6,7 @@ use Rattle.std.proofs.lemmas.List.{take_all, drop-drop, ext_get_or}
 use Rattle.std.proofs.lemmas.List.Edits.{length-between, get_or-between}
 
 module _ (reads bytes : List ℕ) (place done count : ℕ) where
-  -- the disk reads one piece more
+  -- the disk holds one more piece
   pub one_more : (read : List ℕ)
       → read ≡ slice_range reads (place + done) (place + done + count)
       → read ≡ slice_range bytes done (done + count)
@@ -21,7 +21,7 @@ module _ (reads bytes : List ℕ) (place done count : ℕ) where
       (ap (take count) (drop-drop done place reads) ∙ sym (ap (λ (k : ℕ). take k (drop (place + done) reads)) of_reads) ∙ sym at ∙ same ∙ ap (λ (k : ℕ). take k (drop done bytes)) of_bytes)
       ∙ sym (take-add done count bytes)
 
-  -- a range that holds the bytes holds each piece of them
+  -- if the range holds the bytes, it holds each piece of them
   pub each_piece : place + length bytes ≤ length reads → done + count ≤ length bytes
       → slice_range reads place (place + length bytes) ≡ bytes
       → slice_range reads (place + done) (place + done + count) ≡ slice_range bytes done (done + count)

@@ -1,4 +1,4 @@
--- Noting the image that is to be started.
+-- Noting the image to be started.
 use Rattle.std.specs.Prelude.{◌≡◌, ◌≢◌, ◌⊎◌, ◌<◌, ◌+◌, ℕ, Bool, IsTrue, List, [], ◌∷◌, Option, Some, None, IsSome, length, slice_range}
 use Rattle.std.specs.Option.{option_copied}
 use Rattle.arrayvec.specs.ArrayVec.{ArrayVec}
@@ -12,23 +12,23 @@ use Rattle.suit_edge.specs.declared.launcher.Launched.TheVariants as launched
 use Rattle.flash_view.specs.declared.noted_image.NotedImage.{NotedImage}
 use Rattle.flash_view.specs.declared.noted_image.TheConstants.{LONGEST_ARGUMENTS, LONGEST_DIGEST}
 
--- the bytes of a copy that may be absent
+-- the bytes of a copy, if there is one
 abbrev pub items_in : Option (ArrayVec ℕ) → Option (List ℕ)
 items_in (Some copy) = Some copy.items
 items_in None = None
 
--- there are bytes, and more than so many
+-- there are bytes, and more than `most` of them
 abbrev pub IsLonger : ℕ → Option (List ℕ) → Type 0
 IsLonger most (Some bytes) = most < length bytes
 IsLonger most None = ⊥
 
--- a label names a longer digest, or longer arguments, than are noted
+-- the label names a digest or arguments that are too long for a note
 abbrev pub IsTooLong : Label → Type 0
 IsTooLong label =
     IsLonger LONGEST_DIGEST (option_copied label.digest)
     ⊎ IsLonger LONGEST_ARGUMENTS (option_copied label.args)
 
--- what is noted of so many bytes from a place on, under a label
+-- the note of `count` bytes from `from` on, under this label
 pub record IsNoteOf (label : Label) (from count : ℕ) (note : NotedImage) : Type 0 where
   pub component : note.component ≡ label.component
   pub place : note.place ≡ from
@@ -37,11 +37,11 @@ pub record IsNoteOf (label : Label) (from count : ℕ) (note : NotedImage) : Typ
   pub size : note.size ≡ label.size
   pub args : items_in note.args ≡ option_copied label.args
 
--- the bytes of a flash that a note is of
+-- the bytes of the flash that are noted
 abbrev pub noted_bytes : List ℕ → NotedImage → List ℕ
 noted_bytes flash note = slice_range flash note.place (note.place + note.length)
 
--- the launch of them
+-- the launch of the noted bytes
 abbrev pub noted_launch : List ℕ → NotedImage → Launch
 noted_launch flash note = record {
   component = note.component;
@@ -53,7 +53,7 @@ noted_launch flash note = record {
 
 -- ---- the launcher
 
--- the flash that it looks at, what it has noted, and how often a call has failed
+-- the flash, what is noted, and how often a call has failed
 pub record ViewLaunches : Type 0 where
   pub flash : List ℕ
   pub noted : Option NotedImage
@@ -63,7 +63,7 @@ abbrev pub launches_in : List ℕ → Option NotedImage → List Launch
 launches_in flash (Some note) = noted_launch flash note ∷ []
 launches_in flash None = []
 
--- at most one: the image that it has noted
+-- the launches so far: at most one, of the noted image
 abbrev pub launches_of : ViewLaunches → List Launch
 launches_of l = launches_in l.flash l.noted
 
@@ -72,35 +72,36 @@ abbrev pub LiesIn : List ℕ → Image → Type 0
 LiesIn flash (image.Flash place size) = place + size < length flash + 1
 LiesIn flash (image.Ram bytes) = ⊥
 
--- a disk reads other bytes there than the flash holds
+-- at the image's place, the disk reads other bytes than the flash holds
 abbrev pub ReadsOther : List ℕ → List ℕ → Image → Type 0
 ReadsOther flash reads (image.Flash place size) =
     slice_range reads place (place + size) ≢ slice_range flash place (place + size)
 ReadsOther flash reads (image.Ram bytes) = ⊥
 
--- an image that can't be noted: there is one already, it doesn't lie in the flash, there is no room for what its label
--- names, or the disk reads other bytes
+-- the image cannot be noted: there is a note already, it is not inside the flash, its label names too much,
+-- or the disk reads other bytes
 abbrev pub IsUnfit : Image → Label → ViewLaunches → List ℕ → Type 0
 IsUnfit what label before reads =
     IsSome before.noted ⊎ (LiesIn before.flash what → ⊥) ⊎ IsTooLong label
     ⊎ ReadsOther before.flash reads what
 
--- the same, as far as the disk is not looked at
+-- the same, without looking at the disk
 abbrev pub IsUnnoted : Image → Label → ViewLaunches → Type 0
 IsUnnoted (image.Flash place size) label before = IsSome before.noted ⊎ IsTooLong label
 IsUnnoted (image.Ram bytes) label before = Unit {0}
 
--- the note of an image in the flash, where none is noted before
+-- the first note, of an image in the flash
 abbrev pub IsFirstNote : Image → Label → ViewLaunches → NotedImage → Type 0
 IsFirstNote (image.Flash place size) label before note =
     (before.noted ≡ None) × IsNoteOf label place size note × (IsTooLong label → ⊥)
 IsFirstNote (image.Ram bytes) label before note = ⊥
 
--- a call that failed is counted
+-- one more failed call
 abbrev pub failed_once : ViewLaunches → ViewLaunches
 failed_once l = record { flash = l.flash; noted = l.noted; faults = counted l.faults }
 
--- An image that fits is noted. A launch that fails is counted, and one that the disk failed leaves all as it was.
+-- A launch that is done notes the image, one that fails is counted, and one in which the disk fails changes
+-- nothing.
 abbrev pub Notes : Launched → Image → Label → ViewLaunches → ViewLaunches → Type 0
 Notes launched.Done (image.Flash place size) label before now =
     (note : NotedImage) × IsNoteOf label place size note
@@ -110,7 +111,7 @@ Notes launched.DiskFailed what label before now = now ≡ before
 Notes launched.Failed what label before now =
     now ≡ failed_once before
 
--- it fails where the image is unfit, and is done where it is not
+-- the launch fails if P holds, and is done if it does not; nothing is said if the disk fails
 abbrev pub FailsWhere : Launched → Type 0 → Type 0
 FailsWhere launched.Done P = P → ⊥
 FailsWhere launched.DiskFailed P = Unit {0}

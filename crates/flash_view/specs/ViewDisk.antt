@@ -1,14 +1,14 @@
--- A disk that is read where it stands.
+-- A disk that is read in place.
 use Rattle.std.proofs.Common.{◌≡◌, ℕ, List, length, refl, ap, sym, subst}
 use Rattle.suit_edge.specs.Flash.{Flash, IsFlash}
 use Rattle.suit_edge.specs.Ranges.{AreBytes}
 
--- its bytes, and how often a call has failed
+-- the bytes, and how often a call has failed
 pub record ViewState : Type 0 where
   pub bytes : List ℕ
   pub faults : ℕ
 
--- it reads these bytes, and a power loss leaves them at any moment
+-- reads return these bytes, and a power loss at any moment leaves them
 abbrev pub view_flash : List ℕ → Flash
 view_flash bytes = record { reads = bytes; clock = 0; may = λ t image. image ≡ bytes }
 

@@ -1,5 +1,5 @@
-//! A flash that stands in memory and is read there: the disk, the host and the launcher of a boot that touches nothing
-//! else, and tells its caller which image to start.
+//! A flash in memory that is read in place: the disk, the host and the launcher of a boot that
+//! touches nothing else and tells its caller which image to start.
 #![tactic(auto)]
 
 mod no_files;

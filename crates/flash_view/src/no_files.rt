@@ -5,7 +5,7 @@ ghost use Rattle.std.specs.Prelude.{◌≡◌, ℕ, false};
 use std::marker::Model;
 use suit_edge::{Edge, Host, Pulled, Started};
 
-/// A host that has no file and keeps none: each file is absent, and a store fails.
+/// A host without files: every file is absent, and every store fails.
 #[derive(Drop)]
 pub struct NoFiles {
     faults: u64,
@@ -19,7 +19,7 @@ impl Model for NoFiles {
 }
 
 impl NoFiles {
-    /// The host. No call of it has failed.
+    /// A host of which no call has failed.
     pub fn new() -> NoFiles
         ensures { result ≡ 0 }
     {

@@ -1,4 +1,4 @@
-//! An image that is to be started.
+//! An image to be started.
 
 ghost use Rattle.flash_view.specs.Noting.{IsLonger, IsNoteOf, IsTooLong, items_in, noted_bytes};
 ghost use Rattle.std.specs.Option.{option_copied};
@@ -7,13 +7,14 @@ ghost use Rattle.std.specs.Prelude.{◌≡◌, ◌+◌, ◌<◌, ◌≤◌, IfOk
 use arrayvec::{ArrayVec, CapacityError};
 use suit_edge::Label;
 
-/// The most bytes of a digest that is noted.
+/// The longest digest that a note holds, in bytes.
 pub const LONGEST_DIGEST: usize = 64;
 
-/// The most bytes of arguments that are noted.
+/// The longest arguments that a note holds, in bytes.
 pub const LONGEST_ARGUMENTS: usize = 256;
 
-/// An image that is to be started: so many bytes of the flash from a place on, and what its parameters name.
+/// An image to be started: `length` bytes of the flash from `place` on, and what its parameters
+/// name.
 #[derive(Debug, Drop)]
 pub struct NotedImage {
     /// The index of the component in the manifest.
@@ -24,13 +25,13 @@ pub struct NotedImage {
     pub length: u64,
     /// The digest that the parameters name, if any.
     pub digest: Option<ArrayVec<u8, LONGEST_DIGEST>>,
-    /// The size that they name, if any.
+    /// The size in bytes that they name, if any.
     pub size: Option<u64>,
     /// The arguments that they name, if any.
     pub args: Option<ArrayVec<u8, LONGEST_ARGUMENTS>>,
 }
 
-// A copy of bytes that may be absent, where there is room.
+// Copies bytes that may be absent, if they fit.
 fn copied<const N: usize>(bytes: Option<&[u8]>) -> Result<Option<ArrayVec<u8, N>>, CapacityError>
     ensures ok { IfOk result (λ copy. items_in copy ≡ option_copied bytes.entry) }
     ensures err { OnErr result (IsLonger N (option_copied bytes.entry)) }
@@ -46,7 +47,7 @@ fn copied<const N: usize>(bytes: Option<&[u8]>) -> Result<Option<ArrayVec<u8, N>
     }
 }
 
-// The note of an image in the flash, where there is room for what its label names.
+// Notes an image in the flash, if what its label names fits.
 pub(crate) fn note_of(
     label: Label<'_>,
     place: u64,
@@ -67,7 +68,7 @@ pub(crate) fn note_of(
 }
 
 impl NotedImage {
-    /// Its bytes in a flash; None where they do not lie in it.
+    /// The bytes of the image in a flash, or `None` if they are not inside it.
     pub fn bytes_in<'a>(&self, flash: &'a [u8]) -> Option<&'a [u8]>
         ensures { MatchOption result
             (length flash.now < self.now.place + self.now.length)

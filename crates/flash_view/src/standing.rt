@@ -1,4 +1,4 @@
-//! Whether a disk reads bytes.
+//! Whether a disk holds given bytes.
 
 ghost use Rattle.flash_view.specs.Standing.{IsStood, StoodCounts};
 ghost use Rattle.std.specs.Prelude.{◌≡◌, ◌+◌, ◌≤◌, IsTrue, length, slice_range};
@@ -10,7 +10,7 @@ use suit_edge::{Disk, Edge};
 /// How many bytes are compared at once.
 const PIECE: usize = 64;
 
-/// Whether a range of a disk holds bytes.
+/// Whether a range of a disk holds given bytes.
 #[derive(Clone, Copy, Debug, PartialEq, Eq)]
 pub(crate) enum Stood {
     /// It does.
@@ -21,7 +21,7 @@ pub(crate) enum Stood {
     DiskFailed,
 }
 
-/// Whether the disk reads these bytes from the place on.
+/// Whether the disk holds these bytes from `place` on.
 pub(crate) fn stands<D: Disk>(disk: &mut D, place: u64, bytes: &[u8]) -> Stood
     requires { place + length bytes.now ≤ D.extent disk.old }
     ensures size { D.extent disk.new ≡ D.extent disk.old }
@@ -32,7 +32,7 @@ pub(crate) fn stands<D: Disk>(disk: &mut D, place: u64, bytes: &[u8]) -> Stood
     ensures same { IsTrue D.told → IsSame (D.flash disk.old) (D.flash disk.new) }
     ensures grows { IsTrue D.told → Grows (D.flash disk.old) (D.flash disk.new) }
 {
-    // Each place fits a u64, since the size does.
+    // The size fits a `u64`, and so does each place. The proof learns it here.
     let _size = disk.size();
     let mut room = [0u8; PIECE];
     let mut done: usize = 0;

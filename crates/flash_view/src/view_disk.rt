@@ -1,4 +1,4 @@
-//! A disk that is read where it stands.
+//! A disk that is read in place.
 
 ghost use Rattle.flash_view.specs.ViewDisk.{ViewState, view_flash, view_obeys};
 ghost use Rattle.std.specs.Prelude.{◌≡◌, ◌+◌, ◌≤◌, true, IsTrue, length, slice_range};
@@ -11,7 +11,8 @@ ghost use Rattle.suit_edge.specs.declared.edge.Edge.TheVariants as edge;
 use std::marker::Model;
 use suit_edge::{Disk, Edge};
 
-/// The bytes of a flash where they stand in memory. A read and a sync never fail; a write fails and changes nothing.
+/// A disk over the bytes of a flash in memory, which are read in place. Reads and syncs never fail;
+/// a write fails and changes nothing.
 #[derive(Drop)]
 pub struct ViewDisk<'a> {
     bytes: &'a [u8],
@@ -25,7 +26,7 @@ impl<'a> Model for ViewDisk<'a> {
 }
 
 impl<'a> ViewDisk<'a> {
-    /// The disk over these bytes. No call of it has failed.
+    /// A disk over these bytes, of which no call has failed.
     pub fn new(bytes: &'a [u8]) -> ViewDisk<'a>
         ensures { result ≡ record { bytes = bytes.now; faults = 0 } }
     {

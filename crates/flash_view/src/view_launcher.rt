@@ -1,4 +1,4 @@
-//! A launcher that starts nothing, and notes the image that is to be started.
+//! A launcher that notes the image to be started, and starts nothing.
 
 ghost use Rattle.flash_view.specs.Noting.{FailsWhere, IsFirstNote, IsUnfit, IsUnnoted, Notes, ViewLaunches, failed_once, launches_of};
 ghost use Rattle.std.specs.Option.{option_copied};
@@ -13,9 +13,10 @@ use crate::standing::{Stood, stands};
 use std::marker::Model;
 use suit_edge::{Disk, Image, Label, Launched, Launcher};
 
-/// A launcher over a flash that stands in memory. It notes the first image, once it has seen that the disk reads what
-/// stands there, and starts nothing: its caller does. A second image, one in working memory, and one whose digest or
-/// arguments have no room in a note fail.
+/// A launcher over a flash in memory. It notes the first image, after checking that the disk reads
+/// what the flash holds there, and leaves it to the caller to start it. A launch fails if there is
+/// a note already, if the image is in working memory or not inside the flash, if the disk reads
+/// other bytes, or if the digest or the arguments are too long for a note.
 #[derive(Drop)]
 pub struct ViewLauncher<'a> {
     flash: &'a [u8],
@@ -30,7 +31,7 @@ impl<'a> Model for ViewLauncher<'a> {
 }
 
 impl<'a> ViewLauncher<'a> {
-    /// The launcher over this flash. It has noted nothing.
+    /// A launcher over this flash, which has noted nothing.
     pub fn new(flash: &'a [u8]) -> ViewLauncher<'a>
         ensures { result ≡ record { flash = flash.now; noted = None; faults = 0 } }
     {
@@ -41,14 +42,14 @@ impl<'a> ViewLauncher<'a> {
         }
     }
 
-    /// The flash that it looks at.
+    /// The flash that images are noted in.
     pub fn flash(&self) -> &[u8]
         ensures { result.now ≡ self.now.flash }
     {
         self.flash
     }
 
-    /// The image that is to be started, if one was noted.
+    /// The image to be started, if one was noted.
     pub fn noted(&self) -> Option<&NotedImage>
         ensures { option_copied result ≡ self.now.noted }
     {
@@ -57,7 +58,7 @@ impl<'a> ViewLauncher<'a> {
 }
 
 impl<'a> ViewLauncher<'a> {
-    // The note of an image in the flash, where none is noted yet.
+    // Notes an image in the flash, if it fits and there is no note yet.
     fn note_for(&self, image: Image<'_>, label: Label<'_>) -> Option<NotedImage>
         ensures { MatchOption result
             (IsUnnoted image.entry label.entry self.now)

@@ -1,4 +1,4 @@
--- Masks of lanes that differ, and what is known of chunks brought to whole lists.
+-- The mask of lanes that differ, and facts about chunks carried over to whole lists.
 use Rattle.std.proofs.Common.{◌≡◌, ◌+◌, ◌-◌, ◌<◌, ◌≤◌, ℕ, zero, suc, List, [], ◌∷◌, ◌++◌, length, take, drop, Bool, true, false, not, eqb, slice_index, inl, inr, min, refl, ap, sym, ◌∙◌, subst, arith}
 use Rattle.std.specs.Int.{bit_at}
 use Rattle.std.specs.Int.Bits.{bit_and}
@@ -14,7 +14,7 @@ use Rattle.lane_bytes.specs.Bytes.{SetsNoBit, ClearsBelow}
 abbrev pub neb : ℕ → ℕ → Bool
 neb a b = not (eqb a b)
 
--- ---- the mask of the lanes that differ is 0 exactly where the lists are equal
+-- ---- the mask of lanes that differ is 0 if and only if the lists are equal
 
 pub same_if_zero : (xs ys : List ℕ) → length xs ≡ length ys → mask_l (zip2 neb xs ys) ≡ 0 → xs ≡ ys
 same_if_zero [] [] l z = refl
@@ -26,13 +26,13 @@ pub zero_if_same : (xs : List ℕ) → mask_l (zip2 neb xs xs) ≡ 0
 zero_if_same [] = refl
 zero_if_same (x ∷ xs) = grind (arith, zero_if_same xs)
 
--- the fronts agree, and so does what is behind them, as a test of slices reads it
+-- lists with the same front are equal if the rests are, as a test of slices compares them
 pub joined : (i n m : ℕ) (xs ys : List ℕ) → take i xs ≡ take i ys → take n (drop i xs) ≡ take m (drop i ys) → length (drop i xs) ≤ n → length (drop i ys) ≤ m → xs ≡ ys
 joined i n m xs ys front back a b =
     let behind : drop i xs ≡ drop i ys = sym (take_all n (drop i xs) a) ∙ back ∙ take_all m (drop i ys) b in
     sym (take-append-drop i xs) ∙ ap (λ t. t ++ drop i xs) front ∙ ap (λ t. take i ys ++ t) behind ∙ take-append-drop i ys
 
--- what decides whether lists are equal is the test of it
+-- a test that is true of just the equal lists is the test for equality
 pub decided : (answer : Bool) (xs ys : List ℕ) → (answer ≡ true → xs ≡ ys) → (xs ≡ ys → answer ≡ true) → answer ≡ bytes_eq xs ys
 decided answer xs ys forward back = by_test answer (bytes_eq xs ys) refl refl
   where
@@ -41,7 +41,7 @@ decided answer xs ys forward back = by_test answer (bytes_eq xs ys) refl refl
     by_test false true is test = back ((bytes_decides xs ys).0 test) ∙ sym test
     by_test false false is test = is ∙ sym test
 
--- ---- one byte: no bit is set anew exactly where the old byte has all bits of the new one
+-- ---- one byte: it sets no new bit if and only if the old byte has all of its bits
 
 pub sets_no_bit : (x y : ℕ) → bit_and x y ≡ y → SetsNoBit x y
 sets_no_bit x y kept bit set = omega (arith, bit_at_and x y bit, ap (λ z. bit_at z bit) kept, set)
@@ -74,7 +74,7 @@ zero_if_clears [] (y ∷ ys) l h = grind arith
 zero_if_clears (x ∷ xs) [] l h = grind arith
 zero_if_clears (x ∷ xs) (y ∷ ys) l h = grind (arith, zero_if_clears xs ys (omega arith) (λ i lt. h (suc i) (omega arith)), h 0 (omega arith))
 
--- bits that are only cleared up to a place, and in the next bytes
+-- bits that are only cleared up to a place, and in the bytes that follow
 pub clears_more : (old new : List ℕ) (at count : ℕ) → ClearsBelow at old new
     → ((k : ℕ) → k < count → SetsNoBit (slice_index old (at + k)) (slice_index new (at + k))) → ClearsBelow (at + count) old new
 clears_more old new at count below next i lt = elim (cases_lt i at) [
@@ -82,7 +82,7 @@ clears_more old new at count below next i lt = elim (cases_lt i at) [
   | inr from ↦ let is : at + (i - at) ≡ i = omega arith in subst (λ j. SetsNoBit (slice_index old j) (slice_index new j)) is (next (i - at) (omega arith))
 ]
 
--- a chunk, and the list that it is of
+-- a byte of a chunk, as a byte of the list
 pub chunk_of_list : (old new : List ℕ) (from k : ℕ) → k < 32 → SetsNoBit (slice_index old (from + k)) (slice_index new (from + k)) → SetsNoBit (slice_index (chunk from 32 old) k) (slice_index (chunk from 32 new) k)
 chunk_of_list old new from k lt h bit set =
     ap (λ x. bit_at x bit) (get_or-chunk from 32 old k 0 lt) ∙ h bit (ap (λ x. bit_at x bit) (sym (get_or-chunk from 32 new k 0 lt)) ∙ set)

@@ -1,4 +1,4 @@
--- Bytes that are all one, the first that is not, and bits that are only cleared.
+-- Bytes that are all the same, the first that is not, and bits that are only cleared.
 use Rattle.std.specs.Prelude.{◌≡◌, ◌≢◌, ◌<◌, ℕ, List, length, slice_index}
 use Rattle.std.specs.Int.{bit_at}
 
@@ -6,7 +6,7 @@ use Rattle.std.specs.Int.{bit_at}
 abbrev pub AreAll : ℕ → ℕ → List ℕ → Type 0
 AreAll byte n bytes = (i : ℕ) → i < n → slice_index bytes i ≡ byte
 
--- the index of the first byte that differs from this one
+-- i is the index of the first byte that is not this one
 pub record IsFirstOther (bytes : List ℕ) (byte i : ℕ) : Type 0 where
   pub inside : i < length bytes
   pub other : slice_index bytes i ≢ byte
@@ -16,10 +16,10 @@ pub record IsFirstOther (bytes : List ℕ) (byte i : ℕ) : Type 0 where
 abbrev pub SetsNoBit : ℕ → ℕ → Type 0
 SetsNoBit old new = (bit : ℕ) → bit_at new bit ≡ 1 → bit_at old bit ≡ 1
 
--- so it is with each of the first n bytes
+-- each of the first n new bytes sets no bit that is clear in the old one
 abbrev pub ClearsBelow : ℕ → List ℕ → List ℕ → Type 0
 ClearsBelow n old new = (i : ℕ) → i < n → SetsNoBit (slice_index old i) (slice_index new i)
 
--- and with each byte of the new list
+-- each new byte sets no bit that is clear in the old one
 abbrev pub OnlyClears : List ℕ → List ℕ → Type 0
 OnlyClears old new = ClearsBelow (length new) old new

@@ -7,7 +7,7 @@ ghost use Rattle.lane_bytes.specs.Bytes.{OnlyClears};
 use crate::LANES;
 use std::simd::prelude::*;
 
-/// Whether the 32 new bytes from a place on only clear bits of the old ones.
+/// Whether the 32 new bytes from `from` on only clear bits of the old ones.
 fn chunk_clears(old: &[u8], new: &[u8], from: usize) -> bool
     requires old_room { from + 32 ≤ length old.now }
     requires new_room { from + 32 ≤ length new.now }
@@ -17,8 +17,8 @@ fn chunk_clears(old: &[u8], new: &[u8], from: usize) -> bool
     (u8x32::from_slice(&old[from..]) & wanted) == wanted
 }
 
-/// Whether each bit that is set in the new bytes is set in the old ones. Flash can then take
-/// the new bytes without being erased.
+/// Whether each bit that is set in the new bytes is set in the old ones. If so, flash can take the
+/// new bytes without being erased.
 pub fn only_clears(old: &[u8], new: &[u8]) -> bool
     requires { length old.now ≡ length new.now }
     ensures { IsTrue result ↔ OnlyClears old.now new.now }

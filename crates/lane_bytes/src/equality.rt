@@ -7,7 +7,7 @@ ghost use Rattle.std.specs.Str.{bytes_eq};
 use crate::LANES;
 use std::simd::prelude::*;
 
-/// Whether the slices have the same 32 bytes from a place on.
+/// Whether the slices hold the same 32 bytes from `from` on.
 fn chunk_same(a: &[u8], b: &[u8], from: usize) -> bool
     requires a_room { from + 32 ≤ length a.now }
     requires b_room { from + 32 ≤ length b.now }
@@ -16,7 +16,7 @@ fn chunk_same(a: &[u8], b: &[u8], from: usize) -> bool
     u8x32::from_slice(&a[from..]) == u8x32::from_slice(&b[from..])
 }
 
-/// Whether the slices are equal, of any two lengths.
+/// Whether the slices are equal. Their lengths may differ.
 pub fn same(a: &[u8], b: &[u8]) -> bool
     ensures value { result ≡ bytes_eq a.now b.now }
     ensures same { IsTrue result ↔ (a.now ≡ b.now) }

@@ -1,4 +1,4 @@
-//! The first byte that is another one.
+//! The first byte that is not a given one.
 
 ghost use Rattle.std.specs.Prelude.{◌≡◌, ◌+◌, ◌≤◌, ◌==◌, not, MatchOption, length};
 ghost use Rattle.std.specs.List.{prefix_len};
@@ -8,7 +8,7 @@ ghost use Rattle.lane_bytes.specs.Bytes.{AreAll, IsFirstOther};
 use crate::LANES;
 use std::simd::prelude::*;
 
-/// How many of the 32 bytes from a place on come before the first other one.
+/// How many of the 32 bytes from `from` on come before the first that is not `byte`.
 fn run_in_chunk(a: &[u8], byte: u8, from: usize) -> usize
     requires { from + 32 ≤ length a.now }
     ensures { result ≡ prefix_len (λ x. not (not (x == byte))) (chunk from 32 a.now) }
@@ -23,7 +23,7 @@ fn run_in_chunk(a: &[u8], byte: u8, from: usize) -> usize
     }
 }
 
-/// The index of the first byte that differs from this one.
+/// The index of the first byte that is not `byte`, or `None` if all are.
 pub fn first_other(a: &[u8], byte: u8) -> Option<usize>
     ensures { MatchOption result (AreAll byte (length a.now) a.now) (IsFirstOther a.now byte) }
 {

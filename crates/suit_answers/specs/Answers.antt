@@ -1,4 +1,4 @@
--- The numbers of answers: the exit statuses of the program.
+-- The number of each answer: the exit status of the program for the same outcome.
 use Rattle.std.specs.Prelude.{ℤ, pos}
 use Rattle.suit_answers.specs.declared.answer.Answer.{Answer}
 use Rattle.suit_answers.specs.declared.answer.Answer.TheVariants as answers

@@ -1,13 +1,13 @@
-//! What a call answers.
+//! The answers of calls from C.
 
 ghost use Rattle.std.specs.Prelude.{◌≡◌};
 ghost use Rattle.suit_answers.specs.Answers.{code_of};
 ghost use Rattle.suit_answers.specs.declared.answer.Answer.{Answer};
 
-/// What a call answers. Its number is the program's exit status for the same.
+/// The answer of a call from C. Its number is the exit status of the program for the same outcome.
 #[derive(Clone, Copy, Debug, PartialEq, Eq)]
 pub enum Answer {
-    /// It was done, or it is so.
+    /// The call was done, or what it asks is so.
     Done,
     /// On some path an invoke is not covered.
     Unsafe,
@@ -31,18 +31,18 @@ pub enum Answer {
     Unconfigured,
     /// Nothing is installed.
     NothingInstalled,
-    /// A member stands apart, and the envelope does not hold it.
+    /// A severed member is not in the envelope.
     Severed,
     /// A member does not have the digest that the manifest states.
     Differs,
     /// The layout lacks a component.
     UnknownComponent,
-    /// The envelope is too long, though it is trimmed.
+    /// The envelope is too long, even when it is trimmed.
     TooLong,
 }
 
 impl Answer {
-    /// The number that is returned.
+    /// The number that C sees.
     pub fn code(self) -> i32
         ensures code { result ≡ code_of self }
         ensures once { (other : Answer) → result ≡ code_of other → self ≡ other }

@@ -1,4 +1,4 @@
-//! What calls for programs in C answer, by number.
+//! The answers of calls from C, as numbers.
 #![tactic(auto)]
 
 mod answer;

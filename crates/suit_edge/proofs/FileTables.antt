@@ -1,4 +1,4 @@
--- A table of files after a name got its bytes.
+-- A table of files once a name was given bytes.
 use Rattle.std.proofs.Common.{suc, zero, not, ◌≡◌, ◌≢◌, ◌<◌, ◌≤◌, ◌+◌, ℕ, List, [], ◌∷◌, ◌++◌, length, Some, None, Bool, true, false, cond, refl, arith, ap, sym, ◌∙◌, if◌then◌else◌, get_or, set}
 use Rattle.std.specs.List.{position, position_or_len}
 use Rattle.std.specs.Prelude.{nat_lt}
@@ -8,7 +8,7 @@ use Rattle.std.proofs.lemmas.Slice.Eq.{bytes_eq-Decides}
 use Rattle.std.proofs.lemmas.Bool.{false_from_ne_true, ltb-false}
 use Rattle.suit_edge.specs.MemoryHost.{file_in, with_file}
 
--- the name has them
+-- the name has these bytes
 pub has_new_bytes : (files : List (List ℕ × List ℕ)) (name bytes : List ℕ) → file_in (with_file files name bytes) name ≡ Some bytes
 has_new_bytes [] name bytes = rw ((bytes_eq-Decides name name).1 refl) refl
 has_new_bytes (file ∷ files) name bytes = here (bytes_eq file.0 name) refl (has_new_bytes files name bytes)
@@ -31,11 +31,11 @@ keeps_other_files (file ∷ files) name bytes other apart =
         rw (false_from_ne_true (bytes_eq file.0 other) (λ f. apart (sym ((bytes_eq-Decides file.0 other).0 f) ∙ (bytes_eq-Decides file.0 name).0 e))) refl
     here false e later = ap (λ found. if bytes_eq file.0 other then Some file.1 else found) later
 
--- whether a file has a name
+-- whether a file has this name
 abbrev pub has_name : List ℕ → List ℕ × List ℕ → Bool
 has_name name file = bytes_eq file.0 name
 
--- the bytes of a name are set where its first file stands
+-- the bytes are set in the first file with this name
 pub set-with_file : (files : List (List ℕ × List ℕ)) (name bytes : List ℕ) (at : ℕ) (file : List ℕ × List ℕ) → at < length files →
     file ≡ get_or files at file → bytes_eq file.0 name ≡ true → ((k : ℕ) → k < at → has_name name (get_or files k file) ≡ false) →
     set files at (file.0, bytes) ≡ with_file files name bytes
@@ -48,7 +48,7 @@ set-with_file (x ∷ files) name bytes (suc at) file within is same before =
     set-with_file files name bytes at file (omega arith) is same (λ k h. before (suc k) (omega arith)) in
     rw first (ap (λ xs. x ∷ xs) later)
 
--- a name that no file has gets its bytes at the end
+-- if no file has the name, a new one is added at the end
 pub push-with_file : (files : List (List ℕ × List ℕ)) (name bytes : List ℕ) → length files ≤ position_or_len (has_name name) files →
     files ++ (name, bytes) ∷ [] ≡ with_file files name bytes
 push-with_file [] name bytes none = refl
@@ -60,7 +60,7 @@ push-with_file (x ∷ files) name bytes none = here (bytes_eq x.0 name) none (pu
     here true none later = absurd (omega (arith, none))
     here false none later = ap (λ xs. x ∷ xs) (later (omega arith))
 
--- where a position was found the bytes are set there
+-- if a position was found, the bytes are set there
 pub set_where_found : (files : List (List ℕ × List ℕ)) (name bytes : List ℕ) (at : ℕ) (file : List ℕ × List ℕ) →
     Some at ≡ position (has_name name) files → file ≡ get_or files at file → set files at (file.0, bytes) ≡ with_file files name bytes
 set_where_found files name bytes at file found is =
@@ -71,7 +71,7 @@ none_from_cond : (b : Bool) (n : ℕ) → None ≡ cond b (Some n) None → b �
 none_from_cond true n e = cc
 none_from_cond false n e = refl
 
--- where none was found they come at the end
+-- if none was found, the file is added at the end
 pub pushed_where_missing : (files : List (List ℕ × List ℕ)) (name bytes : List ℕ) → None ≡ position (has_name name) files →
     files ++ (name, bytes) ∷ [] ≡ with_file files name bytes
 pushed_where_missing files name bytes missing =

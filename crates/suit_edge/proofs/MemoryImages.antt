@@ -1,4 +1,4 @@
--- The images that a power loss may leave of a disk in memory, after one step more.
+-- The images that a power loss may leave of a disk in memory, after one more step.
 use Rattle.std.proofs.Common.{◌≡◌, ◌⊎◌, inl, inr, ⊎_elim, ◌<◌, ◌≤◌, ℕ, ◌+◌, ◌-◌, List, [], ◌∷◌, ◌++◌, length, take, drop, get_or, refl, sym, ◌∙◌, ap, subst, arith, length-append, length-drop, get_or-take}
 use Rattle.std.proofs.lemmas.Bool.{cases_lt}
 use Rattle.std.proofs.lemmas.List.{take-append-le, take_all, length-take-le, get_or-drop, ext_get_or}
@@ -13,7 +13,7 @@ use Rattle.suit_edge.specs.MemoryLaws.{length-moment_of, length-written}
 use Rattle.suit_edge.specs.RangeLaws.{written_outside, written_within, same_back}
 use Rattle.suit_edge.proofs.Moments.{moment_of-write, moment_of-sync}
 
--- an image of the moment now, and back
+-- an image of the present moment, in both directions
 pub now_from : (first : List ℕ) (steps : List Step) (image : List ℕ) → Now (flash_of first steps) image → IsImage (moment_of first steps) image
 now_from first steps image now = subst (λ (l : List Step). IsImage (moment_of first l) image) (take_all now.moment steps now.since) now.left
 
@@ -34,7 +34,7 @@ module _ (first : List ℕ) (steps new_steps : List Step) (s : Step) (more : new
   front : (n : ℕ) → n ≤ length steps → take n new_steps ≡ take n steps
   front n le = ap (take n) more ∙ take-append-le n steps (s ∷ []) le
 
-  -- the images of a moment stay
+  -- the images of a moment remain possible
   pub grows_step : Grows (flash_of first steps) (flash_of first new_steps)
   grows_step t image le may = record {
     moment = may.moment;
@@ -43,7 +43,7 @@ module _ (first : List ℕ) (steps new_steps : List Step) (s : Step) (more : new
     left = subst (λ (l : List Step). IsImage (moment_of first l) image) (sym (front may.moment may.past)) may.left;
   }
 
-  -- an image since the step is one of the moment after it, or was one before
+  -- an image since the step is one of the moment after it, or was possible before
   step_or_before : (t : ℕ) (image : List ℕ) → MayLeave first new_steps t image → MayLeave first steps t image ⊎ IsImage (moment_of first new_steps) image
   step_or_before t image may = ⊎_elim
       (λ earlier. inl (record {
@@ -76,7 +76,7 @@ inside place n i = ⊎_elim (λ h. inl (inl h)) (λ h. ⊎_elim (λ k. inr (h, k
 wrote : Moment → Write → Moment
 wrote m w = record { settled = m.settled; reads = written m.reads w.place w.bytes; pending = m.pending ++ w ∷ [] }
 
--- each of its images is one of the moment before, with other bytes in the range
+-- each image of the moment after is one of the moment before, with other bytes in the range
 before_write : (m : Moment) (w : Write) (image : List ℕ) → w.place + length w.bytes ≤ length m.reads → IsImage (wrote m w) image
     → (from : List ℕ) × IsImage m from × SameOn (Outside w.place (length w.bytes)) from image
 unfolding wrote
@@ -117,7 +117,7 @@ module _ (first : List ℕ) (steps new_steps : List Step) (place : ℕ) (bytes :
   unfolding wrote
   after = ap (moment_of first) more ∙ moment_of-write first steps place bytes fits
 
-  -- reads give the bytes in their range
+  -- reads return the new bytes in their range
   pub reads_write : (moment_of first new_steps).reads ≡ written (moment_of first steps).reads place bytes
   unfolding wrote
   reads_write = ap (λ (m : Moment). m.reads) after
@@ -125,7 +125,7 @@ module _ (first : List ℕ) (steps new_steps : List Step) (place : ℕ) (bytes :
   fits_reads : place + length bytes ≤ length (moment_of first steps).reads
   fits_reads = omega (arith, fits, length-moment_of first steps)
 
-  -- and all else is left alone
+  -- everything else is left alone
   pub keeps_write : Keeps (Outside place (length bytes)) (flash_of first steps) (flash_of first new_steps)
   keeps_write = record {
     reads = subst (λ (l : List ℕ). SameOn (Outside place (length bytes)) (moment_of first steps).reads l) (sym reads_write) (written_outside (moment_of first steps).reads place bytes fits_reads);

@@ -101,7 +101,7 @@ module _ (first : List ℕ) (steps new_steps : List Step) (sure bytes : List ℕ
 
 -- ---- a power loss
 
--- the next step of those that may be kept
+-- the next of the steps that may be kept
 module _ (choice n : ℕ) (bytes : List ℕ) (steps : List Step) (i : ℕ) (within : i < length steps) where
   pub kept-wrote : (w : Write) → Wrote w ≡ get_or steps i (Wrote w)
       → kept choice n bytes (writes_of (drop i steps)) ≡ kept choice (n + 1) (cond (has_bit choice n) (after_write bytes w) bytes) (writes_of (drop (i + 1) steps))
@@ -130,7 +130,7 @@ after_write_outside bytes w = ⊎_elim
     (λ fits. subst (λ (l : List ℕ). SameOn (Outside w.place (length w.bytes)) bytes l) (sym (after_write-fits bytes w fits)) (written_outside bytes w.place w.bytes fits))
     (cases_lt (length bytes) (w.place + length w.bytes))
 
--- writes that are kept change their ranges alone
+-- writes that are kept change only their ranges
 kept_outside : (K : ℕ → Type 0) (choice n : ℕ) (bytes : List ℕ) (writes : List Write) → ((i : ℕ) → K i → OutsideAll writes i) → SameOn K bytes (kept choice n bytes writes)
 unfolding kept
 kept_outside K choice n bytes [] out = same_start K bytes
@@ -146,7 +146,7 @@ outside_front : (writes : List Write) (w : Write) (i : ℕ) → OutsideAll (writ
 outside_front [] w i all = (tt, all.0)
 outside_front (v ∷ writes) w i all = let rest = outside_front writes w i all.1 in ((all.0, rest.0), rest.1)
 
--- the bytes at the last sync, where no write is pending
+-- outside the pending writes, the bytes are those of the last sync
 step_settled : (m : Moment) (s : Step) → SameOn (OutsideAll m.pending) m.reads m.settled → SameOn (OutsideAll (after_step m s).pending) (after_step m s).reads (after_step m s).settled
 unfolding after_step
 step_settled m (Wrote w) is =
@@ -160,7 +160,7 @@ unfolding after_steps
 steps_settled m [] is = is
 steps_settled m (s ∷ steps) is = steps_settled (after_step m s) steps (step_settled m s is)
 
--- the choice leaves an image of the moment, where it is bytes
+-- what the choice leaves is an image of the moment, provided that it is made of bytes
 pub lost_image : (choice : ℕ) (first : List ℕ) (steps : List Step) → AreBytes (lost choice (moment_of first steps)) → IsImage (moment_of first steps) (lost choice (moment_of first steps))
 unfolding moment_of lost
 lost_image choice first steps bytes =

@@ -2,15 +2,15 @@
 use Rattle.std.specs.Prelude.{◌≡◌, ◌⊎◌, ℕ, List, Contains}
 use Rattle.suit_edge.specs.Faults.{Faulted, counted}
 
--- the numbers of the calls that fail, the number of the next call, and the counts of faults and of
--- memory running out
+-- the numbers of the calls that fail, the number of the next call, and how often calls failed and memory ran
+-- out
 pub record CallCounts : Type 0 where
   pub fails : List ℕ
   pub number : ℕ
   pub faults : ℕ
   pub starved : ℕ
 
--- no call was made
+-- no calls so far
 abbrev pub uncalled : List ℕ → CallCounts
 uncalled fails = record { fails = fails; number = 0; faults = 0; starved = 0 }
 
@@ -18,19 +18,19 @@ uncalled fails = record { fails = fails; number = 0; faults = 0; starved = 0 }
 abbrev pub IsListed : CallCounts → Type 0
 IsListed calls = Contains calls.fails calls.number
 
--- a call that does not fail is not in the list, and counts itself alone
+-- a call succeeds: it is not in the list, and only the number of the next call changes
 pub record Succeeds (before now : CallCounts) : Type 0 where
   pub unlisted : ¬ IsListed before
   pub counts : now ≡ record before { number = counted before.number }
 
--- a call of the list counts a fault
+-- a call fails because it is in the list, and counts a fault
 pub record FailsByList (before now : CallCounts) : Type 0 where
   pub listed : IsListed before
   pub counts :
       now ≡ record before { number = counted before.number; faults = counted before.faults }
   pub faulted : Faulted before.faults now.faults
 
--- a call whose memory ran out counts a fault, and counts that too
+-- a call fails because memory runs out, and counts both a fault and that
 pub record Starves (before now : CallCounts) : Type 0 where
   pub unlisted : ¬ IsListed before
   pub counts :
@@ -44,6 +44,6 @@ pub record Starves (before now : CallCounts) : Type 0 where
   pub faulted : Faulted before.faults now.faults
   pub rose : Faulted before.starved now.starved
 
--- a call fails by its number or because memory ran out, and for nothing else
+-- a call fails because it is in the list or because memory runs out
 abbrev pub CallFails : CallCounts → CallCounts → Type 0
 CallFails before now = FailsByList before now ⊎ Starves before now

@@ -1,18 +1,18 @@
--- Bounds that the clauses on disks set every disk.
+-- Bounds on every disk.
 use Rattle.std.specs.Prelude.{◌≡◌, ◌≤◌, ℕ, List, length}
 use Rattle.suit_edge.specs.Flash.{Flash, Now, Grows, IsSame, IsSettled}
 
--- Of a disk of that size before a call and after it.
+-- A disk of this size, before and after a call.
 pub record DiskLaw (size : ℕ) (before after : Flash) : Type 0 where
-  -- a loss since the call began may leave what reads gave then
+  -- what reads returned when the call began, a power loss since then may leave
   pub stays : Grows before after → after.may before.clock before.reads
-  -- so where its clock has stood still, and what reads give is sure, they give what they gave
+  -- if the clock stood still and nothing is pending, reads return what they returned before
   pub still : after.clock ≡ before.clock → Grows before after → IsSettled after
       → after.reads ≡ before.reads
-  -- a sync that leaves a write pending is not done
+  -- a completed sync leaves no write pending
   pub pending : (image : List ℕ) → Now after image → (image ≡ after.reads → ⊥) → IsSettled after → ⊥
-  -- a clock does not go back
+  -- the clock does not go back
   pub forward : IsSame before after → before.clock ≤ after.clock
-  -- no image has another length, and what reads give is an image
+  -- each image has the disk's size, and what reads return is an image
   pub sized : (image : List ℕ) → Now before image → length image ≡ size
   pub reads : Now before before.reads

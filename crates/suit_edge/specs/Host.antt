@@ -1,4 +1,4 @@
--- The effect of a host's calls on its files.
+-- What the calls of a host do.
 use Rattle.std.specs.Prelude.{◌≡◌, ◌⊎◌, ◌<◌, ◌≤◌, ℕ, List, [], ◌∷◌, ◌++◌, length, take, drop, Option, Some, None}
 use Rattle.suit_edge.specs.declared.edge.Edge.{Edge}
 use Rattle.suit_edge.specs.declared.edge.Edge.TheVariants as edge
@@ -10,22 +10,23 @@ use Rattle.suit_edge.specs.Faults.{Faulted}
 
 -- ---- start
 
--- the file of the name, and what is left of it then
+-- the file with this name, and what is left of it after this answer
 abbrev pub Starts : Started → Option (List ℕ) → List ℕ → Type 0
 Starts started.Done file rest = file ≡ Some rest
 Starts started.Absent file rest = (file ≡ None) × (rest ≡ [])
 Starts started.Failed file rest = Unit {0}
 
+-- the count of faults rises if the call failed, and stays otherwise
 abbrev pub StartCounts : Started → ℕ → ℕ → Type 0
 StartCounts started.Done before now = now ≡ before
 StartCounts started.Absent before now = now ≡ before
 StartCounts started.Failed before now = Faulted before now
 
--- one more name was asked for, the last one
+-- this name was asked for, after those before
 abbrev pub AsksFor : List ℕ → List (List ℕ) → List (List ℕ) → Type 0
 AsksFor name before now = now ≡ before ++ name ∷ []
 
--- a call that failed may have asked for its name, and for no other
+-- a failed call may or may not have recorded the name that it asked for
 abbrev pub StartAsks : Started → List ℕ → List (List ℕ) → List (List ℕ) → Type 0
 StartAsks started.Done name before now = AsksFor name before now
 StartAsks started.Absent name before now = AsksFor name before now
@@ -33,13 +34,13 @@ StartAsks started.Failed name before now = (now ≡ before) ⊎ AsksFor name bef
 
 -- ---- pull
 
--- the bytes that a pull handed out
+-- the number of bytes that a pull read
 abbrev pub count_of : Pulled → ℕ
 count_of (pulled.Got n) = n
 count_of pulled.Failed = 0
 
--- The first n bytes of what was left now stand at the front of the room, and are no longer left.
--- There are none only where the room or what was left has none.
+-- The first n bytes of what was left are at the front of the room, and are no longer left. There are none
+-- only if the room is empty or nothing was left.
 pub record Gives (n : ℕ) (before now room filled : List ℕ) : Type 0 where
   pub within : n ≤ length before
   pub front : take n filled ≡ take n before
@@ -50,13 +51,14 @@ abbrev pub Pulls : Pulled → List ℕ → List ℕ → List ℕ → List ℕ �
 Pulls (pulled.Got n) before now room filled = Gives n before now room filled
 Pulls pulled.Failed before now room filled = Unit {0}
 
+-- the count of faults rises if the call failed, and stays otherwise
 abbrev pub PullCounts : Pulled → ℕ → ℕ → Type 0
 PullCounts (pulled.Got n) before now = now ≡ before
 PullCounts pulled.Failed before now = Faulted before now
 
 -- ---- store
 
--- the file of the name afterwards
+-- the file with this name after this answer
 abbrev pub Stores : Edge → Option (List ℕ) → List ℕ → Type 0
 Stores edge.Done file bytes = file ≡ Some bytes
 Stores edge.Failed file bytes = Unit {0}

@@ -1,4 +1,4 @@
--- Laws of the calls of a host.
+-- Laws of a host's calls.
 use Rattle.std.specs.Prelude.{◌≡◌, ◌<◌, ◌-◌, ◌^◌, ℕ, List, [], ◌∷◌, ◌++◌, length, take, Option, Some}
 use Rattle.suit_edge.specs.declared.edge.Edge.TheVariants as edge
 use Rattle.suit_edge.specs.declared.host.Started.{Started}
@@ -7,34 +7,34 @@ use Rattle.suit_edge.specs.declared.host.Pulled.TheVariants as pulled
 use Rattle.suit_edge.specs.Host.{Starts, StartAsks, StartCounts, Pulls, PullCounts, Stores}
 
 pub record HostLaws : Type 0 where
-  -- a name has a file or none, and a file that is started has one rest
+  -- a name has a file or none, and a started file has one rest
   pub one_answer : (file : Option (List ℕ)) (rest other : List ℕ) → Starts started.Done file rest
       → Starts started.Absent file other → ⊥
   pub one_rest : (file : Option (List ℕ)) (rest other : List ℕ) → Starts started.Done file rest
       → Starts started.Done file other → rest ≡ other
-  -- where no file has the name, none is started: a pull then gives no bytes
+  -- if no file has this name, none is started, and a pull reads nothing
   pub none : (n : ℕ) (file : Option (List ℕ)) (rest now room filled : List ℕ)
       → Starts started.Absent file rest → Pulls (pulled.Got n) rest now room filled
       → (n ≡ 0) × (now ≡ [])
-  -- the bytes pulled first and those left then are the file
+  -- the bytes read first, and those left then, are the file
   pub whole : (n : ℕ) (file : Option (List ℕ)) (rest now room filled : List ℕ)
       → Starts started.Done file rest → Pulls (pulled.Got n) rest now room filled
       → file ≡ Some (take n filled ++ now)
-  -- a pull that gives none in a room that has place is at the end
+  -- a pull that reads nothing into a room that is not empty is at the end of the file
   pub end : (before now room filled : List ℕ) → 0 < length room
       → Pulls (pulled.Got 0) before now room filled → before ≡ []
-  -- the stored file is the one started then
+  -- a file that was stored is the one that is started next
   pub stored : (file : Option (List ℕ)) (bytes rest : List ℕ) → Stores edge.Done file bytes
       → Starts started.Done file rest → rest ≡ bytes
-  -- a name that was started, or is absent, was asked for; and no start asks for another name,
-  -- whatever it answers
+  -- A name that was started or is absent has been recorded, and no start records another name, whatever it
+  -- answers.
   pub asked_done : (name : List ℕ) (before now : List (List ℕ))
       → StartAsks started.Done name before now → now ≡ before ++ name ∷ []
   pub asked_absent : (name : List ℕ) (before now : List (List ℕ))
       → StartAsks started.Absent name before now → now ≡ before ++ name ∷ []
   pub asked_one : (answer : Started) (name other : List ℕ) (before now : List (List ℕ))
       → StartAsks answer name before now → now ≡ before ++ other ∷ [] → other ≡ name
-  -- a fault alone raises the count
+  -- a failed call raises the count, and no other does
   pub start_failed : (before : ℕ) → before < 2 ^ 64 - 1 → StartCounts started.Failed before before
       → ⊥
   pub start_done : (before now : ℕ) → StartCounts started.Done before now → now ≡ before

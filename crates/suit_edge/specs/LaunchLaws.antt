@@ -13,7 +13,7 @@ pub record LaunchLaws : Type 0 where
   pub done : (before now disk_before disk_now : ℕ)
       → LaunchCounts launched.Done before now disk_before disk_now
       → (now ≡ before) × (disk_now ≡ disk_before)
-  -- the launcher is named where its count rose, and the disk where its own did
+  -- Failed raises the launcher's count, and DiskFailed the disk's
   pub failed : (before disk_before disk_now : ℕ) → before < 2 ^ 64 - 1
       → LaunchCounts launched.Failed before before disk_before disk_now → ⊥
   pub disk_failed : (before now disk_before : ℕ) → disk_before < 2 ^ 64 - 1

@@ -1,4 +1,4 @@
--- The images that a power loss may leave of a disk in memory, by the writes since the last sync.
+-- The images that a power loss may leave of a disk in memory, given the writes since the last sync.
 use Rattle.std.specs.Prelude.{◌↔◌, ◌∷◌, ◌++◌, ℕ, List, map}
 use Rattle.suit_edge.specs.declared.step.Write.{Write}
 use Rattle.suit_edge.specs.declared.step.Step.{Step}
@@ -8,9 +8,8 @@ use Rattle.suit_edge.specs.Flash.{Now}
 use Rattle.suit_edge.specs.Moment.{OutsideAll}
 use Rattle.suit_edge.specs.MemoryDisk.{flash_of}
 
--- Where these are the writes since the last sync, or since the beginning, and reads give bytes, it
--- leaves just the images of the disk's size that hold what reads give at each place outside their
--- ranges. In the ranges they hold any bytes.
+-- A power loss leaves exactly the images of the disk's size that, outside the ranges of these writes, hold
+-- what reads return. Inside the ranges they hold any bytes.
 abbrev pub Leaves : List ℕ → List Step → List Write → Type 0
 Leaves first steps writes = AreBytes (flash_of first steps).reads
     → (image : List ℕ) → Now (flash_of first steps) image ↔ (SameOn (OutsideAll writes) (flash_of first steps).reads image × AreBytes image)

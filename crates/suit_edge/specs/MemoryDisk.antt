@@ -1,4 +1,4 @@
--- A disk in memory, and what a call makes of it.
+-- A disk in memory, and what its calls do.
 use Rattle.std.specs.Prelude.{◌≡◌, ◌≤◌, ◌+◌, ℕ, List, [], ◌∷◌, ◌++◌, length, take, drop, slice_range}
 use Rattle.suit_edge.specs.declared.edge.Edge.{Edge}
 use Rattle.suit_edge.specs.declared.edge.Edge.TheVariants as edge
@@ -9,17 +9,17 @@ use Rattle.suit_edge.specs.Calls.{CallCounts, Succeeds, FailsByList, CallFails}
 use Rattle.suit_edge.specs.Flash.{Flash}
 use Rattle.suit_edge.specs.Moment.{Moment, moment_of, IsImage}
 
--- the bytes that it began with, the writes and syncs that were done, and the counts of all calls
+-- the bytes at the start, the writes and syncs that were done, and the counts of calls
 pub record DiskState : Type 0 where
   pub first : List ℕ
   pub steps : List Step
   pub calls : CallCounts
 
+-- the disk after all its steps
 abbrev pub moment_now : DiskState → Moment
 moment_now s = moment_of s.first s.steps
 
--- A power loss at some moment since t may leave the image. A moment is told by the number of steps
--- before it.
+-- A power loss at some moment since t may leave the image. A moment is the number of steps before it.
 pub record MayLeave (first : List ℕ) (steps : List Step) (t : ℕ) (image : List ℕ) : Type 0 where
   pub moment : ℕ
   pub since : t ≤ moment
@@ -37,19 +37,19 @@ flash_of first steps =
 abbrev pub memory_flash : DiskState → Flash
 memory_flash s = flash_of s.first s.steps
 
--- ---- the effect of a call
+-- ---- what a call does
 
 -- the content stays
 pub record HoldsOn (before now : DiskState) : Type 0 where
   pub first : now.first ≡ before.first
   pub steps : now.steps ≡ before.steps
 
--- the content is what one more step makes of it
+-- one more step is taken
 pub record TakesStep (before now : DiskState) (s : Step) : Type 0 where
   pub first : now.first ≡ before.first
   pub steps : now.steps ≡ before.steps ++ s ∷ []
 
--- a read gives what stands there or fails by its number, and changes nothing
+-- a read gives the bytes there, or fails because of its number; either way it changes nothing else
 abbrev pub ReadsExactly : Edge → DiskState → DiskState → ℕ → List ℕ → List ℕ → Type 0
 ReadsExactly edge.Done before now place room filled =
     Succeeds before.calls now.calls × HoldsOn before now
@@ -57,7 +57,7 @@ ReadsExactly edge.Done before now place room filled =
 ReadsExactly edge.Failed before now place room filled =
     FailsByList before.calls now.calls × HoldsOn before now × (filled ≡ room)
 
--- a write or a sync takes its step or fails, and then changes nothing
+-- a write or a sync takes its step, or fails and changes nothing but the counts
 abbrev pub StepsExactly : Edge → DiskState → DiskState → Step → Type 0
 StepsExactly edge.Done before now s = Succeeds before.calls now.calls × TakesStep before now s
 StepsExactly edge.Failed before now s = CallFails before.calls now.calls × HoldsOn before now
@@ -65,15 +65,15 @@ StepsExactly edge.Failed before now s = CallFails before.calls now.calls × Hold
 abbrev pub write_of : ℕ → List ℕ → Step
 write_of place bytes = step.Wrote (record { place = place; bytes = bytes })
 
--- ---- inside
+-- ---- representation
 
--- the writes of these steps
+-- the writes among these steps
 abbrev pub writes_of : List Step → List Write
 writes_of [] = []
 writes_of (step.Wrote w ∷ steps) = w ∷ writes_of steps
 writes_of (step.Synced ∷ steps) = writes_of steps
 
--- beside its steps the disk keeps their result, and the steps from `since` on are the pending ones
+-- the disk also keeps the result of its steps; those from `since` on are pending
 pub record IsMoment (first : List ℕ) (steps : List Step) (sure bytes : List ℕ) (since : ℕ)
     : Type 0 where
   pub settled : sure ≡ (moment_of first steps).settled

@@ -41,7 +41,7 @@ pub length-moment_of : (first : List ℕ) (steps : List Step)
 unfolding moment_of
 length-moment_of first steps = length-after_steps (record { settled = first; reads = first; pending = [] }) steps
 
--- an image of a moment that reads bytes is bytes
+-- if reads return bytes, an image of a power loss holds bytes
 image_bytes : (m : Moment) (image : List ℕ) → IsImage m image → AreBytes m.reads → AreBytes image
 image_bytes m image is reads i = ⊎_elim (λ lt. lt) (λ at. omega (arith, at, reads i)) (is.bytes i)
 

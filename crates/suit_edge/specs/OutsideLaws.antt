@@ -15,7 +15,7 @@ in_or_outside (r ∷ ranges) i = ⊎_elim
         → InSome (r ∷ rest) i ⊎ OutsideEach (r ∷ rest) i
     in_or_out rest out at = ⊎_elim (λ s. inl (inr s)) (λ o. inr (out, o)) at
 
--- and not both
+-- it is not both
 pub not_both : (ranges : List Range) (i : ℕ) → InSome ranges i → OutsideEach ranges i → ⊥
 not_both [] i at out = at
 not_both (r ∷ ranges) i at out = ⊎_elim (λ w. apart w out.0) (λ rest. not_both ranges i rest out.1) at
@@ -23,7 +23,7 @@ not_both (r ∷ ranges) i at out = ⊎_elim (λ w. apart w out.0) (λ rest. not_
     apart : Within r.place r.size i → Outside r.place r.size i → ⊥
     apart w o = ⊎_elim (λ low. omega (arith, w.0, low)) (λ high. omega (arith, w.1, high)) o
 
--- two lists of ranges in one
+-- a place is outside two lists of ranges if and only if it is outside the two joined
 pub outside_both : (some more : List Range) (i : ℕ) → OutsideEach some i → OutsideEach more i
     → OutsideEach (some ++ more) i
 outside_both [] more i first second = second

@@ -1,4 +1,4 @@
--- Bytes that are written in pieces.
+-- Bytes that are written piece by piece.
 use Rattle.std.proofs.Common.{◌≡◌, ◌≤◌, ℕ, ◌+◌, ◌-◌, List, ◌++◌, length, take, drop, sym, ◌∙◌, ap, arith, length-drop}
 use Rattle.std.proofs.Math.Seq.{take-add}
 use Rattle.std.proofs.lemmas.List.{length-take-le}
@@ -15,7 +15,7 @@ module _ (bytes : List ℕ) (place done n : ℕ) (within : done + n ≤ length b
   unfolding piece
   length-piece = omega (arith, length-take-le (done + n - done) (drop done bytes) (omega (arith, length-drop done bytes)))
 
-  -- the bytes so far, and one piece more
+  -- what was written so far, and one piece more
   pub piece_written : (start reads new : List ℕ) → place + length bytes ≤ length start
       → reads ≡ written start place (take done bytes)
       → new ≡ written reads (place + done) (take (done + n - done) (drop done bytes)) → new ≡ written start place (take (done + n) bytes)
@@ -30,7 +30,7 @@ module _ (bytes : List ℕ) (place done n : ℕ) (within : done + n ≤ length b
       ∙ ap (λ (k : ℕ). written start place (take done bytes ++ take k (drop done bytes))) count
       ∙ ap (written start place) (sym (take-add done n bytes))
 
-  -- and the rest is left alone
+  -- everything outside the range is left alone
   pub piece_kept : (a b c : Flash) (size : ℕ) → IsFlash b size
       → Keeps (Outside place (length bytes)) a b
       → Keeps (Outside (place + done) (length (take (done + n - done) (drop done bytes)))) b c → Keeps (Outside place (length bytes)) a c

@@ -1,4 +1,4 @@
--- Bytes that are written over a list, and lists that agree on a range.
+-- Bytes that are written over a list, and lists that agree on some places.
 use Rattle.std.proofs.Common.{◌≡◌, inl, inr, ⊎_elim, ◌<◌, ◌≤◌, ℕ, ◌+◌, ◌-◌, List, [], ◌∷◌, ◌++◌, length, take, drop, get_or, refl, sym, ◌∙◌, ap, subst, arith, length-append, length-drop, get_or-take}
 use Rattle.std.specs.List.{slice_range}
 use Rattle.std.proofs.lemmas.Bool.{cases_lt}
@@ -36,7 +36,7 @@ module _ (old : List ℕ) (place : ℕ) (bytes : List ℕ) (fits : place + lengt
       ∙ get_or-append_right (take place old) bytes place (place + i) 0 front (omega arith)
       ∙ ap (λ (k : ℕ). get_or bytes k 0) (omega arith)
 
-  -- the rest stays
+  -- everything outside the range stays
   pub written_outside : SameOn (Outside place (length bytes)) old (written old place bytes)
   written_outside = record { size = length-written; same = λ i out. ⊎_elim (below i) (above i) out }
 
@@ -48,14 +48,14 @@ module _ (old : List ℕ) (place : ℕ) (bytes : List ℕ) (fits : place + lengt
       (λ i h. let lt : i < length bytes = omega (arith, size) in
       get_or-between (written old place bytes) place (place + length bytes) i 0 (omega arith) ∙ written_within i lt)
 
--- one byte
+-- the same for one byte
 pub written_one : (old : List ℕ) (place b : ℕ) → place + 1 ≤ length old
     → get_or (written old place (b ∷ [])) place 0 ≡ b
 written_one old place b fits =
     let at : place + 0 ≡ place = omega arith in
     subst (λ (k : ℕ). get_or (written old place (b ∷ [])) k 0 ≡ b) at (written_within old place (b ∷ []) fits 0 (omega arith))
 
--- ranges of lists that agree there
+-- lists that agree on a range have the same bytes there
 pub same_range : (c d : List ℕ) (from to : ℕ) → length c ≡ length d → to ≤ length c
     → ((i : ℕ) → from ≤ i → i < to → get_or c i 0 ≡ get_or d i 0)
     → slice_range c from to ≡ slice_range d from to
@@ -85,13 +85,13 @@ same_fewer K L to a b same = record { size = same.size; same = λ i k. same.same
 pub outside_within : (p k q n : ℕ) → q ≤ p → p + k ≤ q + n → (i : ℕ) → Outside q n i → Outside p k i
 outside_within p k q n low high i out = ⊎_elim (λ h. inl (omega arith)) (λ h. inr (omega arith)) out
 
--- ---- one range behind another
+-- ---- one range after another
 
 module _ (old : List ℕ) (p : ℕ) (xs ys : List ℕ) (fits : p + length xs + length ys ≤ length old) where
   size_all : p + length (xs ++ ys) ≤ length old
   size_all = omega (arith, length-append xs ys)
 
-  -- bytes and the bytes behind them make one range
+  -- writing bytes, and then more bytes right after them, writes them as one range
   pub written-written : written (written old p xs) (p + length xs) ys ≡ written old p (xs ++ ys)
   written-written =
       ext_get_or 0 (written (written old p xs) (p + length xs) ys) (written old p (xs ++ ys)) (twice ∙ sym (length-written old p (xs ++ ys) size_all)) same
@@ -146,7 +146,7 @@ module _ (old : List ℕ) (p : ℕ) (xs ys : List ℕ) (fits : p + length xs + l
           (cases_lt i (p + length xs)))
           (cases_lt i p)
 
--- no bytes
+-- writing no bytes changes nothing
 pub written-none : (old : List ℕ) (place : ℕ) → place ≤ length old → written old place [] ≡ old
 written-none old place fits =
     let out = written_outside old place [] (omega arith) in

@@ -1,6 +1,5 @@
--- A disk over another one. It reads what that holds through a function of its bytes, or from a
--- state of its own; a power loss leaves what the one below then shows, or what it reads. So is a
--- disk over a device.
+-- A disk over another one, or over a device. Its reads show the bytes below through a function, or give a
+-- state of its own. A power loss leaves what the bytes below then show, or what reads returned.
 use Rattle.std.proofs.Common.{◌≡◌, ◌⊎◌, inl, inr, ⊎_elim, ◌≤◌, ℕ, List, length, refl, sym, ◌∙◌, ap, subst, arith}
 use Rattle.suit_edge.specs.Ranges.{AreBytes, SameOn}
 use Rattle.suit_edge.specs.Flash.{Flash, Now, Grows, Passes, ImageOn, Keeps, IsSame, IsSettled, IsFlash}
@@ -24,8 +23,8 @@ seen_obeys shows reads f size n long fits bytes law = record {
 }
 
 module _ (shows : List ℕ → List ℕ) (old new : List ℕ) (a b : Flash) where
-  -- The images of a moment stay, where the disk still reads what it read, or the one below has
-  -- shown it since.
+  -- The images of a moment remain possible if the disk still reads the same, or if the one below has shown
+  -- what it read since then.
   pub seen_grows : (size : ℕ) → IsFlash b size → a.clock ≤ b.clock → Grows a b
       → (old ≡ new) ⊎ ((below : List ℕ) × b.may a.clock below × (old ≡ shows below))
       → Grows (seen shows old a) (seen shows new b)
@@ -34,7 +33,7 @@ module _ (shows : List ℕ → List ℕ) (old new : List ℕ) (a b : Flash) wher
       (λ m. ⊎_elim (λ same. inr (omega (arith, le, later), m.1 ∙ same)) (λ s. inl (s.0, law.sooner t a.clock s.0 le later s.1, m.1 ∙ s.2)) stays)
       may
 
-  -- any number of calls below make one call
+  -- any number of calls below make up one call
   pub seen_passes : (P Q : List ℕ → Type 0) → ((below : List ℕ) → P below → Q (shows below)) → Q new
       → Passes a b P → Passes (seen shows old a) (seen shows new b) Q
   seen_passes P Q to read run = record {
@@ -46,8 +45,8 @@ module _ (shows : List ℕ → List ℕ) (old new : List ℕ) (a b : Flash) wher
         may;
   }
 
-  -- a read that makes writes below, as one that settles does, where each image that they may leave
-  -- shows one of the start
+  -- A call that writes below, as a read that settles does, changes nothing if each image that the writes may
+  -- leave shows an image of the start.
   pub seen_steady : new ≡ old → Passes a b (λ below. Now (seen shows old a) (shows below))
       → IsSame (seen shows old a) (seen shows new b)
   seen_steady same below = record {

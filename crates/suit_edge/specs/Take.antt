@@ -1,11 +1,11 @@
--- The outcome of taking a whole file.
+-- The outcome of reading a whole file.
 use Rattle.std.specs.Prelude.{◌≡◌, ◌⊎◌, ◌<◌, ◌≤◌, ℕ, List, length, Option, Some, None}
 use Rattle.suit_edge.specs.declared.take.Taken.{Taken}
 use Rattle.suit_edge.specs.declared.take.Taken.TheVariants as taken
 use Rattle.suit_edge.specs.Faults.{Faulted}
 use Rattle.suit_edge.specs.Host.{AsksFor}
 
--- the meaning of an answer for the file of the name
+-- what the answer says of the file with this name
 abbrev pub TakesAll : Taken → Option (List ℕ) → ℕ → Type 0
 TakesAll (taken.Got bytes) file limit = file ≡ Some bytes
 TakesAll taken.Absent file limit = file ≡ None
@@ -14,7 +14,7 @@ TakesAll (taken.TooLong n) file limit =
 TakesAll taken.HostFault file limit = Unit {0}
 TakesAll taken.NoMemory file limit = Unit {0}
 
--- an answer holds no more bytes than the limit, or names it
+-- the answer holds at most `limit` bytes, or names the limit
 abbrev pub KeepsLimit : Taken → ℕ → Type 0
 KeepsLimit (taken.Got bytes) limit = length bytes ≤ limit
 KeepsLimit taken.Absent limit = Unit {0}
@@ -22,7 +22,7 @@ KeepsLimit (taken.TooLong n) limit = n ≡ limit
 KeepsLimit taken.HostFault limit = Unit {0}
 KeepsLimit taken.NoMemory limit = Unit {0}
 
--- the host's count rose where the answer is its fault, and stayed otherwise
+-- the host's count rises if the answer is its fault, and stays otherwise
 abbrev pub TakeCounts : Taken → ℕ → ℕ → Type 0
 TakeCounts (taken.Got bytes) before now = now ≡ before
 TakeCounts taken.Absent before now = now ≡ before
@@ -30,7 +30,7 @@ TakeCounts (taken.TooLong n) before now = now ≡ before
 TakeCounts taken.HostFault before now = Faulted before now
 TakeCounts taken.NoMemory before now = now ≡ before
 
--- the file of the name alone was asked for; a fault may have come before that
+-- only this name was asked for; a fault may have come before it was recorded
 abbrev pub TakeAsks : Taken → List ℕ → List (List ℕ) → List (List ℕ) → Type 0
 TakeAsks (taken.Got bytes) name before now = AsksFor name before now
 TakeAsks taken.Absent name before now = AsksFor name before now
@@ -38,7 +38,7 @@ TakeAsks (taken.TooLong n) name before now = AsksFor name before now
 TakeAsks taken.HostFault name before now = (now ≡ before) ⊎ AsksFor name before now
 TakeAsks taken.NoMemory name before now = AsksFor name before now
 
--- ---- the same of a file that was started
+-- ---- the same for a file that was started
 
 abbrev pub TakesRest : Taken → List ℕ → ℕ → Type 0
 TakesRest (taken.Got bytes) rest limit = rest ≡ bytes

@@ -1,4 +1,4 @@
--- The taking of an image's bytes.
+-- Copying the bytes of an image.
 use Rattle.std.specs.Prelude.{◌≡◌, ℕ, Bool, List}
 use Rattle.suit_edge.specs.declared.launcher.Image.{Image}
 use Rattle.suit_edge.specs.declared.memory_launcher.TakenImage.{TakenImage}
@@ -11,7 +11,7 @@ TakesImage (taken.Got bytes) what told reads = AreImage what told reads bytes
 TakesImage taken.DiskFailed what told reads = Unit {0}
 TakesImage taken.NoMemory what told reads = Unit {0}
 
--- the disk's count rose where it failed, and stayed otherwise
+-- the disk's count rises if the disk fails, and stays otherwise
 abbrev pub TakeCounts : TakenImage → ℕ → ℕ → Type 0
 TakeCounts (taken.Got bytes) before now = now ≡ before
 TakeCounts taken.DiskFailed before now = Faulted before now

@@ -13,13 +13,13 @@ module _ (start : Flash) (size : ℕ) (ranges : List Range) (gate place : ℕ) (
   abbrev page : List Range
   page = page_at gate place (length body)
 
-  -- bytes that agree outside the ranges have the same page
+  -- an image that agrees with the start on the page has the same body
   body_same : (image : List ℕ) → length image ≡ length start.reads
       → ((i : ℕ) → InSome page i → get_or image i 0 ≡ get_or start.reads i 0)
       → body_at image place (length body) ≡ body_at start.reads place (length body)
   body_same image long at = same_range image start.reads place (place + length body) long (omega (arith, long, law.fits)) (λ i low high. at i (inr (inl (low, high))))
 
-  -- while the bytes are written, the page stays
+  -- while the bytes are being written, the page stays
   pub writing : (b : Flash) (made : List ℕ) → Keeps (OutsideEach ranges) start b
       → Passes start b (IsVouched ranges gate place body made start)
   writing b made kept = weakens start b (ImageOn (OutsideEach ranges) start) (IsVouched ranges gate place body made start) (λ image on.
@@ -33,7 +33,7 @@ module _ (start : Flash) (size : ℕ) (ranges : List Range) (gate place : ℕ) (
         });
       }) kept.images
 
-  -- while the page is written, the bytes stay
+  -- while the page is being written, the bytes stay
   pub vouching : (b c : Flash) → IsFlash b size → Keeps (OutsideEach ranges) start b
       → Passes b c (IsGated gate place body b)
       → Passes start c (IsVouched ranges gate place body b.reads start)

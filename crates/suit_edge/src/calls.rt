@@ -1,4 +1,4 @@
-//! The calls on an object in memory.
+//! Counts of the calls on an object in memory.
 
 ghost use Rattle.std.specs.Prelude.{◌≡◌, IfOk};
 ghost use Rattle.std.specs.Bool.{OnTrue, OnFalse};
@@ -8,7 +8,7 @@ ghost use Rattle.suit_edge.specs.Faults.{Faulted, counted};
 use std::alloc::{AllocError, Global};
 use std::marker::Model;
 
-/// The numbers of the calls that fail, counted from 0, and what was counted so far.
+/// The numbers of the calls that fail, counted from 0, and the counts so far.
 #[derive(Debug, Drop)]
 pub(crate) struct Calls {
     fails: Vec<u64>,
@@ -30,7 +30,7 @@ impl Model for Calls {
 }
 
 impl Calls {
-    /// No call yet, and these to fail.
+    /// No calls so far; those with these numbers will fail.
     pub(crate) fn new(alloc: Global, fails: &[u64]) -> Result<Calls, AllocError>
         ensures { IfOk result (λ calls. calls ≡ uncalled fails.now) }
     {
@@ -42,7 +42,7 @@ impl Calls {
         })
     }
 
-    /// Counts a call, and answers whether it is one that fails.
+    /// Counts a call, and returns whether it is one that fails.
     pub(crate) fn next_fails(&mut self) -> bool
         ensures passes { OnFalse result (Succeeds self.old self.new) }
         ensures fails { OnTrue result (FailsByList self.old self.new) }

@@ -1,4 +1,4 @@
-//! A small user of a disk: bytes in pieces, and then a page that vouches for them.
+//! A small client of a disk: it writes bytes in pieces, then a page that vouches for them.
 
 ghost use Rattle.std.specs.Prelude.{◌≡◌, ◌+◌, ◌≤◌, length, IsTrue};
 ghost use Rattle.suit_edge.specs.Client.{IsVouched, bytes_at};
@@ -13,7 +13,7 @@ use crate::{Disk, Edge, write_gated};
 /// How many bytes are written at once.
 const PIECE: usize = 16;
 
-// Writes the bytes in pieces, and makes sure of them.
+// Writes the bytes in pieces and syncs them.
 fn keep_pieces<D: Disk>(disk: &mut D, place: u64, bytes: &[u8]) -> Edge
     requires { place + length bytes.now ≤ D.extent disk.old }
     ensures size { D.extent disk.new ≡ D.extent disk.old }
@@ -25,7 +25,7 @@ fn keep_pieces<D: Disk>(disk: &mut D, place: u64, bytes: &[u8]) -> Edge
     ensures keeps { IsTrue D.told
         → Keeps (Outside place (length bytes.now)) (D.flash disk.old) (D.flash disk.new) }
 {
-    // Each place fits a u64, since the size does.
+    // The size fits a `u64`, and so does each place. The proof learns it here.
     let _size = disk.size();
     let mut done: usize = 0;
     while done < bytes.len() {
@@ -39,9 +39,9 @@ fn keep_pieces<D: Disk>(disk: &mut D, place: u64, bytes: &[u8]) -> Edge
     disk.sync()
 }
 
-/// Writes the bytes in pieces, and then the page beside them. At any moment an open page is the old
-/// one, or the new one over the new bytes; at the end it is the new one. After a failed call either
-/// may stand.
+/// Writes the bytes in pieces, then the page that vouches for them. At any moment an open page is
+/// either the old one, or the new one over the new bytes; once the call is done it is the new one.
+/// If the call fails, the page may be either of them, or closed.
 pub fn vouch<D: Disk>(
     disk: &mut D,
     place: u64,

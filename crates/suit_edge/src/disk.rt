@@ -1,4 +1,4 @@
-//! A disk, which can lose power at any moment.
+//! A disk that can lose power at any moment.
 
 ghost use Rattle.std.specs.Prelude.{◌≡◌, ◌+◌, ◌≤◌, ℕ, Bool, length, slice_range, IsTrue};
 ghost use Rattle.suit_edge.specs.Edge.{IfDone};
@@ -8,25 +8,25 @@ ghost use Rattle.suit_edge.specs.Ranges.{Outside, written};
 
 use crate::Edge;
 
-/// Bytes that outlive a power loss once they are synced.
+/// Storage whose bytes survive a power loss once they are synced.
 pub trait Disk {
-    /// Whether disks of this type tell what they hold.
+    /// Whether the contracts of this type say what a disk holds.
     ghost told: { Bool };
 
-    /// The content that reads give, and what a power loss may leave.
+    /// What reads return, and what a power loss may leave.
     ghost flash: { Self → Flash };
 
-    /// The number of bytes, which no call changes.
+    /// The size in bytes, which no call changes.
     ghost extent: { Self → ℕ };
 
     /// How often a call has failed.
     ghost faults: { Self → ℕ };
 
-    /// The number of bytes.
+    /// The size in bytes.
     fn size(&self) -> u64
         ensures { result ≡ extent self.now };
 
-    /// Reads the bytes from the place on. Where it fails, the room holds any bytes.
+    /// Fills `room` with the bytes from `place` on. If it fails, `room` may hold any bytes.
     fn read_at(&mut self, place: u64, room: &mut [u8]) -> Edge
         requires { place + length room.old ≤ extent self.old }
         ensures size { extent self.new ≡ extent self.old }
@@ -37,8 +37,8 @@ pub trait Disk {
         ensures same { IsTrue told → IsSame (flash self.old) (flash self.new) }
         ensures grows { IsTrue told → Grows (flash self.old) (flash self.new) };
 
-    /// Writes the bytes from the place on. Durable only after a `sync`. If it fails, its range
-    /// holds any bytes.
+    /// Writes the bytes from `place` on. They are durable only after a `sync`. If it fails, the
+    /// range may hold any bytes.
     fn write_at(&mut self, place: u64, bytes: &[u8]) -> Edge
         requires { place + length bytes.now ≤ extent self.old }
         ensures size { extent self.new ≡ extent self.old }
@@ -50,7 +50,8 @@ pub trait Disk {
             → Keeps (Outside place (length bytes.now)) (flash self.old) (flash self.new) }
         ensures grows { IsTrue told → Grows (flash self.old) (flash self.new) };
 
-    /// Syncs all that was written. If it fails, nothing has changed.
+    /// Makes everything written so far durable. If it fails, reads return the same bytes, and what
+    /// was not durable may still be lost.
     fn sync(&mut self) -> Edge
         ensures size { extent self.new ≡ extent self.old }
         ensures counts { EdgeCounts result (faults self.old) (faults self.new) }

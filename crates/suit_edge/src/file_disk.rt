@@ -19,9 +19,9 @@ const NAME: &str = "suit.flash";
 /// The number of bytes of the disk.
 const SIZE: u64 = 4_194_304;
 
-/// A disk of 4,194,304 bytes in the file `suit.flash` of the working directory. The file is opened
-/// at the first call. One that is missing is made of zeros, a shorter one is filled with zeros, and
-/// of a longer one the rest is left alone. It tells nothing of what it holds.
+/// A disk of 4,194,304 bytes in the file `suit.flash` of the working directory, which is opened at
+/// the first call. A missing file is created with zeros, a shorter one is extended with zeros, and
+/// the rest of a longer one is left alone. Its contracts do not say what it holds.
 #[derive(Drop)]
 pub struct FileDisk<R: Files<File = File> + Drop> {
     rt: R,
@@ -37,7 +37,7 @@ impl<R: Files<File = File> + Drop> Model for FileDisk<R> {
 }
 
 impl<R: Files<File = File> + Drop> FileDisk<R> {
-    /// The disk in the files that a runtime reaches. No call on the outside is made.
+    /// A disk in a file that the runtime reaches. Opens nothing yet.
     pub fn new(rt: R) -> FileDisk<R>
         ensures { result ≡ 0 }
     {
@@ -49,7 +49,7 @@ impl<R: Files<File = File> + Drop> FileDisk<R> {
     }
 }
 
-// Opens the file, and makes it as long as the disk.
+// Opens the file and extends it to the size of the disk.
 fn open<R: Files<File = File>>(rt: &R) -> io::Result<File> {
     let file = OpenOptions::new()
         .read(true)
@@ -62,7 +62,7 @@ fn open<R: Files<File = File>>(rt: &R) -> io::Result<File> {
     Ok(file)
 }
 
-// The file, which is opened at the first call.
+// Takes the open file, or opens it at the first call.
 fn take<R: Files<File = File>>(rt: &R, file: &mut Option<File>) -> io::Result<File> {
     match file.take() {
         Some(file) => Ok(file),
@@ -101,7 +101,7 @@ fn flush<R: Files<File = File>>(rt: &R, file: &mut Option<File>) -> io::Result<(
     done
 }
 
-// Counts an error, and tells it as a fault.
+// Counts an error as a fault.
 fn counts(faults: &mut u64, done: io::Result<()>) -> Edge
     ensures counts { EdgeCounts result faults.old faults.new }
     ensures ok { OnOk done (result ≡ edge.Done) }

@@ -8,7 +8,7 @@ use std::io::{ErrorKind, Read};
 use std::marker::Model;
 use std::rt::Files;
 
-/// The files of the system, by their paths. It tells nothing of what they hold.
+/// The files of the system, by their paths. Its contracts do not say what they hold.
 #[derive(Drop)]
 pub struct FileHost<R: Files + Drop> {
     rt: R,
@@ -24,7 +24,7 @@ impl<R: Files + Drop> Model for FileHost<R> {
 }
 
 impl<R: Files + Drop> FileHost<R> {
-    /// The files that a runtime reaches. No call on the outside is made.
+    /// A host over the files that the runtime reaches. Opens nothing yet.
     pub fn new(rt: R) -> FileHost<R>
         ensures { result ≡ 0 }
     {
@@ -41,8 +41,8 @@ impl<R: Files + Drop> Host for FileHost<R> {
 
     ghost faults = { λ h. h };
 
-    /// A name of which a part is missing is `Absent`. A directory is started, and fails at its
-    /// first pull.
+    /// `Absent` if a part of the path is missing. A directory can be started, but its first pull
+    /// fails.
     fn start(&mut self, name: &str) -> Started {
         self.started = None;
         match fs::open(&self.rt, name) {
@@ -73,7 +73,7 @@ impl<R: Files + Drop> Host for FileHost<R> {
         }
     }
 
-    /// A file that is already there is emptied first, and is left so where a write fails.
+    /// An existing file is emptied first. If a write fails, its old bytes are gone.
     fn store(&mut self, name: &str, bytes: &[u8]) -> Edge {
         match fs::write(&self.rt, name, bytes) {
             Ok(()) => Edge::Done,

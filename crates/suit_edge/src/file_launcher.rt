@@ -20,8 +20,8 @@ const LONGEST_NAME: usize = 19;
 const PIECE: usize = 4096;
 
 /// A launcher that writes the image of component C into the file `boot-C.img` of the working
-/// directory, and starts nothing. Where it fails, the file may hold a part of the image. It takes
-/// no memory, and tells nothing of what it launched.
+/// directory, and starts nothing. If it fails, the file may hold a part of the image. It allocates
+/// nothing, and its contracts do not say what it launched.
 #[derive(Drop)]
 pub struct FileLauncher<R: Files<File = File> + Drop> {
     rt: R,
@@ -36,7 +36,7 @@ impl<R: Files<File = File> + Drop> Model for FileLauncher<R> {
 }
 
 impl<R: Files<File = File> + Drop> FileLauncher<R> {
-    /// The launcher into the files that a runtime reaches. No call on the outside is made.
+    /// A launcher into files that the runtime reaches. Opens nothing yet.
     pub fn new(rt: R) -> FileLauncher<R>
         ensures { result ≡ 0 }
     {
@@ -44,7 +44,7 @@ impl<R: Files<File = File> + Drop> FileLauncher<R> {
     }
 }
 
-// The name of a component's file.
+// The name of the file of a component's image.
 fn image_name(component: u32) -> ArrayString<LONGEST_NAME>
     ensures { result.bytes ≡ (codes "boot-" ++ decimal component) ++ codes ".img" }
 {
@@ -56,7 +56,7 @@ fn image_name(component: u32) -> ArrayString<LONGEST_NAME>
     name
 }
 
-// Writes bytes to the end of a file.
+// Appends bytes to a file.
 fn append(file: &mut File, bytes: &[u8]) -> Edge {
     match file.write_all(bytes) {
         Ok(()) => Edge::Done,
@@ -64,7 +64,7 @@ fn append(file: &mut File, bytes: &[u8]) -> Edge {
     }
 }
 
-// Copies a range of the disk to the end of a file. `Failed` says that the file failed.
+// Appends a range of the disk to a file. `Failed` means that the file failed.
 fn copy_range<D: Disk>(disk: &mut D, place: u64, length: u64, file: &mut File) -> Launched
     requires { place + length ≤ D.extent disk.old }
     ensures size { D.extent disk.new ≡ D.extent disk.old }
@@ -72,7 +72,7 @@ fn copy_range<D: Disk>(disk: &mut D, place: u64, length: u64, file: &mut File) -
     ensures same { IsTrue D.told → IsSame (D.flash disk.old) (D.flash disk.new) }
     ensures grows { IsTrue D.told → Grows (D.flash disk.old) (D.flash disk.new) }
 {
-    // Each place fits a u64, since the size does.
+    // The size fits a `u64`, and so does each place. The proof learns it here.
     let _size = disk.size();
     let mut room = [0u8; PIECE];
     let mut done: u64 = 0;

@@ -7,10 +7,10 @@ ghost use Rattle.suit_edge.specs.MemoryHost.{file_in, with_file};
 use det_cbor::{Bytes, Text};
 use std::alloc::{AllocError, Global};
 
-/// Files by name, each name once.
+/// Files and their names. No name occurs twice.
 pub(crate) type FileTable = Vec<(Text, Bytes)>;
 
-/// The bytes of a name.
+/// The bytes of the file with this name, if there is one.
 pub(crate) fn find<'a>(files: &'a [(Text, Bytes)], name: &str) -> Option<&'a Bytes>
     ensures { option_map (λ bytes. bytes.now) result ≡ file_in files.entry.now name.now }
 {
@@ -22,14 +22,14 @@ pub(crate) fn find<'a>(files: &'a [(Text, Bytes)], name: &str) -> Option<&'a Byt
     None
 }
 
-// Where a name stands.
+// The index of the file with this name, if there is one.
 fn index_of(files: &[(Text, Bytes)], name: &str) -> Option<usize>
     ensures { result ≡ position (λ file. bytes_eq file.0 name.now) files.now }
 {
     files.iter().position(|file| file.0.as_str() == name)
 }
 
-/// Gives a name these bytes, copied.
+/// Sets the bytes of the file with this name, which is added if it is new. Both are copied.
 #[tactic(auto, using(crate::proofs::FileTables::set_where_found))]
 pub(crate) fn set(
     alloc: Global,

@@ -1,4 +1,4 @@
-//! A disk whose power fails.
+//! A disk whose power fails after a number of calls.
 
 ghost use Rattle.std.specs.Bool.{OnFalse, OnTrue};
 ghost use Rattle.std.specs.Prelude.{◌≡◌, ◌+◌, ◌≤◌, true, IsTrue, length, slice_range};
@@ -14,8 +14,8 @@ ghost use Rattle.suit_edge.specs.declared.step.Step.TheVariants as step;
 use crate::{Disk, Edge, MemoryDisk};
 use std::marker::Model;
 
-/// A disk in memory that takes so many calls, and then fails each, as if its power were gone.
-/// `size` is not counted.
+/// A disk in memory that serves a number of calls and then fails every one, as if its power were
+/// gone. `size` is not counted.
 #[derive(Drop)]
 pub struct FuseDisk {
     disk: MemoryDisk,
@@ -30,7 +30,7 @@ impl Model for FuseDisk {
 }
 
 impl FuseDisk {
-    /// The disk, which takes so many calls more.
+    /// A disk that serves `passes` more calls.
     pub fn new(disk: MemoryDisk, passes: u64) -> FuseDisk
         ensures { result ≡ record { disk = disk; passes = passes; faults = 0 } }
     {
@@ -41,14 +41,14 @@ impl FuseDisk {
         }
     }
 
-    /// The disk as the calls left it.
+    /// Returns the disk inside, as the calls left it.
     pub fn into_disk(self) -> MemoryDisk
         ensures { result ≡ self.disk }
     {
         self.disk
     }
 
-    /// How often a call of the disk failed because memory ran out.
+    /// How many calls of the disk failed because memory ran out.
     pub fn starved(&self) -> u64
         ensures { result ≡ self.now.disk.calls.starved }
     {
@@ -56,7 +56,7 @@ impl FuseDisk {
     }
 }
 
-// Takes one of the passes, if one is left.
+// Uses up a pass, if one is left.
 fn takes_pass(passes: &mut u64) -> bool
     ensures taken { OnTrue result (passes.old ≡ passes.new + 1) }
     ensures none { OnFalse result ((passes.old ≡ 0) × (passes.new ≡ 0)) }
@@ -68,7 +68,7 @@ fn takes_pass(passes: &mut u64) -> bool
     true
 }
 
-// Counts an answer that is a fault.
+// Counts the answer if it is a fault.
 fn counts(faults: &mut u64, answer: Edge) -> Edge
     ensures same { result ≡ answer }
     ensures value { faults.new ≡ counts_answer answer faults.old }

@@ -1,19 +1,19 @@
-//! How a gate reads.
+//! The state of a gate.
 
 ghost use Rattle.suit_edge.specs.Gate.{IsGate};
 
 use crate::OPEN;
 
-/// How the gate of a page reads.
+/// The state of a page's gate.
 #[derive(Clone, Copy, Debug, PartialEq, Eq)]
 pub enum Gate {
-    /// Its page stands whole.
+    /// The page is whole.
     Open,
-    /// Its page does not count. It holds any byte but that of an open gate.
+    /// The page does not count. The gate holds any byte but `OPEN`.
     Closed,
 }
 
-/// A gate with this byte.
+/// The state of a gate that holds this byte.
 pub fn gate_of(byte: u8) -> Gate
     ensures { IsGate result byte }
 {

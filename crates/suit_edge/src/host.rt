@@ -6,50 +6,50 @@ ghost use Rattle.suit_edge.specs.Host.{StartAsks, StartCounts, Starts, PullCount
 
 use crate::Edge;
 
-/// The result of starting a file.
+/// The outcome of starting a file.
 #[derive(Clone, Copy, Debug, PartialEq, Eq)]
 pub enum Started {
-    /// The file stands at its first byte.
+    /// The file is at its first byte.
     Done,
-    /// No file has the name, and none is started.
+    /// No file has this name, and none is started.
     Absent,
     /// The call failed, and the host's count of faults rose.
     Failed,
 }
 
-/// The result of a pull.
+/// The outcome of a pull.
 #[derive(Clone, Copy, Debug, PartialEq, Eq)]
 pub enum Pulled {
-    /// So many bytes came. None, where there was room, is the end of the file.
+    /// How many bytes were read. Zero means the end of the file, unless the room is empty.
     Got(usize),
     /// The call failed, and the host's count of faults rose.
     Failed,
 }
 
-/// A keeper of files, each under a name. One file is read at a time.
+/// A store of named files. One file is read at a time.
 pub trait Host {
-    /// Whether the members below tell what the host holds. A host that tells nothing writes only
-    /// its count of faults.
+    /// Whether the members below describe what the host holds. A host that describes nothing gives
+    /// only its count of faults.
     ghost told: { Bool };
 
-    /// The bytes of the file with a name, where one has it.
+    /// The bytes of the file with this name, if there is one.
     ghost file: { Self → List ℕ → Option (List ℕ) } = { λ _ _. None };
 
-    /// The bytes left of the file that was started last; none where none is started.
+    /// What is left to read of the file that was started last. Empty if none is started.
     ghost rest: { Self → List ℕ } = { λ _. [] };
 
     /// The number of bytes handed out so far.
     ghost pulled: { Self → ℕ } = { λ _. 0 };
 
-    /// The names of the files that were started, the last one at the end. An absent file is among
-    /// them; one whose start failed may be.
+    /// The names that were asked for, oldest first: those of files that were started or absent, and
+    /// perhaps those of starts that failed.
     ghost asked: { Self → List (List ℕ) } = { λ _. [] };
 
     /// The count of faults, which never falls.
     ghost faults: { Self → ℕ };
 
-    /// Begins a file at its first byte. After `Failed` nothing is known of what a pull would give,
-    /// until a start that does not fail.
+    /// Starts a file at its first byte. After `Failed`, what a pull reads is not known until a
+    /// start succeeds or finds the file absent.
     fn start(&mut self, name: &str) -> Started
         ensures files { IsTrue told → file self.new ≡ file self.old }
         ensures pulled { IsTrue told → pulled self.new ≡ pulled self.old }
@@ -57,8 +57,8 @@ pub trait Host {
         ensures asked { IsTrue told → StartAsks result name.now (asked self.old) (asked self.new) }
         ensures counts { StartCounts result (faults self.old) (faults self.new) };
 
-    /// The next bytes of the file, at the front of the room. After `Failed` nothing is known of
-    /// what a further pull would give, until a start that does not fail.
+    /// Reads the next bytes of the file into the front of `room`. After `Failed`, what another pull
+    /// reads is not known until a start succeeds or finds the file absent.
     fn pull(&mut self, room: &mut [u8]) -> Pulled
         ensures fits { count_of result ≤ length room.old }
         ensures files { IsTrue told → file self.new ≡ file self.old }
@@ -68,7 +68,8 @@ pub trait Host {
         ensures asked { IsTrue told → asked self.new ≡ asked self.old }
         ensures counts { PullCounts result (faults self.old) (faults self.new) };
 
-    /// Sets the bytes of a name. After `Failed` nothing is known of the bytes of that name.
+    /// Stores a file under this name, in place of any other. After `Failed`, the bytes under this
+    /// name are not known.
     fn store(&mut self, name: &str, bytes: &[u8]) -> Edge
         ensures stores { IsTrue told → Stores result (file self.new name.now) bytes.now }
         ensures others { IsTrue told → (other : List ℕ) → other ≢ name.now

@@ -11,7 +11,7 @@ use crate::Disk;
 /// An image that can be launched.
 #[derive(Clone, Copy, Debug)]
 pub enum Image<'a> {
-    /// So many bytes of the disk from the place on.
+    /// `length` bytes of the disk, from `place` on.
     Flash { place: u64, length: u64 },
     /// Bytes in memory.
     Ram(&'a [u8]),
@@ -25,7 +25,7 @@ pub struct Label<'a> {
     pub component: u32,
     /// The digest that the parameters name, if any.
     pub digest: Option<&'a [u8]>,
-    /// The size that they name, if any.
+    /// The size in bytes that they name, if any.
     pub size: Option<u64>,
     /// The arguments that they name, if any.
     pub args: Option<&'a [u8]>,
@@ -42,12 +42,12 @@ pub enum Launched {
     Failed,
 }
 
-/// An object that starts images.
+/// A way to start images.
 pub trait Launcher {
-    /// Whether launchers of this type tell what they launched.
+    /// Whether the contracts of this type say what was launched.
     ghost told: { Bool };
 
-    /// The launches so far.
+    /// The launches so far, oldest first.
     ghost launches: { Self → List Launch };
 
     /// How often a call has failed.

@@ -1,5 +1,5 @@
-//! Laws of disks, of disks in memory, of counts, hosts, sinks and launchers. Each call here does
-//! nothing: its contract is the law.
+//! Laws of disks, counts of faults, hosts, sinks and launchers. Each call here does nothing: its
+//! contract is the law.
 
 ghost use Rattle.std.specs.Prelude.{IsTrue};
 ghost use Rattle.suit_edge.specs.DiskLaws.{DiskLaw};
@@ -11,37 +11,38 @@ ghost use Rattle.suit_edge.specs.SinkLaws.{SinkLaws};
 
 use crate::Disk;
 
-/// Bounds on every disk between two moments of its life. They refuse a sync that leaves a write
-/// pending, a clock that goes back, an image of another length, and reads that give no image. A
-/// disk whose clock stands still while its bytes change never again makes them durable: none of its
-/// syncs is done.
+/// What holds of every disk between two moments of its life. A completed sync leaves no write
+/// pending, the clock does not go back, no image has another length, and what reads return is
+/// itself a possible image. A disk whose bytes change while its clock stands still can complete no
+/// sync.
 pub fn disk_laws<D: Disk>(before: &D, after: &D)
     ensures { IsTrue D.told
         → DiskLaw (D.extent before.now) (D.flash before.now) (D.flash after.now) }
 {}
 
-/// The images that a power loss leaves of a disk in memory: any bytes in each range written since
-/// the last sync, and all else as reads give it.
+/// The images that a power loss may leave of a disk in memory: any bytes in the ranges written
+/// since the last sync, and elsewhere what reads return.
 pub fn loss_laws()
     ensures { LossLaw }
 {}
 
-/// A count of faults rises where a call fails, below the end of 64 bits, and never falls.
+/// A count of faults never falls, and it rises with each failed call until it reaches the end of 64
+/// bits.
 pub fn fault_laws()
     ensures { FaultLaws }
 {}
 
-/// The answers of a host's calls, one after another.
+/// How the answers of a host's calls fit together.
 pub fn host_laws()
     ensures { HostLaws }
 {}
 
-/// The bytes that a sink has been given, after a put that was done and after one that failed.
+/// What a sink holds after a put that succeeded, and after one that failed.
 pub fn sink_laws()
     ensures { SinkLaws }
 {}
 
-/// Which count rises in a launch.
+/// Which count of faults rises in a launch.
 pub fn launch_laws()
     ensures { LaunchLaws }
 {}

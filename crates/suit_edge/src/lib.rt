@@ -1,5 +1,5 @@
-//! The outside: files, output, flash and launched images, as traits, as objects in memory and as
-//! real adapters.
+//! The outside world: files, output, flash and launched images, as traits, with implementations in
+//! memory and over a real system.
 #![tactic(auto)]
 
 mod calls;

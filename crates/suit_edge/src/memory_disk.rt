@@ -18,8 +18,8 @@ use det_cbor::Bytes;
 use std::alloc::{AllocError, Global};
 use std::marker::Model;
 
-/// A disk in memory, which can be seen as a power loss leaves it. It remembers each write and sync,
-/// and so takes memory in each of them; without it they fail.
+/// A disk in memory that can show what a power loss would leave. It remembers each write and sync,
+/// so both allocate, and fail if memory runs out.
 #[derive(Drop)]
 pub struct MemoryDisk {
     alloc: Global,
@@ -43,8 +43,8 @@ impl Model for MemoryDisk {
 }
 
 impl MemoryDisk {
-    /// A disk of zero bytes with nothing pending. The calls with these numbers fail: each call but
-    /// `size` is counted, from 0.
+    /// A disk of `size` zero bytes with nothing pending. Every call but `size` is counted, from 0,
+    /// and those whose numbers are in `fails` fail.
     pub fn new(alloc: Global, size: usize, fails: &[u64]) -> Result<MemoryDisk, AllocError>
         ensures state { IfOk result
             (λ disk. disk
@@ -75,9 +75,9 @@ impl MemoryDisk {
         })
     }
 
-    /// A disk as a power loss now may leave this one, with nothing pending and no calls that fail.
-    /// The n-th of the writes since the last sync, counted from 0, is kept where bit n modulo 64 of
-    /// the choice is set.
+    /// The disk that a power loss now may leave, with nothing pending and no calls that fail. Of
+    /// the writes since the last sync, the n-th, counted from 0, survives if bit n modulo 64 of
+    /// `choice` is set.
     pub fn after_loss(&self, alloc: Global, choice: u64) -> Result<MemoryDisk, AllocError>
         ensures left { IfOk result
             (λ disk. disk
@@ -98,7 +98,7 @@ impl MemoryDisk {
         MemoryDisk::of(alloc, bytes, calls)
     }
 
-    /// How often a call failed because memory ran out.
+    /// How many calls failed because memory ran out.
     pub fn starved(&self) -> u64
         ensures { result ≡ self.now.calls.starved }
     {
@@ -112,14 +112,14 @@ fn are_bytes(bytes: &[u8])
     let _ = bytes;
 }
 
-// Whether the choice keeps the n-th write.
+// Whether `choice` keeps the n-th write.
 fn is_kept(choice: u64, n: usize) -> bool
     ensures { result ≡ has_bit choice n }
 {
     (choice >> (n % 64)) % 2 == 1
 }
 
-// Writes those of the pending writes that the choice keeps.
+// Applies the pending writes that `choice` keeps.
 fn keep(bytes: &mut Vec<u8>, pending: &[Step], choice: u64)
     ensures { bytes.new.items ≡ kept choice 0 bytes.old.items (writes_of pending.now) }
 {
@@ -135,7 +135,7 @@ fn keep(bytes: &mut Vec<u8>, pending: &[Step], choice: u64)
     }
 }
 
-// Writes it, or not.
+// Applies the write if it is kept.
 fn keep_one(bytes: &mut Vec<u8>, write: &Write, keeps: bool)
     ensures { bytes.new.items ≡ cond keeps (after_write bytes.old.items write.now) bytes.old.items }
 {
@@ -144,7 +144,7 @@ fn keep_one(bytes: &mut Vec<u8>, write: &Write, keeps: bool)
     }
 }
 
-// Writes where it fits.
+// Applies the write if it fits.
 fn put_write(bytes: &mut Vec<u8>, write: &Write)
     ensures { bytes.new.items ≡ after_write bytes.old.items write.now }
 {
@@ -157,7 +157,7 @@ fn put_write(bytes: &mut Vec<u8>, write: &Write)
     put(bytes, write.place, write.bytes.as_slice());
 }
 
-// Writes into a vector.
+// Overwrites a range of the vector.
 fn put(bytes: &mut Vec<u8>, place: usize, piece: &[u8])
     requires { place + length piece.now ≤ vec_len bytes.old }
     ensures { bytes.new.items ≡ written bytes.old.items place piece.now }

@@ -23,7 +23,8 @@ use det_cbor::{Bytes, Names, Text};
 use std::alloc::{AllocError, Global};
 use std::marker::Model;
 
-/// A host that keeps its files in memory. A call that fails changes nothing that the host holds.
+/// A host that keeps its files in memory. A call that fails changes nothing but the counts of
+/// calls.
 #[derive(Debug, Drop)]
 pub struct MemoryHost {
     alloc: Global,
@@ -48,7 +49,8 @@ impl Model for MemoryHost {
 }
 
 impl MemoryHost {
-    /// A host without files. The calls of `Host` with these numbers, counted from 0, fail.
+    /// A host without files. The calls of `Host` are counted from 0, and those whose numbers are in
+    /// `fails` fail.
     pub fn new(alloc: Global, fails: &[u64]) -> Result<MemoryHost, AllocError>
         ensures { IfOk result (λ host. host ≡ empty_host fails.now) }
     {
@@ -62,8 +64,8 @@ impl MemoryHost {
         })
     }
 
-    /// Adds a file, or gives the file of this name these bytes. This is no call of `Host`, and is
-    /// not counted.
+    /// Adds a file, or replaces the bytes of the file with this name. This is not a call of `Host`,
+    /// and is not counted.
     pub fn add(&mut self, name: &str, bytes: &[u8]) -> Result<(), AllocError>
         ensures ok { OnOk result
             (self.new ≡ record self.old { files = with_file self.old.files name.now bytes.now }) }
@@ -72,7 +74,7 @@ impl MemoryHost {
         set(self.alloc, &mut self.files, name, bytes)
     }
 
-    // Asks for a file, and begins it.
+    // Starts a file and records its name.
     fn begin(&mut self, name: &str) -> Result<Started, AllocError>
         ensures ok { IfOk result (λ started. Begins started self.old self.new name.now) }
         ensures err { OnErr result (self.new ≡ self.old) }
@@ -86,7 +88,7 @@ impl MemoryHost {
         Ok(started)
     }
 
-    /// How often a call failed because memory ran out.
+    /// How many calls failed because memory ran out.
     pub fn starved(&self) -> u64
         ensures { result ≡ self.now.calls.starved }
     {
@@ -128,7 +130,7 @@ impl Host for MemoryHost {
         }
     }
 
-    /// A host whose count of bytes stands at the end of 64 bits has no memory to count more.
+    /// If the count of bytes does not fit 64 bits, the call fails as if memory had run out.
     fn pull(&mut self, room: &mut [u8]) -> Pulled
         ensures fits { count_of result ≤ length room.old }
         ensures files { IsTrue true → self.new.files ≡ self.old.files }

@@ -30,7 +30,8 @@ impl Model for MemoryLauncher {
 }
 
 impl MemoryLauncher {
-    /// A launcher without launches. The launches with these numbers, counted from 0, fail.
+    /// A launcher without launches. Launches are counted from 0, and those whose numbers are in
+    /// `fails` fail.
     pub fn new(alloc: Global, fails: &[u64]) -> Result<MemoryLauncher, AllocError>
         ensures { IfOk result
             (λ launcher. launcher ≡ record { launches = []; calls = uncalled fails.now }) }
@@ -42,14 +43,14 @@ impl MemoryLauncher {
         })
     }
 
-    /// The launches so far.
+    /// The launches so far, oldest first.
     pub fn launches(&self) -> &Launches
         ensures { result.now ≡ self.now.launches }
     {
         &self.launches
     }
 
-    /// How often a launch failed because memory ran out.
+    /// How many launches failed because memory ran out.
     pub fn starved(&self) -> u64
         ensures { result ≡ self.now.calls.starved }
     {
@@ -57,14 +58,14 @@ impl MemoryLauncher {
     }
 }
 
-// The bytes of an image, if they could be had.
+// The outcome of copying the bytes of an image.
 pub(crate) enum TakenImage {
     Got(Bytes),
     DiskFailed,
     NoMemory,
 }
 
-// Takes the bytes of an image.
+// Copies the bytes of an image.
 fn take_image<D: Disk>(alloc: Global, disk: &mut D, image: Image<'_>) -> TakenImage
     requires { LiesWithin (D.extent disk.old) image }
     ensures size { D.extent disk.new ≡ D.extent disk.old }
@@ -90,7 +91,7 @@ fn take_image<D: Disk>(alloc: Global, disk: &mut D, image: Image<'_>) -> TakenIm
     }
 }
 
-// A copy of bytes that may be absent.
+// Copies bytes that may be absent.
 fn copied(alloc: Global, bytes: Option<&[u8]>) -> Result<Option<Bytes>, AllocError>
     ensures { IfOk result (λ copy. copy ≡ option_copied bytes.entry) }
 {
@@ -100,7 +101,7 @@ fn copied(alloc: Global, bytes: Option<&[u8]>) -> Result<Option<Bytes>, AllocErr
     }
 }
 
-// The launch of these bytes.
+// A launch of these bytes. The parts of the label are copied.
 fn launch_of(alloc: Global, bytes: Bytes, label: Label<'_>) -> Result<Launch, AllocError>
     ensures { IfOk result
         (λ launch. launch
@@ -122,7 +123,7 @@ fn launch_of(alloc: Global, bytes: Bytes, label: Label<'_>) -> Result<Launch, Al
     })
 }
 
-// Adds the launch of these bytes.
+// Appends the launch, unless memory ran out while it was made.
 fn note(launches: &mut Launches, launch: Result<Launch, AllocError>) -> Result<(), AllocError>
     ensures ok { OnOk result
         ((added : Launch) × (launch ≡ Ok added) × (launches.new ≡ launches.old ++ added ∷ [])) }

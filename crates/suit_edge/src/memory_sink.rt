@@ -12,7 +12,7 @@ use det_cbor::Bytes;
 use std::alloc::{AllocError, Global};
 use std::marker::Model;
 
-/// A sink that keeps what is put. A put that fails puts nothing.
+/// A sink that keeps what is put. A put that fails adds nothing.
 #[derive(Debug, Drop)]
 pub struct MemorySink {
     put: Bytes,
@@ -26,7 +26,8 @@ impl Model for MemorySink {
 }
 
 impl MemorySink {
-    /// A sink without bytes. The calls of `put` with these numbers, counted from 0, fail.
+    /// An empty sink. The calls of `put` are counted from 0, and those whose numbers are in `fails`
+    /// fail.
     pub fn new(alloc: Global, fails: &[u64]) -> Result<MemorySink, AllocError>
         ensures { IfOk result (λ sink. sink ≡ record { put = []; calls = uncalled fails.now }) }
     {
@@ -43,7 +44,7 @@ impl MemorySink {
         self.put.as_slice()
     }
 
-    /// How often a call failed because memory ran out.
+    /// How many calls failed because memory ran out.
     pub fn starved(&self) -> u64
         ensures { result ≡ self.now.calls.starved }
     {

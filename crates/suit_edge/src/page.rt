@@ -1,5 +1,5 @@
-//! Writes that a power loss does not tear: bytes and a gate, which is open only while they stand
-//! whole.
+//! Writes that a power loss cannot tear: a page has a gate, a byte that is open only while the page
+//! is whole.
 
 ghost use Rattle.std.specs.Prelude.{◌≡◌, ◌+◌, ◌≤◌, length, slice_index, IsTrue};
 ghost use Rattle.suit_edge.specs.Edge.{IfDone};
@@ -16,7 +16,7 @@ pub const OPEN: u8 = 0xA5;
 /// The byte that closes a gate.
 pub const CLOSED: u8 = 0;
 
-/// Writes, and syncs all that is pending.
+/// Writes bytes, and syncs everything that is pending.
 pub fn write_and_sync<D: Disk>(disk: &mut D, place: u64, bytes: &[u8]) -> Edge
     requires { place + length bytes.now ≤ D.extent disk.old }
     ensures size { D.extent disk.new ≡ D.extent disk.old }
@@ -35,7 +35,8 @@ pub fn write_and_sync<D: Disk>(disk: &mut D, place: u64, bytes: &[u8]) -> Edge
     }
 }
 
-// Closes a gate that reads open. Over a closed one a write could open a page with old bytes.
+// Closes the gate if it reads open. A closed gate is not written, since a power loss could turn it
+// open over old bytes.
 fn close_if_open<D: Disk>(disk: &mut D, gate: u64) -> Edge
     requires { gate + 1 ≤ D.extent disk.old }
     ensures size { D.extent disk.new ≡ D.extent disk.old }
@@ -58,9 +59,9 @@ fn close_if_open<D: Disk>(disk: &mut D, gate: u64) -> Edge
     disk.write_at(gate, &[CLOSED])
 }
 
-/// Closes a gate, if it reads open, and syncs all that is pending. A power loss at any moment
-/// leaves an image of the start, or one that differs from it at the gate alone. If it fails, the
-/// gate may be open or closed.
+/// Closes the gate if it reads open, and syncs everything that is pending. A power loss at any
+/// moment leaves an image of the start, or one that differs from it only at the gate. If the call
+/// fails, the gate may be open or closed.
 pub fn close_gate<D: Disk>(disk: &mut D, gate: u64) -> Edge
     requires { gate + 1 ≤ D.extent disk.old }
     ensures size { D.extent disk.new ≡ D.extent disk.old }
@@ -80,7 +81,7 @@ pub fn close_gate<D: Disk>(disk: &mut D, gate: u64) -> Edge
     disk.sync()
 }
 
-// Closes an open gate, and syncs that. A closed one is left, and nothing is synced.
+// Closes an open gate and syncs. A closed gate is left alone, and nothing is synced.
 fn shut_gate<D: Disk>(disk: &mut D, gate: u64, known: Gate) -> Edge
     requires gate { gate + 1 ≤ D.extent disk.old }
     requires known { IsTrue D.told → IsGate known (slice_index (D.flash disk.old).reads gate) }
@@ -102,9 +103,9 @@ fn shut_gate<D: Disk>(disk: &mut D, gate: u64, known: Gate) -> Edge
     write_and_sync(disk, gate, &[CLOSED])
 }
 
-/// Writes the bytes of a page and syncs them, and then opens its gate. Where no power loss at the
-/// start could leave the gate open, an open page is the new one at any moment. If it fails, the
-/// page is then the new one, or closed.
+/// Writes the body of a page and syncs it, then opens the gate. If no power loss at the start could
+/// leave the gate open, then at any moment an open page is the new one; after a failure the page is
+/// the new one, or closed.
 pub fn open_written<D: Disk>(disk: &mut D, gate: u64, place: u64, body: &[u8]) -> Edge
     requires gate { gate + 1 ≤ D.extent disk.old }
     requires body { place + length body.now ≤ D.extent disk.old }
@@ -131,9 +132,9 @@ pub fn open_written<D: Disk>(disk: &mut D, gate: u64, place: u64, body: &[u8]) -
     write_and_sync(disk, gate, &[OPEN])
 }
 
-/// Writes the bytes of a page, of whose gate is known how it reads, while that is closed, so that a
+/// Writes a page whose gate is known to be open or closed. The gate is kept closed meanwhile, so a
 /// power loss at any moment leaves the old page, the new one, or none. The page must be durable
-/// before. If it fails, the page is the old one, the new one, or closed.
+/// before the call. If the call fails, the page is the old one, the new one, or closed.
 pub fn write_known<D: Disk>(disk: &mut D, gate: u64, known: Gate, place: u64, body: &[u8]) -> Edge
     requires gate { gate + 1 ≤ D.extent disk.old }
     requires known { IsTrue D.told → IsGate known (slice_index (D.flash disk.old).reads gate) }
@@ -163,9 +164,9 @@ pub fn write_known<D: Disk>(disk: &mut D, gate: u64, known: Gate, place: u64, bo
     open_written(disk, gate, place, body)
 }
 
-/// Looks at the gate of a page, and then writes its bytes while that is closed, so that a power
-/// loss at any moment leaves the old page, the new one, or none. The page must be durable before.
-/// If it fails, the page is the old one, the new one, or closed.
+/// Reads the gate of a page, then writes the page. The gate is kept closed meanwhile, so a power
+/// loss at any moment leaves the old page, the new one, or none. The page must be durable before
+/// the call. If the call fails, the page is the old one, the new one, or closed.
 pub fn write_gated<D: Disk>(disk: &mut D, gate: u64, place: u64, body: &[u8]) -> Edge
     requires gate { gate + 1 ≤ D.extent disk.old }
     requires body { place + length body.now ≤ D.extent disk.old }

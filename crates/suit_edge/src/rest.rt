@@ -1,4 +1,4 @@
-//! The bytes of a file that are left.
+//! The rest of a file.
 
 ghost use Rattle.std.specs.Prelude.{◌≡◌, [], ◌++◌, length, take, drop, min};
 
@@ -6,7 +6,7 @@ use det_cbor::Bytes;
 use std::alloc::Global;
 use std::marker::Model;
 
-/// The bytes of a file from a place on.
+/// The bytes of a file that are still to be read.
 #[derive(Debug, Drop)]
 pub(crate) struct Rest {
     bytes: Bytes,
@@ -24,21 +24,22 @@ impl Model for Rest {
 }
 
 impl Rest {
-    /// All of these bytes.
+    /// All of these bytes are still to be read.
     pub(crate) fn new(bytes: Bytes) -> Rest
         ensures { result ≡ bytes }
     {
         Rest { bytes, at: 0 }
     }
 
-    /// The number of bytes.
+    /// The number of bytes left.
     pub(crate) fn len(&self) -> usize
         ensures { result ≡ length self.now }
     {
         self.bytes.len() - self.at
     }
 
-    /// Moves the next bytes to the front of a room, as many as are left and fit there.
+    /// Moves the next bytes to the front of `room`, as many as are left and fit, and returns their
+    /// number.
     pub(crate) fn pull(&mut self, room: &mut [u8]) -> usize
         ensures count { result ≡ min (length self.old) (length room.old) }
         ensures left { self.new ≡ drop result self.old }

@@ -1,4 +1,4 @@
-//! Where bytes are put.
+//! Outputs for bytes.
 
 ghost use Rattle.std.specs.Prelude.{ℕ, Bool, IsTrue, List};
 ghost use Rattle.suit_edge.specs.Faults.{EdgeCounts};
@@ -6,9 +6,9 @@ ghost use Rattle.suit_edge.specs.Sink.{Puts};
 
 use crate::Edge;
 
-/// A taker of bytes, such as standard output.
+/// An output for bytes, such as standard output.
 pub trait Sink {
-    /// Whether `put_bytes` tells what was put.
+    /// Whether `put_bytes` describes what was put.
     ghost told: { Bool };
 
     /// The bytes put so far.
@@ -17,8 +17,8 @@ pub trait Sink {
     /// The count of faults, which never falls.
     ghost faults: { Self → ℕ };
 
-    /// Puts bytes after those put before. After `Failed` some of the piece, from its first byte on,
-    /// may be put.
+    /// Appends a piece to the output. After `Failed`, any number of the piece's first bytes may
+    /// have been put.
     fn put(&mut self, piece: &[u8]) -> Edge
         ensures puts { IsTrue told
             → Puts result (put_bytes self.old) (put_bytes self.new) piece.now }

@@ -5,7 +5,7 @@ ghost use Rattle.std.specs.Prelude.{◌≡◌, [], ℕ, false};
 use crate::{Edge, Sink};
 use std::marker::Model;
 
-/// The standard output of the system. It tells nothing of what was put.
+/// The standard output of the system. Its contracts do not say what was put.
 #[derive(Drop)]
 pub struct StdSink<R: Print + Drop> {
     rt: R,
@@ -20,7 +20,7 @@ impl<R: Print + Drop> Model for StdSink<R> {
 }
 
 impl<R: Print + Drop> StdSink<R> {
-    /// The standard output that a runtime reaches. No call on the outside is made.
+    /// The standard output that the runtime reaches. Writes nothing yet.
     pub fn new(rt: R) -> StdSink<R>
         ensures { result ≡ 0 }
     {

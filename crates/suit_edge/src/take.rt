@@ -1,4 +1,4 @@
-//! A whole file.
+//! Reading a whole file.
 
 ghost use Rattle.std.specs.Prelude.{◌≡◌, ◌≤◌, ◌<◌, ◌+◌, [], ◌++◌, length, IsTrue, OnOk, IfOk, IfErr};
 ghost use Rattle.suit_edge.specs.Take.{TakesAll, KeepsLimit, TakeAsks, TakeCounts, TakesRest};
@@ -7,12 +7,12 @@ use crate::{Host, Pulled, Started};
 use det_cbor::Bytes;
 use std::alloc::{AllocError, Global};
 
-/// The outcome of taking a whole file.
+/// The outcome of reading a whole file.
 #[derive(Debug, Drop)]
 pub enum Taken {
     /// The bytes of the file.
     Got(Bytes),
-    /// No file has the name.
+    /// No file has this name.
     Absent,
     /// The file is longer than this limit, in bytes.
     TooLong(u64),
@@ -22,19 +22,19 @@ pub enum Taken {
     NoMemory,
 }
 
-/// The bytes asked for in one pull while the file may be a small one. Each byte of a room is cleared
-/// beforehand, and most files fit in this one.
+/// How many bytes the first pulls ask for. A room is zeroed before it is used, and most files fit
+/// in this one.
 const FRONT: usize = 512;
 
-/// The bytes asked for in one pull of a longer file.
+/// How many bytes each pull of a longer file asks for.
 const PIECE: usize = 4096;
 
-/// The room that is made for a file which is longer than a piece, in bytes. A list of this size
+/// The capacity that is reserved for a file longer than a piece, in bytes. A list of this size
 /// grows in place.
 const ROOM: usize = 262_144;
 
-/// The whole file with a name, where it has at most `limit` bytes. It asks for no more than one
-/// byte beyond the limit.
+/// Reads the whole file with this name, if it has at most `limit` bytes. Asks for at most one byte
+/// beyond the limit.
 pub fn take_all<H: Host>(alloc: Global, host: &mut H, name: &str, limit: u64) -> Taken
     ensures files { IsTrue H.told → H.file host.new ≡ H.file host.old }
     ensures takes { IsTrue H.told → TakesAll result (H.file host.old name.now) limit }
@@ -50,7 +50,7 @@ pub fn take_all<H: Host>(alloc: Global, host: &mut H, name: &str, limit: u64) ->
     }
 }
 
-// The rest of the file that was started.
+// Reads the rest of the file that was started.
 fn take_rest<H: Host>(alloc: Global, host: &mut H, limit: u64) -> Taken
     ensures files { IsTrue H.told → H.file host.new ≡ H.file host.old }
     ensures takes { IsTrue H.told → TakesRest result (H.rest host.old) limit }
@@ -78,7 +78,7 @@ fn take_rest<H: Host>(alloc: Global, host: &mut H, limit: u64) -> Taken
     }
 }
 
-// Adds the next piece, and tells its length: 0 at the end of the file.
+// Appends the next piece and returns its length, which is 0 at the end of the file.
 fn take_piece<H: Host>(
     host: &mut H,
     limit: u64,
@@ -122,7 +122,7 @@ fn take_piece<H: Host>(
     }
 }
 
-// Adds a piece. Where it is the first whole one, room for many is made at once.
+// Appends a piece. The first whole one reserves room for many.
 fn add(taken: &mut Bytes, piece: &[u8]) -> Result<(), AllocError>
     ensures { OnOk result (taken.new ≡ taken.old ++ piece.now) }
 {

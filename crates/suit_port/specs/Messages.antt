@@ -5,6 +5,7 @@ use Rattle.suit_port.specs.declared.message.Message.{Message}
 use Rattle.suit_port.specs.declared.message.Request.{Request}
 use Rattle.suit_port.specs.declared.message.Request.TheVariants as requests
 
+-- the number of a request in its message
 abbrev pub request_number : Request → ℕ
 request_number requests.Read = 1
 request_number requests.Write = 2
@@ -17,7 +18,7 @@ request_number requests.LaunchFlash = 8
 request_number requests.LaunchMemory = 9
 request_number requests.Put = 10
 
--- the head of a message that is the one of this serial number: 32 bytes, in each number the lowest first
+-- the head of this message under this serial number: 32 bytes, each number little-endian
 abbrev pub head_of : ℕ → Message → List ℕ
 head_of serial message =
     to_le_bytes w32 (request_number message.request) ++ to_le_bytes w32 message.component

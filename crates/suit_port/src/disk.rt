@@ -10,7 +10,7 @@ use crate::message::{Message, Request};
 use std::marker::Model;
 use suit_edge::{Disk, Edge};
 
-/// A disk of so many bytes behind a port. It tells nothing of what it holds.
+/// A disk of `size` bytes behind a port. Its contracts do not say what it holds.
 #[derive(Drop)]
 pub struct PortDisk {
     line: Line,
@@ -25,7 +25,7 @@ impl Model for PortDisk {
 }
 
 impl PortDisk {
-    /// The disk. No message is sent.
+    /// A disk of `size` bytes behind this port. Sends no message.
     pub fn new(port: i32, size: u64) -> PortDisk
         ensures { result ≡ record { size = size; faults = 0 } }
     {

@@ -6,10 +6,11 @@ ghost use Rattle.suit_port.specs.Messages.{head_of};
 use crate::message::Message;
 use arrayvec::{ArrayVec, CapacityError};
 
-/// The number of bytes of a head.
+/// The length of a head in bytes.
 const HEAD: usize = 32;
 
-/// The head of a message: its request and component, each of 4 bytes, its serial number, place and length, each of 8.
+/// The head of a message: its request and component, in 4 bytes each, then its serial number, place
+/// and length, in 8 bytes each. All are little-endian.
 pub(crate) fn head(message: Message, serial: u64) -> Result<ArrayVec<u8, HEAD>, CapacityError>
     ensures fits { IsOk result }
     ensures head { IfOk result (λ h. h.items ≡ head_of serial message) }

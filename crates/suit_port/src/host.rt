@@ -11,7 +11,7 @@ use suit_edge::{Edge, Host, Pulled, Started};
 /// The serial number before the first message about files.
 const FIRST: u64 = 1_152_921_504_606_846_976;
 
-/// Files behind a port. It tells nothing of what they hold.
+/// Files behind a port. Its contracts do not say what they hold.
 #[derive(Drop)]
 pub struct PortHost {
     line: Line,
@@ -26,7 +26,7 @@ impl Model for PortHost {
 }
 
 impl PortHost {
-    /// The files. No message is sent.
+    /// Files behind this port. Sends no message.
     pub fn new(port: i32) -> PortHost
         ensures { result ≡ 0 }
     {
@@ -41,7 +41,7 @@ impl PortHost {
     }
 }
 
-// The port's answer to the start of a file: 0 where it is there, 1 where it is absent.
+// Asks the port to start a file. It answers 0 if the file is there, and 1 if it is absent.
 fn start(line: &mut Line, name: &str) -> Option<u64> {
     let bytes = name.as_bytes();
     if begin(line, Message::plain(Request::Start, bytes.len() as u64)) && send(line, bytes) {
@@ -51,7 +51,7 @@ fn start(line: &mut Line, name: &str) -> Option<u64> {
     }
 }
 
-// The number of bytes that came, at the front of the room.
+// Pulls bytes into the front of `room`, and returns how many came.
 fn pull(line: &mut Line, room: &mut [u8]) -> Option<usize>
     ensures { IfSome result (λ n. n ≤ length room.old) }
 {

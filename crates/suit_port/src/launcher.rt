@@ -11,8 +11,8 @@ use suit_edge::{Disk, Image, Label, Launched, Launcher};
 /// The serial number before the first message about launches.
 const FIRST: u64 = 2_305_843_009_213_693_952;
 
-/// A launcher behind a port: it is told where in the flash the image is, or its bytes, and its arguments before. It tells
-/// nothing of what it launched.
+/// A launcher behind a port. The port is told the arguments, if there are any, and then where in
+/// the flash the image is, or its bytes. Its contracts do not say what it launched.
 #[derive(Drop)]
 pub struct PortLauncher {
     line: Line,
@@ -27,7 +27,7 @@ impl Model for PortLauncher {
 }
 
 impl PortLauncher {
-    /// The launcher. No message is sent.
+    /// A launcher behind this port. Sends no message.
     pub fn new(port: i32) -> PortLauncher
         ensures { result ≡ 0 }
     {
@@ -42,7 +42,7 @@ impl PortLauncher {
     }
 }
 
-// Sends a message about a component with the bytes that follow it.
+// Sends a message about a component, with the bytes that follow it.
 fn about(line: &mut Line, request: Request, component: u32, bytes: &[u8]) -> bool {
     let message = Message {
         request,
@@ -68,7 +68,7 @@ fn launch(line: &mut Line, image: Image<'_>, component: u32) -> bool {
     }
 }
 
-// Sends the arguments, if there are any, and the image.
+// Sends the arguments, if there are any, and then the image.
 fn launch_with(line: &mut Line, image: Image<'_>, label: Label<'_>) -> bool {
     let told = match label.args {
         Some(args) => about(line, Request::Arguments, label.component, args),

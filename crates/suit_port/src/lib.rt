@@ -1,4 +1,5 @@
-//! The outside behind a port: each call is a message to the number of a port, and its answer is read from there.
+//! The outside world behind a port: each call sends a message to the port, and reads the answer
+//! from it.
 #![tactic(auto)]
 
 mod counting;

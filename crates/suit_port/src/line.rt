@@ -1,21 +1,22 @@
-//! The line to a port.
+//! The connection to a port.
 
 use crate::head::head;
 use crate::message::Message;
 use io::{read_full, write_all};
 
-/// The line to a port. It is lost, and stays so, once a message was not taken whole or its answer did not come whole: what is
-/// read then could be the answer to another message.
+/// The connection to a port. It is lost for good once a message was not fully taken, or its answer
+/// did not fully come or is that of another message: whatever is read next could answer yet another
+/// one.
 #[derive(Drop)]
 pub(crate) struct Line {
-    /// The number that the two functions of the port are given.
+    /// The number that both functions of the port are called with.
     pub(crate) port: i32,
     /// The serial number of the last message.
     pub(crate) serial: u64,
     pub(crate) lost: bool,
 }
 
-// Takes note of a transfer that failed.
+// Marks the line as lost if a transfer failed.
 fn keeps(line: &mut Line, done: bool) -> bool {
     if !done {
         line.lost = true;
@@ -23,7 +24,7 @@ fn keeps(line: &mut Line, done: bool) -> bool {
     done
 }
 
-/// Begins a message, with the next serial number. Whether the port took its head.
+/// Sends the head of a message, with the next serial number. Returns whether the port took it.
 pub(crate) fn begin(line: &mut Line, message: Message) -> bool {
     if line.lost {
         return false;
@@ -36,14 +37,14 @@ pub(crate) fn begin(line: &mut Line, message: Message) -> bool {
     keeps(line, done)
 }
 
-/// Sends bytes that follow a message. Whether the port took them.
+/// Sends the bytes that follow a message. Returns whether the port took them.
 pub(crate) fn send(line: &mut Line, bytes: &[u8]) -> bool {
     let done = !line.lost && write_all(line.port, bytes);
     keeps(line, done)
 }
 
-/// The port's answer: 16 bytes, the serial number of the message and a number, in each the lowest byte first. None where it did
-/// not come, or answers another message.
+/// Reads an answer of 16 bytes: the serial number of the message, and a number, both little-endian.
+/// `None` if it does not come, or answers another message.
 pub(crate) fn answer(line: &mut Line) -> Option<u64> {
     if line.lost {
         return None;
@@ -60,14 +61,14 @@ pub(crate) fn answer(line: &mut Line) -> Option<u64> {
     }
 }
 
-/// Reads the bytes that follow an answer. Whether the room is full of them.
+/// Fills `room` with the bytes that follow an answer. Returns whether all of them came.
 pub(crate) fn fill(line: &mut Line, room: &mut [u8]) -> bool {
     let most = room.len();
     let done = !line.lost && read_full(line.port, room) == most;
     keeps(line, done)
 }
 
-/// Sends a message with the bytes that follow it. Whether the port answers 0.
+/// Sends a message and the bytes that follow it. Returns whether the port answers 0.
 pub(crate) fn tell(line: &mut Line, message: Message, bytes: &[u8]) -> bool {
     begin(line, message) && send(line, bytes) && answer(line) == Some(0)
 }

@@ -3,33 +3,33 @@
 ghost use Rattle.std.specs.Prelude.{◌≡◌};
 ghost use Rattle.suit_port.specs.Messages.{request_number};
 
-/// What is asked.
+/// What a message asks for.
 #[derive(Clone, Copy, Debug, PartialEq, Eq)]
 pub(crate) enum Request {
-    /// The bytes of the flash from a place on.
+    /// Read the flash from a place on.
     Read,
-    /// The bytes that follow are written to the flash from a place on.
+    /// Write the bytes that follow to the flash, from a place on.
     Write,
-    /// What was written is made durable.
+    /// Make everything that was written durable.
     Sync,
-    /// The file whose name follows is begun at its first byte.
+    /// Start the file whose name follows.
     Start,
-    /// The next bytes of that file.
+    /// Read the next bytes of that file.
     Pull,
-    /// The name that follows gets the bytes behind it.
+    /// Store a file: its name follows, and then its bytes.
     Store,
-    /// The arguments that follow are those of the image that is launched next.
+    /// Give the arguments that follow to the image that is launched next.
     Arguments,
-    /// The bytes of the flash from a place on are launched.
+    /// Launch bytes of the flash, from a place on.
     LaunchFlash,
-    /// The bytes that follow are launched.
+    /// Launch the bytes that follow.
     LaunchMemory,
-    /// The text that follows is put out.
+    /// Put out the text that follows.
     Put,
 }
 
 impl Request {
-    /// The number that stands in a message.
+    /// The number of the request in a message.
     pub(crate) fn number(self) -> u32
         ensures { result ≡ request_number self }
     {
@@ -48,20 +48,22 @@ impl Request {
     }
 }
 
-/// A message. The bytes that follow are sent behind it.
+/// A message. The bytes that belong to it are sent after it.
 #[derive(Clone, Copy, Debug)]
 pub(crate) struct Message {
     pub(crate) request: Request,
-    /// The index of the component that is launched in the manifest, and otherwise 0.
+    /// The index in the manifest of the component that is launched; otherwise 0.
     pub(crate) component: u32,
-    /// A place in the flash, in bytes from its start; the length of the name where a file is stored; otherwise 0.
+    /// A place in the flash in bytes from its start, or the length of the name of a file that is
+    /// stored; otherwise 0.
     pub(crate) place: u64,
-    /// How many bytes are asked for or follow; behind the name, where a file is stored.
+    /// How many bytes are asked for, or follow. For a file that is stored, the bytes after its
+    /// name.
     pub(crate) length: u64,
 }
 
 impl Message {
-    /// A message of so many bytes that are no component's, and of no place.
+    /// A message of `length` bytes, about no component and no place.
     pub(crate) fn plain(request: Request, length: u64) -> Message
         ensures { result ≡ record { request = request; component = 0; place = 0; length = length } }
     {

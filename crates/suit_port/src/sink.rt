@@ -11,7 +11,7 @@ use suit_edge::{Edge, Sink};
 /// The serial number before the first message about output.
 const FIRST: u64 = 3_458_764_513_820_540_928;
 
-/// An output behind a port. It tells nothing of what was put.
+/// An output behind a port. Its contracts do not say what was put.
 #[derive(Drop)]
 pub struct PortSink {
     line: Line,
@@ -26,7 +26,7 @@ impl Model for PortSink {
 }
 
 impl PortSink {
-    /// The output. No message is sent.
+    /// An output behind this port. Sends no message.
     pub fn new(port: i32) -> PortSink
         ensures { result ≡ 0 }
     {

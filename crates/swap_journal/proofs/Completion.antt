@@ -1,4 +1,4 @@
--- A swap that is completed, from the flash as it was found.
+-- Completing a swap, starting from the flash as it was found.
 use Rattle.std.proofs.Common.{◌≡◌, inl, inr, ℕ, List, sym, subst}
 use Rattle.suit_edge.specs.Flash.{Flash, IsFlash, IsSame, Keeps, Now, Passes}
 use Rattle.suit_edge.specs.FlashLaws.{joined, keeps_same, keeps_then, weakens}
@@ -7,7 +7,7 @@ use Rattle.swap_journal.specs.declared.swap.Journal.{Journal}
 use Rattle.swap_journal.specs.declared.swap.Swap.{Swap}
 use Rattle.swap_journal.specs.Swaps.{GoesOn, StillOrGoesOn, swap_at, touched, touched_by}
 
--- nothing was written yet
+-- nothing has been written yet
 pub still : (journal : Journal) (a b : Flash) → IsSame a b → Passes a b (StillOrGoesOn journal a)
 still journal a b same = weakens a b (Now a) (StillOrGoesOn journal a) (λ image now. inl now) same.images
 

@@ -1,4 +1,4 @@
--- Each copy keeps what is recovered.
+-- Each copy leaves the recovered contents as they are.
 use Rattle.std.proofs.Common.{◌≡◌, ◌⊎◌, inl, inr, ⊎_elim, ◌<◌, ◌≤◌, ℕ, ◌+◌, ◌-◌, ◌*◌, ◌/◌, ◌%◌, zero, suc, List, map, length, get_or, refl, sym, ◌∙◌, ap, subst, arith}
 use Rattle.std.proofs.lemmas.Bool.{cases_lt, cases_order, lt-ltb, le-ltb, le-leb, lt-leb}
 use Rattle.std.proofs.Math.Nat.{mul-div-le, lt-mul-div-succ, mod-eq-sub-mul-div}
@@ -11,12 +11,12 @@ use Rattle.swap_journal.specs.declared.contents.Exchange.{Exchange}
 use Rattle.swap_journal.specs.Exchanges.{AreApart, FitsDisk, IsCopy, RecoversSame, longest, copies, copy_from, copy_to, copy_size, piece_from, piece_to, piece_size, first_byte, second_byte, first_recovered, second_recovered}
 use Rattle.swap_journal.specs.CopyLaws.{CopyLaws}
 
--- what is recovered is the same, byte by byte
+-- the recovered contents are the same, byte by byte
 pub record BytesSame (x : Exchange) (k : ℕ) (old : List ℕ) (m : ℕ) (new : List ℕ) : Type 0 where
   pub first : (i : ℕ) → i < longest x → first_byte x m new i ≡ first_byte x k old i
   pub second : (i : ℕ) → i < longest x → second_byte x m new i ≡ second_byte x k old i
 
--- ---- which byte it is
+-- ---- which byte is recovered
 
 pub first_done : (x : Exchange) (k : ℕ) (l : List ℕ) (i : ℕ) → 3 * (i / 4096) + 1 < k
     → first_byte x k l i ≡ get_or l (x.first + i) 0
@@ -202,7 +202,7 @@ module _ (x : Exchange) (apart : AreApart x) (n : ℕ) (some : 4096 * n < longes
 
 -- ---- whole contents
 
--- numbers that a function gives over a range
+-- functions that agree on a range give the same list
 same_map : (f g : ℕ → ℕ) (n : ℕ) → ((i : ℕ) → i < n → f i ≡ g i) → map f (range_with_len 0 n) ≡ map g (range_with_len 0 n)
 same_map f g n each =
     ext_get_or 0 (map f (range_with_len 0 n)) (map g (range_with_len 0 n)) (length-map-range_with_len f 0 n ∙ sym (length-map-range_with_len g 0 n))
@@ -230,7 +230,7 @@ whole x k m old new same = record {
 -- ---- copy by copy
 
 module _ (x : Exchange) (apart : AreApart x) (n : ℕ) (some : 4096 * n < longest x) (old new : List ℕ) where
-  -- the same count, written in another way
+  -- the same, for other ways of writing the counts
   counted : (a b k m : ℕ) → a ≡ k → b ≡ m → BytesSame x a old b new → BytesSame x k old m new
   counted a b k m e f same = subst (λ (j : ℕ). BytesSame x k old j new) f (subst (λ (j : ℕ). BytesSame x j old b new) e same)
 
@@ -246,7 +246,7 @@ module _ (x : Exchange) (apart : AreApart x) (n : ℕ) (some : 4096 * n < longes
   torn_by (suc (suc zero)) k lt e same = counted (3 * n + 2) (3 * n + 2) k k e e (tearing_second x apart n some old new same)
   torn_by (suc (suc (suc step))) k lt e same = absurd (omega arith)
 
--- a copy takes part of the contents
+-- a copy moves a part of the contents
 pub in_contents : (x : Exchange) (k : ℕ) → k < copies x → 4096 * (k / 3) < longest x
 in_contents x k lt = omega (arith, lt, mul-div-le k 3, mul-div-le (longest x + 4095) 4096)
 
@@ -273,7 +273,7 @@ none x image fits = (
   range_of (second_byte x 0 image) image x.first x.first_length (omega (arith, fits.first)) (λ i lt. second_left x 0 image i (omega arith)),
 )
 
--- each piece is copied
+-- each piece is copied in the end
 past : (x : Exchange) (i : ℕ) → i < longest x → i / 4096 < (longest x + 4095) / 4096
 past x i lt =
     let below : longest x + 4095 < 4096 * ((longest x + 4095) / 4096 + 1) = lt-mul-div-succ (longest x + 4095) (omega arith) in

@@ -1,4 +1,4 @@
--- A copy on a disk.
+-- Making a copy on a disk.
 use Rattle.std.proofs.Common.{◌≡◌, inl, inr, ⊎_elim, ◌<◌, ◌≤◌, ℕ, zero, suc, ◌+◌, ◌*◌, ◌/◌, ◌%◌, List, length, take, get_or, sym, ◌∙◌, ap, subst, arith}
 use Rattle.std.specs.List.{slice_range}
 use Rattle.std.proofs.lemmas.List.{length-take-le}
@@ -67,7 +67,7 @@ pub kept_areas : (x : Exchange) (k : ℕ) (a b : Flash) → k < copies x → Kee
 kept_areas x k a b lt kept =
     keeps_fewer (OutsideEach (areas x)) (Outside (copy_to x k) (copy_size x k)) (λ i out. out_by x (k / 3) (in_contents x k lt) i out (k % 3) (step_of k)) a b kept
 
--- the copy and its range by the numbers that the code computes
+-- the copy and its range, in the numbers that the code computes
 pub as_copy : (x : Exchange) (k from to n : ℕ) (old new : List ℕ) → from ≡ copy_from x k → to ≡ copy_to x k → n ≡ copy_size x k → IsCopy from to n old new
     → IsCopy (copy_from x k) (copy_to x k) (copy_size x k) old new
 as_copy x k from to n old new from-is to-is n-is copy =

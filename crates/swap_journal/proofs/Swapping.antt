@@ -1,4 +1,4 @@
--- A swap: where its bytes stand, what its page tells, and what an image holds while it is made.
+-- A swap: where its bytes are, what its page records, and what an image holds while it is carried out.
 use Rattle.std.proofs.Common.{◌≡◌, inl, inr, ⊎_elim, ◌⊎◌, ◌<◌, ◌≤◌, ℕ, ◌+◌, ◌-◌, ◌^◌, ◌==◌, true, false, List, [], ◌++◌, length, get_or, take, replicate, refl, sym, ◌∙◌, ap, subst, append_assoc, arith}
 use Rattle.std.specs.Int.{w64, from_be_bytes, to_be_bytes}
 use Rattle.std.specs.List.{slice_range}
@@ -178,14 +178,14 @@ module _ (journal : Journal) (size : ℕ) (swap : Swap) (is : IsJournal journal 
 
   -- ---- what is left alone
 
-  -- places that hold the page, both contents and the scratch
+  -- the places that contain the page, both contents and the scratch
   record Holds (K : ℕ → Type 0) : Type 0 where
     pub page : (i : ℕ) → journal.page ≤ i → i < journal.page + 89 → K i
     pub first : (i : ℕ) → i < longest x → K (x.first + i)
     pub second : (i : ℕ) → i < longest x → K (x.second + i)
     pub scratch : (i : ℕ) → i < 4096 → K (x.scratch + i)
 
-  -- the lengths stand beside them
+  -- the lengths are not among them
   beside_lengths : Holds (OutsideEach (length_fields swap.first swap.second))
   beside_lengths = record {
     page = λ i low high. (
@@ -206,7 +206,7 @@ module _ (journal : Journal) (size : ℕ) (swap : Swap) (is : IsJournal journal 
     );
   }
 
-  -- the page tells what it told where the bytes up to its entries are left alone
+  -- the page records the same if the bytes before its entries are left alone
   told_same : (K : ℕ → Type 0) (a image : List ℕ) → length a ≡ size → SameOn K a image → ((i : ℕ) → journal.page ≤ i → i < journal.page + 57 → K i) → IsNoted journal swap a → IsNoted journal swap image
   told_same K a image long same at noted = record {
     opened = same.same journal.page (at journal.page (omega arith) (omega arith)) ∙ noted.opened;
@@ -226,13 +226,13 @@ module _ (journal : Journal) (size : ℕ) (swap : Swap) (is : IsJournal journal 
   -- ---- while the page is opened
 
   module _ (start : Flash) (law : IsFlash start size) (holds : HoldsContents swap start) (typed : IsTyped swap) where
-    -- the page that tells of the swap shares no byte with the slots
+    -- the page that records the swap shares no byte with the slots
     beside_page : (n : ℕ) → n ≤ 88 → (slot : Slot) → AreClear slot.start (extent_of slot) journal.page 89 → (i : ℕ) → slot.start ≤ i → i < slot.start + extent_of slot
         → OutsideEach (page_at journal.page (journal.page + 1) n) i
     beside_page n few slot apart i low high =
         ⊎_elim (λ h. (inl (omega (arith, h, high)), (inl (omega (arith, h, high)), tt))) (λ h. (inr (omega (arith, h, low)), (inr (omega (arith, h, low, few)), tt))) (clear slot.start (extent_of slot) journal.page 89 apart)
 
-    -- each content is whole where its slot stands as at the start
+    -- each content is whole if its slot is as it was at the start
     first_whole : (image : List ℕ) → length image ≡ size → slot_content swap.first image ≡ slot_content swap.first start.reads
         → slice_range image (swap.first.start + 8) (swap.first.start + 8 + swap.first_length) ≡ slot_content swap.first start.reads
     first_whole image long same =
@@ -287,7 +287,7 @@ module _ (journal : Journal) (size : ℕ) (swap : Swap) (is : IsJournal journal 
 
   -- ---- while the swap goes on
 
-  -- what a swap that goes on is to give
+  -- the contents that a swap in progress will give
   pub still_exchanged : (old a image : List ℕ) → IsExchanged journal swap old a → GoesOn journal swap a image → IsExchanged journal swap old image
   still_exchanged old a image first goes = record { noted = goes.noted; first = goes.recovers.first ∙ first.first; second = goes.recovers.second ∙ first.second }
 
@@ -343,7 +343,7 @@ module _ (journal : Journal) (size : ℕ) (swap : Swap) (is : IsJournal journal 
       joined a b c (GoesOn journal swap a.reads) pass
       (weakens b c (ImageOn (OutsideEach (length_fields swap.first swap.second)) b) (GoesOn journal swap a.reads) (λ image on. goes_on_then a.reads b.reads image now (lengths_image b law settled now.noted image on)) kept.images)
 
-  -- both slots are emptied behind the page that was opened
+  -- both slots are emptied after the page was opened
   pub emptying : (a b c : Flash) → IsFlash b size → IsSettled b → IsExchanged journal swap a.reads b.reads → Passes a b (IsUntouchedOrExchanged journal swap a.reads) → Keeps (OutsideEach (length_fields swap.first swap.second)) b c
       → Passes a c (IsUntouchedOrExchanged journal swap a.reads)
   emptying a b c law settled now pass kept =
@@ -364,7 +364,7 @@ module _ (journal : Journal) (size : ℕ) (swap : Swap) (is : IsJournal journal 
             omega (arith, gives.lower, number_same K b.reads c.reads (journal.page + 64) same (omega (arith, law.fits, is.page)) (λ i l h. beside_lengths.page i (omega (arith, l)) (omega (arith, h))));
       }
 
-  -- the rest of the swap, behind its beginning
+  -- the rest of the swap, after its beginning
   pub concluding : (a b c : Flash) → IsExchanged journal swap a.reads b.reads → Passes a b (IsUntouchedOrExchanged journal swap a.reads) → Passes b c (GoesOn journal swap b.reads) → Passes a c (IsUntouchedOrExchanged journal swap a.reads)
   concluding a b c now pass goes =
       joined a b c (IsUntouchedOrExchanged journal swap a.reads) pass
@@ -404,7 +404,7 @@ first_kept first second n a b is kept = keeps_fewer (OutsideEach (length_fields 
 pub second_kept : (first second : Slot) (n : ℕ) (a b : Flash) → n ≡ 8 → Keeps (Outside second.start n) a b → Keeps (OutsideEach (length_fields first second)) a b
 second_kept first second n a b is kept = keeps_fewer (OutsideEach (length_fields first second)) (Outside second.start n) (λ i out. subst (λ (k : ℕ). Outside second.start k i) (sym is) out.1.0) a b kept
 
--- the length that was written there
+-- the length that was written is read back
 stored_there : (place n : ℕ) (old image bytes : List ℕ) → bytes ≡ to_be_bytes w64 n → n < 2 ^ 64 → place + 8 ≤ length old → image ≡ written old place bytes → n ≡ from_be_bytes w64 (slice_range image place (place + 8))
 stored_there place n old image bytes is small fits wrote =
     let now : image ≡ written old place (to_be_bytes w64 n) = wrote ∙ ap (written old place) is in
@@ -426,7 +426,7 @@ first_stored first second m n a b c x y x_is y_is small fits second_fits apart w
     (λ i low high. same.same i (⊎_elim (λ h. inl (omega (arith, h, high))) (λ h. inr (omega (arith, h, low, eight))) (clear first.start (extent_of first) second.start (extent_of second) apart))) in
     stored_there first.start m a b x x_is small (omega (arith, fits)) wrote ∙ ap (from_be_bytes w64) (sym kept)
 
--- the page that was opened tells of no copy
+-- a new page says that no copy has been made
 pub new_page_gives : (journal : Journal) (swap : Swap) → IsTyped swap → (body old image : List ℕ) → body ≡ swap_body swap → length body ≡ 88 → IsNewPage journal.page (journal.page + 1) body old image → GivesProgress image journal.page First 0
 new_page_gives journal swap typed body old image is_body long_body new =
     let end : journal.page + 1 + length body ≡ journal.page + 89 = omega (arith, long_body) in

@@ -1,4 +1,4 @@
--- A copy, and the progress after it.
+-- A copy, and recording the progress after it.
 use Rattle.std.proofs.Common.{◌≡◌, inl, inr, ⊎_elim, ◌⊎◌, ◌<◌, ◌≤◌, ℕ, ◌+◌, ◌%◌, ◌^◌, ◌==◌, max, false, List, ◌++◌, length, get_or, refl, sym, ◌∙◌, ap, subst, arith}
 use Rattle.std.specs.Int.{w64, from_be_bytes, to_be_bytes}
 use Rattle.std.specs.List.{slice_range}
@@ -28,7 +28,7 @@ both_pass a b P Q p q = record {
   before = λ t image le may. ⊎_elim (λ was. inl was) (λ has. ⊎_elim (λ was. inl was) (λ more. inr (has, more)) (q.before t image le may)) (p.before t image le may);
 }
 
--- of a settled start, places that are left alone read as they did
+-- if nothing is pending at the start, places that are left alone read as before
 pub settled_on : (K : ℕ → Type 0) (a : Flash) (image : List ℕ) → IsSettled a → ImageOn K a image → SameOn K a.reads image
 settled_on K a image settled on = subst (λ (l : List ℕ). SameOn K l image) (settled on.from on.was) on.same
 
@@ -61,7 +61,7 @@ same_areas x k K old image same at_first at_second at_scratch = whole x k k old 
 recovers_then : (x : Exchange) (k l m : ℕ) (a b c : List ℕ) → RecoversSame x k a l b → RecoversSame x l b m c → RecoversSame x k a m c
 recovers_then x k l m a b c first second = record { first = second.first ∙ first.first; second = second.second ∙ first.second }
 
--- ---- the page beside the areas
+-- ---- the page is outside the areas
 
 on_page : (x : Exchange) (page : ℕ) → IsPageApart x page → (i : ℕ) → page + 64 ≤ i → i < page + 89 → OutsideEach (areas x) i
 on_page x page apart i low high = (
@@ -78,12 +78,12 @@ progress_same x page old image apart fits same =
     let second : number_at image (page + 80) ≡ number_at old (page + 80) = number_same (OutsideEach (areas x)) old image (page + 80) same (omega arith) (λ i low high. on_page x page apart i (omega (arith, low)) (omega (arith, high))) in
     rw (first, second) refl
 
--- the progress that the entry beside the spare one gives
+-- the progress that the entry other than the spare one gives
 pub progress_given : (image : List ℕ) (page : ℕ) (spare : Entry) (k : ℕ) → GivesProgress image page spare k → progress_at image page ≡ k
 progress_given image page First k gives = omega (arith, gives.number, gives.lower)
 progress_given image page Second k gives = omega (arith, gives.number, gives.lower)
 
--- the progress of both numbers
+-- the progress is the higher of both numbers
 progress_of : (image : List ℕ) (page : ℕ) (spare : Entry) → progress_at image page ≡ max (number_at image (entry_gate page (other_entry spare))) (number_at image (entry_gate page spare))
 progress_of image page First = omega arith
 progress_of image page Second = omega arith
@@ -106,7 +106,7 @@ module _ (x : Exchange) (page : ℕ) (spare : Entry) (k : ℕ) (a : Flash) (size
       weakens a b (λ image. RecoversSame x k a.reads k image × ImageOn (OutsideEach (areas x)) a image) (RecoversNow x page a.reads) copying_image
       (both_pass a b (RecoversSame x k a.reads k) (ImageOn (OutsideEach (areas x)) a) same kept.images)
 
-  -- the copy leaves the progress
+  -- the copy leaves the progress alone
   pub still_gives : (b : Flash) → Keeps (OutsideEach (areas x)) a b → GivesProgress b.reads page spare k
   still_gives b kept = record {
     number = same_number (other_entry spare) ∙ gives.number;
@@ -230,7 +230,7 @@ next_fits x k size lt fits small = omega (arith, lt, mul-div-le (longest x + 409
 
 -- ---- turn after turn
 
--- one turn more
+-- one more turn
 pub one_turn : (x : Exchange) (page : ℕ) (a b c : Flash) (size : ℕ) → IsFlash b size → Passes a b (RecoversNow x page a.reads) → Passes b c (RecoversNow x page b.reads)
     → Passes a c (RecoversNow x page a.reads)
 one_turn x page a b c size law first second =

@@ -1,4 +1,4 @@
-//! A copy, and the progress after it.
+//! Making a copy, and recording the progress after it.
 
 ghost use Rattle.std.specs.Prelude.{◌≡◌, ◌<◌, ◌≤◌, ◌+◌, ◌++◌, IsTrue};
 ghost use Rattle.suit_edge.specs.Edge.{IfDone};
@@ -11,9 +11,9 @@ ghost use Rattle.swap_journal.specs.Progress.{GivesProgress, IsPageApart, Recove
 use crate::{Entry, Exchange, make_copy};
 use suit_edge::{Disk, Edge, write_gated};
 
-/// Makes the copy of this number, and then writes into the spare entry of the page that it is made. At any moment, and also
-/// where it fails, a power loss leaves an image of which the same contents are recovered by the progress that its page
-/// gives.
+/// Makes the copy with this number, then records it as made in the spare entry of the page. At any
+/// moment, even after a failure, a power loss leaves an image from which the same contents are
+/// recovered, by the progress that its page gives.
 pub fn advance<D: Disk>(
     disk: &mut D,
     exchange: &Exchange,
@@ -43,7 +43,7 @@ pub fn advance<D: Disk>(
         (D.flash disk.new) }
     ensures grows { IsTrue D.told → Grows (D.flash disk.old) (D.flash disk.new) }
 {
-    // Each place fits a u64, since the size does.
+    // The size fits a `u64`, and so does each place. The proof learns it here.
     let _size = disk.size();
     match make_copy(disk, exchange, copy, room) {
         Edge::Failed => return Edge::Failed,

@@ -1,4 +1,4 @@
-//! A swap that was cut off, and its end.
+//! Completing a swap that was interrupted.
 
 ghost use Rattle.flash_layout.specs.FaultCounts.{ResultCounts};
 ghost use Rattle.std.specs.Prelude.{◌≡◌, ◌↔◌, ◌+◌, ◌≤◌, IfOk, IfSome, IsTrue, MatchOption, OnOk};
@@ -13,7 +13,7 @@ use crate::{Journal, Swap, read_progress};
 use flash_layout::{FlashFault, Slot};
 use suit_edge::{Disk, Edge, OPEN, close_gate};
 
-// Whether these are two distinct slots of the list, with room for each content in both.
+// Whether the swap is between two distinct slots of the list, with room for both contents in each.
 fn is_among(slots: &[Slot], swap: &Swap) -> bool
     ensures { IsTrue result ↔ IsAmong slots.now swap.now }
 {
@@ -23,7 +23,7 @@ fn is_among(slots: &[Slot], swap: &Swap) -> bool
         && swap.has_room()
 }
 
-// The swap that the page tells of. None where its gate is closed.
+// Reads the swap that the page records, or `None` if its gate is closed.
 fn read_open<D: Disk>(disk: &mut D, page: u64) -> Result<Option<Swap>, FlashFault>
     requires { page + 57 ≤ D.extent disk.old }
     ensures size { D.extent disk.new ≡ D.extent disk.old }
@@ -35,7 +35,7 @@ fn read_open<D: Disk>(disk: &mut D, page: u64) -> Result<Option<Swap>, FlashFaul
     ensures same { IsTrue D.told → IsSame (D.flash disk.old) (D.flash disk.new) }
     ensures grows { IsTrue D.told → Grows (D.flash disk.old) (D.flash disk.new) }
 {
-    // Each place fits a u64, since the size does.
+    // The size fits a `u64`, and so does each place. The proof learns it here.
     let _size = disk.size();
     let mut gate = [0u8; 1];
     match disk.read_at(page, &mut gate) {
@@ -52,9 +52,10 @@ fn read_open<D: Disk>(disk: &mut D, page: u64) -> Result<Option<Swap>, FlashFaul
     }
 }
 
-/// Makes the rest of the swap that stands open, of two distinct slots of the list, and gives its tag. None where none
-/// stands open. At any moment, and also where it fails, a power loss leaves an image of the start, or one of which the call
-/// makes the same contents.
+/// Completes the swap that is open, if it is between two distinct slots of the list with room for
+/// both contents in each, and returns its tag. Returns `None` if no such swap is open. At any
+/// moment, even after a failure, a power loss leaves an image of the start, or one from which the
+/// call makes the same contents.
 pub fn complete<D: Disk>(
     disk: &mut D,
     journal: &Journal,
@@ -102,7 +103,7 @@ pub fn complete<D: Disk>(
     }
 }
 
-/// Closes the page, so that no swap stands open, and syncs all that is pending.
+/// Closes the page, so that no swap is open, and syncs everything that is pending.
 pub fn close<D: Disk>(disk: &mut D, journal: &Journal) -> Result<(), FlashFault>
     requires { journal.now.page + 1 ≤ D.extent disk.old }
     ensures size { D.extent disk.new ≡ D.extent disk.old }

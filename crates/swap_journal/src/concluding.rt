@@ -12,8 +12,8 @@ use crate::lengths::set_lengths;
 use crate::{Journal, Progress, Swap, finish};
 use suit_edge::{Disk, Edge};
 
-/// Makes the copies that are left, and then stores the lengths. At any moment, and also where it fails, the page tells of the
-/// swap, which is to give the same contents.
+/// Makes the copies that are left, then stores the lengths. At any moment, even after a failure,
+/// the page records the swap, which still leads to the same contents.
 pub(crate) fn conclude<D: Disk>(
     disk: &mut D,
     journal: &Journal,
@@ -42,7 +42,7 @@ pub(crate) fn conclude<D: Disk>(
         (D.flash disk.old) (D.flash disk.new) }
     ensures grows { IsTrue D.told → Grows (D.flash disk.old) (D.flash disk.new) }
 {
-    // Each place fits a u64, since the size does.
+    // The size fits a `u64`, and so does each place. The proof learns it here.
     let _size = disk.size();
     let exchange = swap.exchange(journal);
     match finish(disk, &exchange, journal.page, progress, room) {

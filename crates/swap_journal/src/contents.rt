@@ -1,12 +1,13 @@
-//! Two contents that change places.
+//! Two contents that are exchanged.
 
 ghost use Rattle.std.specs.Prelude.{◌≡◌, ◌<◌, ◌≤◌, ◌+◌, ◌^◌};
 ghost use Rattle.swap_journal.specs.Exchanges.{copies, copy_from, copy_size, copy_to, longest};
 
-/// How many bytes are copied at once, and the size of the scratch.
+/// How many bytes are copied at once. The scratch has this size too.
 pub const PIECE: u64 = 4096;
 
-/// Two contents that change places, and the scratch through which their pieces go. Places and lengths are in bytes.
+/// Two contents that are exchanged, and the scratch that their pieces go through. Places and
+/// lengths are in bytes.
 #[derive(Clone, Copy, Debug, PartialEq, Eq)]
 pub struct Exchange {
     pub first: u64,
@@ -17,21 +18,21 @@ pub struct Exchange {
 }
 
 impl Exchange {
-    // How many bytes of both places are exchanged: as many as the longer content has.
+    // How many bytes are exchanged at each place: the length of the longer content.
     fn longest(&self) -> u64
         ensures { result ≡ longest self.now }
     {
         self.first_length.max(self.second_length)
     }
 
-    /// The number of copies: three for each piece, of which the last one may be short.
+    /// The number of copies: three for each piece, the last of which may be short.
     pub fn copies(&self) -> u64
         ensures { result ≡ copies self.now }
     {
         3 * self.longest().div_ceil(PIECE)
     }
 
-    // Where a copy reads.
+    // The place that a copy reads from.
     pub(crate) fn copy_from(&self, copy: u64) -> u64
         requires { copy_from self.now copy < 2 ^ 64 }
         ensures { result ≡ copy_from self.now copy }
@@ -43,7 +44,7 @@ impl Exchange {
         }
     }
 
-    // Where a copy writes.
+    // The place that a copy writes to.
     pub(crate) fn copy_to(&self, copy: u64) -> u64
         requires { copy_to self.now copy < 2 ^ 64 }
         ensures { result ≡ copy_to self.now copy }
@@ -55,7 +56,7 @@ impl Exchange {
         }
     }
 
-    // How many bytes a copy takes.
+    // The number of bytes that a copy moves.
     pub(crate) fn copy_size(&self, copy: u64) -> u64
         requires { copy < copies self.now }
         ensures { result ≡ copy_size self.now copy }

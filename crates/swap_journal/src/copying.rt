@@ -1,4 +1,4 @@
-//! The copies of an exchange on a disk.
+//! Making the copies of an exchange on a disk.
 
 ghost use Rattle.std.specs.Prelude.{◌≡◌, ◌<◌, ◌≤◌, ◌+◌, length, IsTrue};
 ghost use Rattle.suit_edge.specs.Edge.{IfDone};
@@ -10,7 +10,7 @@ ghost use Rattle.swap_journal.specs.Exchanges.{AreApart, FitsDisk, IsCopy, Recov
 use crate::Exchange;
 use suit_edge::{Disk, Edge, write_and_sync};
 
-// Copies as many bytes as the room has, and syncs them.
+// Copies as many bytes as `room` has, and syncs them.
 fn copy_range<D: Disk>(disk: &mut D, from: u64, to: u64, room: &mut [u8]) -> Edge
     requires from { from + length room.old ≤ D.extent disk.old }
     requires to { to + length room.old ≤ D.extent disk.old }
@@ -31,8 +31,9 @@ fn copy_range<D: Disk>(disk: &mut D, from: u64, to: u64, room: &mut [u8]) -> Edg
     write_and_sync(disk, to, room)
 }
 
-/// Makes the copy of this number, and syncs it. At any moment, and also where it fails, a power loss leaves an image of
-/// which the same contents are recovered by this copy and those after it; where it is done, by those after it.
+/// Makes the copy with this number, and syncs it. At any moment, even after a failure, a power loss
+/// leaves an image from which the same contents are recovered by this copy and those after it; once
+/// the call is done, by those after it.
 pub fn make_copy<D: Disk>(
     disk: &mut D,
     exchange: &Exchange,
@@ -57,7 +58,7 @@ pub fn make_copy<D: Disk>(
         → Keeps (OutsideEach (areas exchange.now)) (D.flash disk.old) (D.flash disk.new) }
     ensures grows { IsTrue D.told → Grows (D.flash disk.old) (D.flash disk.new) }
 {
-    // Each place fits a u64, since the size does.
+    // The size fits a `u64`, and so does each place. The proof learns it here.
     let _size = disk.size();
     let size = exchange.copy_size(copy) as usize;
     copy_range(

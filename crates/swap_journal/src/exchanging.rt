@@ -1,4 +1,4 @@
-//! A swap, from its first byte on.
+//! A swap, from its beginning.
 
 ghost use Rattle.flash_layout.specs.FaultCounts.{ResultCounts};
 ghost use Rattle.flash_layout.specs.Slots.{slot_content};
@@ -19,7 +19,7 @@ use crate::{Entry, Journal, Progress, Swap};
 use flash_layout::FlashFault;
 use suit_edge::{Disk, Edge, open_written};
 
-// Notes the swap in the page, and then empties both slots.
+// Records the swap in the page, then empties both slots.
 fn begin<D: Disk>(disk: &mut D, journal: &Journal, swap: &Swap) -> Edge
     requires journal { IsJournal journal.now (D.extent disk.old) }
     requires slots { ArePlaced journal.now (D.extent disk.old) swap.now.first swap.now.second }
@@ -43,7 +43,7 @@ fn begin<D: Disk>(disk: &mut D, journal: &Journal, swap: &Swap) -> Edge
         (D.flash disk.old) (D.flash disk.new) }
     ensures grows { IsTrue D.told → Grows (D.flash disk.old) (D.flash disk.new) }
 {
-    // Each place fits a u64, since the size does.
+    // The size fits a `u64`, and so does each place. The proof learns it here.
     let _size = disk.size();
     let page = spell(swap);
     match open_written(disk, journal.page, journal.page + 1, page.as_slice()) {
@@ -56,8 +56,9 @@ fn begin<D: Disk>(disk: &mut D, journal: &Journal, swap: &Swap) -> Edge
     }
 }
 
-/// Exchanges the contents of two slots, through a page that tells of it and stays open. At any moment, and also where it
-/// fails, the page is closed and both contents are the old ones, or `complete` makes the rest of the swap.
+/// Exchanges the contents of two slots. The page records the swap, and stays open. At any moment,
+/// even after a failure, either the page is closed and both contents are the old ones, or
+/// `complete` does the rest of the swap.
 pub fn exchange<D: Disk>(
     disk: &mut D,
     journal: &Journal,

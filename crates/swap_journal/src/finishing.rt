@@ -1,4 +1,4 @@
-//! The copies that are left of an exchange.
+//! The copies of an exchange that are left.
 
 ghost use Rattle.std.specs.Prelude.{◌≡◌, ◌≤◌, ◌+◌, ◌++◌, IsTrue};
 ghost use Rattle.suit_edge.specs.Edge.{IfDone};
@@ -11,8 +11,9 @@ ghost use Rattle.swap_journal.specs.Progress.{GivesProgress, IsPageApart, Recove
 use crate::{Exchange, Progress, advance};
 use suit_edge::{Disk, Edge};
 
-/// Makes the copies that are left, and notes each in the page. At any moment, and also where it fails, a power loss leaves an
-/// image of which the same contents are recovered by the progress that its page gives, so that the call can be made again.
+/// Makes the copies that are left, and records each in the page. At any moment, even after a
+/// failure, a power loss leaves an image from which the same contents are recovered, by the
+/// progress that its page gives; so the call can be repeated.
 pub fn finish<D: Disk>(
     disk: &mut D,
     exchange: &Exchange,

@@ -12,7 +12,7 @@ ghost use Rattle.swap_journal.specs.Swaps.{IsStored, length_fields};
 use flash_layout::Slot;
 use suit_edge::{Disk, Edge, write_and_sync};
 
-/// Writes the lengths of both contents, and syncs all that is pending.
+/// Writes the lengths of both contents, and syncs everything that is pending.
 pub(crate) fn set_lengths<D: Disk>(
     disk: &mut D,
     first: Slot,

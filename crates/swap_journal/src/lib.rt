@@ -1,5 +1,5 @@
-//! Two contents of a disk change places by copies, so that a power loss at any moment loses neither. The gate of the
-//! page that tells of a swap is opened first, and stays open until it is closed.
+//! Exchanges two contents of a disk by copies, so that a power loss at any moment loses neither.
+//! The page that records a swap is opened first, and stays open until it is closed.
 #![tactic(auto)]
 
 mod advancing;

@@ -1,9 +1,10 @@
-//! How far an exchange is, in two entries of a page of which one is written while the other stands.
+//! The progress of an exchange: two entries of a page, one of which is written while the other
+//! stays valid.
 
 ghost use Rattle.std.specs.Prelude.{◌≡◌, ◌<◌, ◌^◌};
 ghost use Rattle.swap_journal.specs.Progress.{entry_gate, other_entry};
 
-/// An entry of the page: a gate and a number of 8 bytes.
+/// An entry of the page: a gate, and a number in 8 bytes.
 #[derive(Clone, Copy, Debug, PartialEq, Eq)]
 pub enum Entry {
     First,
@@ -11,7 +12,7 @@ pub enum Entry {
 }
 
 impl Entry {
-    /// The place of its gate, on the page at that place.
+    /// The place of the entry's gate, given that of the page.
     pub fn gate(self, page: u64) -> u64
         requires { entry_gate page self < 2 ^ 64 }
         ensures { result ≡ entry_gate page self }
@@ -22,7 +23,7 @@ impl Entry {
         }
     }
 
-    /// The other one.
+    /// The other entry.
     pub fn other(self) -> Entry
         ensures { result ≡ other_entry self }
     {
@@ -33,7 +34,7 @@ impl Entry {
     }
 }
 
-/// How many copies are made, and the entry that does not say so.
+/// How many copies have been made, and the entry that does not say so.
 #[derive(Clone, Copy, Debug, PartialEq, Eq)]
 pub struct Progress {
     pub made: u64,

@@ -1,4 +1,4 @@
-//! Reading how far an exchange is.
+//! Reading the progress of an exchange.
 
 ghost use Rattle.std.specs.Prelude.{◌≡◌, ◌≤◌, ◌+◌, ◌++◌, IfSome, IsTrue, MatchOption};
 ghost use Rattle.suit_edge.specs.Edge.{IfDone};
@@ -11,7 +11,8 @@ ghost use Rattle.swap_journal.specs.Progress.{GivesProgress, IsPageApart, Stands
 use crate::{Entry, Exchange, Progress, finish};
 use suit_edge::{Disk, Edge, OPEN};
 
-// The number of the entry with this gate, and 0 where the gate is closed. None where a read fails.
+// Reads the number of the entry with this gate, which is 0 if the gate is closed. `None` if a read
+// fails.
 fn read_number<D: Disk>(disk: &mut D, gate: u64) -> Option<u64>
     requires { gate + 9 ≤ D.extent disk.old }
     ensures size { D.extent disk.new ≡ D.extent disk.old }
@@ -22,7 +23,7 @@ fn read_number<D: Disk>(disk: &mut D, gate: u64) -> Option<u64>
     ensures same { IsTrue D.told → IsSame (D.flash disk.old) (D.flash disk.new) }
     ensures grows { IsTrue D.told → Grows (D.flash disk.old) (D.flash disk.new) }
 {
-    // Each place fits a u64, since the size does.
+    // The size fits a `u64`, and so does each place. The proof learns it here.
     let _size = disk.size();
     let mut byte = [0u8; 1];
     match disk.read_at(gate, &mut byte) {
@@ -39,7 +40,7 @@ fn read_number<D: Disk>(disk: &mut D, gate: u64) -> Option<u64>
     }
 }
 
-/// How many copies the page says are made. None where a read fails.
+/// Reads how many copies the page says have been made. `None` if a read fails.
 pub fn read_progress<D: Disk>(disk: &mut D, page: u64) -> Option<Progress>
     requires { page + 89 ≤ D.extent disk.old }
     ensures size { D.extent disk.new ≡ D.extent disk.old }
@@ -50,7 +51,7 @@ pub fn read_progress<D: Disk>(disk: &mut D, page: u64) -> Option<Progress>
     ensures same { IsTrue D.told → IsSame (D.flash disk.old) (D.flash disk.new) }
     ensures grows { IsTrue D.told → Grows (D.flash disk.old) (D.flash disk.new) }
 {
-    // Each place fits a u64, since the size does.
+    // The size fits a `u64`, and so does each place. The proof learns it here.
     let _size = disk.size();
     let first = read_number(disk, Entry::First.gate(page))?;
     let second = read_number(disk, Entry::Second.gate(page))?;
@@ -66,8 +67,9 @@ pub fn read_progress<D: Disk>(disk: &mut D, page: u64) -> Option<Progress>
     })
 }
 
-/// Syncs, and makes the copies that are left. At any moment, and also where it fails, a power loss leaves an image of the
-/// start, or one of which the same contents are recovered as from what the disk read then.
+/// Syncs, then makes the copies that are left. At any moment, even after a failure, a power loss
+/// leaves an image of the start, or one from which the same contents are recovered as from what the
+/// disk read at the start.
 pub fn resume<D: Disk>(disk: &mut D, exchange: &Exchange, page: u64, room: &mut [u8; 4096]) -> Edge
     requires apart { AreApart exchange.now }
     requires page { IsPageApart exchange.now page }

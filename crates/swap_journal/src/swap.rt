@@ -1,4 +1,4 @@
-//! A swap of two slots, and the page that tells of it.
+//! A swap of two slots, and the page that records it.
 
 ghost use Rattle.std.specs.Prelude.{◌≡◌, ◌↔◌, ◌<◌, ◌≤◌, ◌+◌, ◌^◌, ◌++◌, IsTrue, length};
 ghost use Rattle.swap_journal.specs.Swaps.{HasRoom, IsTyped, exchange_of, lengths_field, slot_field, swap_body, swap_of};
@@ -6,20 +6,23 @@ ghost use Rattle.swap_journal.specs.Swaps.{HasRoom, IsTyped, exchange_of, length
 use crate::Exchange;
 use flash_layout::{LENGTH_SIZE, Page, Slot, in_range, read_number};
 
-/// The bytes behind the page's gate: those that tell of the swap, and the entries on its progress.
+/// The size of the page after its gate, in bytes: the record of the swap, and the entries for its
+/// progress.
 pub(crate) const BODY_BYTES: usize = 88;
 
-/// The bytes that tell of the swap.
+/// The size of the record of a swap, in bytes.
 pub(crate) const FIELD_BYTES: usize = 56;
 
-/// Where the page and the scratch of swaps stand, in bytes. The page takes 89 bytes and the scratch 4,096.
+/// The places of the page and of the scratch, in bytes. The page takes 89 bytes, and the scratch
+/// 4,096.
 #[derive(Clone, Copy, Debug, PartialEq, Eq)]
 pub struct Journal {
     pub page: u64,
     pub scratch: u64,
 }
 
-/// Two slots whose contents change places, the lengths of the contents before that, in bytes, and the caller's tag.
+/// Two slots whose contents are exchanged, the lengths of the contents before that in bytes, and
+/// the caller's tag.
 #[derive(Clone, Copy, Debug, PartialEq, Eq)]
 pub struct Swap {
     pub tag: u64,
@@ -30,7 +33,7 @@ pub struct Swap {
 }
 
 impl Swap {
-    // The bytes that change places.
+    // The bytes that are exchanged.
     pub(crate) fn exchange(&self, journal: &Journal) -> Exchange
         requires first { self.now.first.start + LENGTH_SIZE < 2 ^ 64 }
         requires second { self.now.second.start + LENGTH_SIZE < 2 ^ 64 }
@@ -45,7 +48,7 @@ impl Swap {
         }
     }
 
-    // Whether each content has room in both slots.
+    // Whether both contents fit into each of the slots.
     pub(crate) fn has_room(&self) -> bool
         ensures { IsTrue result ↔ HasRoom self.now }
     {
@@ -54,7 +57,7 @@ impl Swap {
     }
 }
 
-// Adds a slot.
+// Appends a slot.
 fn put_slot(page: &mut Page<BODY_BYTES>, slot: Slot)
     requires { length page.old + 16 ≤ BODY_BYTES }
     ensures bytes { page.new ≡ page.old ++ slot_field slot }
@@ -64,7 +67,7 @@ fn put_slot(page: &mut Page<BODY_BYTES>, slot: Slot)
     page.put_number(slot.capacity);
 }
 
-// Adds the lengths.
+// Appends the lengths.
 fn put_lengths(page: &mut Page<BODY_BYTES>, swap: &Swap)
     requires { length page.old + 16 ≤ BODY_BYTES }
     ensures bytes { page.new ≡ page.old ++ lengths_field swap.now }
@@ -74,7 +77,7 @@ fn put_lengths(page: &mut Page<BODY_BYTES>, swap: &Swap)
     page.put_number(swap.second_length);
 }
 
-// The bounds that the types of a swap's fields set.
+// Tells the proof that the fields of a swap are in the ranges of their types.
 fn typed(swap: &Swap)
     ensures { IsTyped swap.now }
 {
@@ -87,7 +90,7 @@ fn typed(swap: &Swap)
     in_range(swap.second_length);
 }
 
-/// The bytes behind the gate of the page that tells of a swap.
+/// Writes the page that records a swap, without its gate.
 #[tactic(auto, unfolding(crate::specs::Swaps::swap_fields))]
 pub(crate) fn spell(swap: &Swap) -> Page<BODY_BYTES>
     ensures bytes { result ≡ swap_body swap.now }
@@ -104,7 +107,7 @@ pub(crate) fn spell(swap: &Swap) -> Page<BODY_BYTES>
     page
 }
 
-/// The swap that these bytes behind a gate tell of.
+/// Reads the swap from the bytes after a gate.
 pub(crate) fn read_swap(bytes: &[u8; FIELD_BYTES]) -> Swap
     ensures { result ≡ swap_of bytes.now }
 {

@@ -14,7 +14,7 @@ returns-in-Failed-clause-keeps g c t =
     subst (λ (l : List ℕ). Keeps (OutsideLengths l) (g.D.Disk.flash c.args.disk.now) (g.D.Disk.flash c.write_at.new.self)) c.slots_of-starts.ensures
     (slot_kept _ _ _ _ c.slots_of-starts.result.now c.loop-start.start-index (g.met.D.Disk.obeys c.loop-start.disk t) c.loop-start-test.true (c.loop-start.invariant.keeps t) (c.write_at.ensures.keeps t))
 
--- the length lies within the disk
+-- the length is inside the disk
 fits : (g : given.Over) (c : After-write_at g) → IsTrue g.D.Disk.told → get_or c.slots_of-starts.result.now c.loop-start.start-index 0 + 8 ≤ length (g.D.Disk.flash c.loop-start.disk).reads
 fits g c t =
     let law = g.met.D.Disk.obeys c.loop-start.disk t in

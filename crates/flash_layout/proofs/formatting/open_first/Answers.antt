@@ -11,7 +11,7 @@ use Rattle.flash_layout.proofs.formatting.open_first.Given as given
 use Rattle.flash_layout.proofs.formatting.open_first.Goals as goal
 use Rattle.flash_layout.proofs.formatting.open_first.Goals.{After-open_written}
 
--- the bytes behind the gate
+-- the bytes after the gate
 body_is : (g : given.Over) (c : After-open_written g) → c.behind_gate.result.now ≡ drop 1 (config_page c.args.frame c.args.layout.now c.args.key.now)
 body_is g c = c.behind_gate.ensures ∙ ap (drop 1) c.write_page-page.ensures.bytes
 

@@ -2,7 +2,7 @@ use Rattle.std.proofs.Common.{◌≡◌, ℕ, ◌<◌, ◌≤◌, List, length, 
 use Rattle.flash_layout.specs.Placement.{HasPlace}
 use Rattle.flash_layout.proofs.placing.places.Given as goal
 
--- those before have their places
+-- the components so far have their places
 abbrev pub invariant-loop-k : goal.invariant-loop-k
 invariant-loop-k l = record {
   each : (j : ℕ) → j < l.k → (d : List (List ℕ)) → HasPlace l.entries (get_or l.ids j d) (get_or l.layout_index j 0);

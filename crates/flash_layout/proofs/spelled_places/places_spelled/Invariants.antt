@@ -5,7 +5,7 @@ use Rattle.suit_params.specs.Identifiers.{identifier_items}
 use Rattle.flash_layout.specs.Placement.{HasPlace}
 use Rattle.flash_layout.proofs.spelled_places.places_spelled.Given as goal
 
--- those before have their places, and the others are left
+-- the components so far have their places, and the others are left
 abbrev pub invariant-loop-k : goal.invariant-loop-k
 invariant-loop-k l = record {
   left : (ids : List (List (List ℕ))) → l.fn.identifiers ≡ spell (ArrayOf (identifier_items ids))

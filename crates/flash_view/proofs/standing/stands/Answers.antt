@@ -5,7 +5,6 @@ use Rattle.std.specs.List.{slice_range}
 use Rattle.std.proofs.lemmas.List.{length-take-le, take_at}
 use Rattle.flash_view.proofs.standing.stands.Goals as goal
 
--- src/standing.rt:46:13
 pub returns-then-not-same-clause-stood : goal.returns-then-not-same-clause-stood
 returns-then-not-same-clause-stood g c t whole =
     let reads = (g.D.Disk.flash c.args.disk.now).reads in
@@ -19,7 +18,6 @@ returns-then-not-same-clause-stood g c t whole =
     let no = c.if-not-same.ensures.same.1 (here ∙ read ∙ each_piece reads c.args.bytes.now c.args.place c.loop-done.done c.min-count.result long within whole) in
     absurd cc
 
--- src/standing.rt:39:5
 pub loop-done-preserved : goal.loop-done-preserved
 loop-done-preserved g c = record {
   within = omega arith;

@@ -2,7 +2,7 @@ use Rattle.std.proofs.Common.{◌≡◌, ◌≤◌, ◌-◌, IsTrue, length, tak
 use Rattle.suit_edge.specs.Flash.{Grows, IsSame}
 use Rattle.flash_view.proofs.standing.stands.Given as goal
 
--- so far the disk reads the bytes
+-- so far, the disk holds the bytes
 abbrev pub invariant-loop-done : goal.invariant-loop-done
 invariant-loop-done g l = record {
   within : l.done ≤ length l.bytes;

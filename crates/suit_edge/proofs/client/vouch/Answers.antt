@@ -11,7 +11,7 @@ returns-in-Failed-clause-any_moment g c t =
     let kept = keeps_fewer (OutsideEach (bytes_at c.args.place (length c.args.bytes.now))) (Outside c.args.place (length c.args.bytes.now)) (λ i o. o.0) _ _ (c.keep_pieces.ensures.keeps t) in
     writing _ _ (bytes_at c.args.place (length c.args.bytes.now)) c.args.gate c.args.page c.args.body.now (g.met.D.Disk.obeys c.args.disk.now t) c.requires.gate c.requires.body c.requires.clear (c.requires.firm t) _ _ kept
 
--- the bytes, and then the page
+-- first the bytes are written, then the page
 pub returns-clause-any_moment : goal.returns-clause-any_moment
 returns-clause-any_moment g c t =
     let law_b = subst (IsFlash (g.D.Disk.flash c.keep_pieces.new.disk)) c.keep_pieces.ensures.size (g.met.D.Disk.obeys c.keep_pieces.new.disk t) in

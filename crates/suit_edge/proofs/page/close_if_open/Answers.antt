@@ -19,7 +19,7 @@ returns-clause-closes g c t =
     if_done_then c.write_at.result (end.reads ≡ written looked.reads q (CLOSED ∷ [])) (Closes q start.reads end.reads) (c.write_at.ensures.written t)
     (λ wrote. closes_open q start.reads end.reads (omega (arith, law.fits)) (sym gate ∙ c.if-byte.false) (wrote ∙ same))
 
--- a read, and then a write of the gate
+-- a read, then a write of the gate
 pub returns-clause-keeps : goal.returns-clause-keeps
 returns-clause-keeps g c t =
     keeps_then (Outside c.args.gate 1) _ _ _ _ (g.met.D.Disk.obeys c.read_at.new.self t)

@@ -15,7 +15,7 @@ returns-in-Failed-clause-any_moment g c t =
 pub returns-in-Failed-clause-keeps : goal.returns-in-Failed-clause-keeps
 returns-in-Failed-clause-keeps g c t = body_fewer c.args.gate c.args.place c.args.body.now _ _ (c.write_and_sync.ensures.keeps t)
 
--- the body, and then the gate
+-- first the body is written, then the gate
 pub returns-clause-any_moment : goal.returns-clause-any_moment
 returns-clause-any_moment g c t =
     let law_b = subst (IsFlash (g.D.Disk.flash c.write_and_sync.new.disk)) c.write_and_sync.ensures.size (g.met.D.Disk.obeys c.write_and_sync.new.disk t) in

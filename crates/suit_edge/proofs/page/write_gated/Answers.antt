@@ -10,7 +10,7 @@ pub returns-in-Failed-clause-any_moment : goal.returns-in-Failed-clause-any_mome
 returns-in-Failed-clause-any_moment g c t =
     gated_look _ _ c.args.gate c.args.place c.args.body.now (g.met.D.Disk.obeys c.args.disk.now t) c.requires.gate c.requires.body c.requires.apart (c.requires.firm t) _ (c.read_at.ensures.same t)
 
--- the look, and then the page
+-- first the gate is read, then the page is written
 pub returns-clause-any_moment : goal.returns-clause-any_moment
 returns-clause-any_moment g c t =
     let law_b = subst (IsFlash (g.D.Disk.flash c.read_at.new.self)) c.read_at.ensures.size (g.met.D.Disk.obeys c.read_at.new.self t) in

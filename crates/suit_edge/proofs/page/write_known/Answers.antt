@@ -10,7 +10,7 @@ pub returns-in-Failed-clause-any_moment : goal.returns-in-Failed-clause-any_mome
 returns-in-Failed-clause-any_moment g c t =
     gated_closing _ _ c.args.gate c.args.place c.args.body.now (g.met.D.Disk.obeys c.args.disk.now t) c.requires.gate c.requires.body c.requires.apart (c.requires.firm t) _ (c.shut_gate.ensures.any_moment t)
 
--- the closed gate, and then the page
+-- first the gate is closed, then the page is written
 pub returns-clause-any_moment : goal.returns-clause-any_moment
 returns-clause-any_moment g c t =
     let law_b = subst (IsFlash (g.D.Disk.flash c.shut_gate.new.disk)) c.shut_gate.ensures.size (g.met.D.Disk.obeys c.shut_gate.new.disk t) in

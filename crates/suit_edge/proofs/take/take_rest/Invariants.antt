@@ -1,7 +1,7 @@
 use Rattle.std.proofs.Common.{◌≡◌, ◌+◌, ◌-◌, ◌≤◌, ◌++◌, length, IsTrue}
 use Rattle.suit_edge.proofs.take.take_rest.Given as goal
 
--- the bytes taken so far stood in front of those that are left, and were pulled
+-- the bytes taken so far came before those that are left, and are counted as pulled
 abbrev pub invariant-loop-front : goal.invariant-loop-front
 invariant-loop-front g l =
     let h = g.H.Host in

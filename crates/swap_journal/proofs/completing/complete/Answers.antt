@@ -12,7 +12,7 @@ same : (g : given.Over) (c : After-read_progress g) → IsTrue g.D.Disk.told →
 same g c t =
     same_flash_then _ _ _ _ (g.met.D.Disk.obeys c.read_open.new.disk t) (same_flash_then _ _ _ _ (g.met.D.Disk.obeys c.sync.new.self t) (c.sync.ensures.same t) (c.read_open.ensures.same t)) (c.read_progress.ensures.same t)
 
--- what the page tells
+-- what the page records
 tells : (g : given.Over) (c : After-conclude g) → IsTrue g.D.Disk.told → swap_at (g.D.Disk.flash c.args.disk.now).reads c.args.journal.now.page ≡ c.in-Some.swap
 tells g c t =
     subst (λ (l : List ℕ). swap_at l c.args.journal.now.page ≡ c.in-Some.swap) (c.sync.ensures.same t).reads

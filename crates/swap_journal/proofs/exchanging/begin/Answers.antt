@@ -26,7 +26,7 @@ kept : (g : given.Over) (c : After-open_written g) → IsTrue g.D.Disk.told → 
 kept g c t =
     page_kept c.args.journal.now (g.D.Disk.extent c.args.disk.now) c.args.swap.now c.requires.journal c.requires.slots c.requires.room (length c.as_slice.result.now) (omega (arith, body_long g c)) _ _ (c.open_written.ensures.keeps t)
 
--- the page is open, and tells of the swap
+-- the page is open, and records the swap
 now : (g : given.Over) (c : After-set_lengths g) → IsTrue g.D.Disk.told → c.as_slice.result.now ≡ swap_body c.args.swap.now → length c.as_slice.result.now ≡ 88 → IsExchanged c.args.journal.now c.args.swap.now (g.D.Disk.flash c.args.disk.now).reads (g.D.Disk.flash c.open_written.new.disk).reads
 now g c t is long =
     opened_page c.args.journal.now (g.D.Disk.extent c.args.disk.now) c.args.swap.now c.requires.journal c.requires.slots c.requires.room (g.D.Disk.flash c.args.disk.now) (g.met.D.Disk.obeys c.args.disk.now t) (c.requires.contents t)

@@ -13,7 +13,7 @@ use Rattle.suit_edge.proofs.MemoryImages.{now_to}
 use Rattle.suit_edge.proofs.memory_disk.MemoryDisk.after_loss.Goals as goal
 use Rattle.suit_edge.proofs.memory_disk.MemoryDisk.after_loss.Goals.{After-keep}
 
--- the bytes that are kept are those that the choice leaves
+-- the bytes that were kept are those that the choice leaves
 left_of : (c : After-keep) → c.keep.new.bytes.items ≡ lost c.args.choice (moment_now c.args.self.now)
 left_of c =
     let begun : c.in_ok-bytes.bytes.items ≡ c.self.inside.settled.items = search rules in
