@@ -1,4 +1,4 @@
--- An item that is written is read.
+-- An item that is written is read back.
 use Rattle.std.proofs.Common.{◌≡◌, ℕ, zero, suc, ◌+◌, ◌-◌, ◌^◌, ◌<◌, ◌≤◌, ◌==◌, true, false, List, [], ◌∷◌, ◌++◌, length, Option, Some, None, refl, sym, ap, subst, ◌∙◌, append_assoc, arith}
 use Rattle.std.specs.Prelude.{codes, decimal, nat_lt, nat_le}
 use Rattle.std.proofs.lemmas.Bool.{and_parts, ne_eqb, leb-true, lt-ltb, le-leb}
@@ -33,7 +33,7 @@ no_open (b ∷ rest) end = rw end.1 refl
 
 -- ---- how an item begins
 
--- with no closing bracket or brace
+-- the text does not begin with a closing bracket or brace
 pub record Begins (text : List ℕ) : Type 0 where
   pub first : ℕ
   pub others : List ℕ
@@ -84,7 +84,7 @@ items_of-list_of : (xs : DataItems) → items_of (list_of xs) ≡ xs
 items_of-list_of NoItems = refl
 items_of-list_of (ItemThen x xs) = ap (ItemThen x) (items_of-list_of xs)
 
--- an item was read before the others
+-- an item that was read before the others
 abbrev with_first : {A : Type 0} → A → Read (List A) → Read (List A)
 with_first x r = r >>= λ o. Some (x ∷ o.0, o.1)
 
@@ -261,13 +261,13 @@ whole_again levels parts law (Boolean false) rest valid end = refl
 whole_again levels parts law (Boolean true) rest valid end = refl
 whole_again levels parts law NullItem rest valid end = refl
 
--- an item with so many levels around it, read with those that are left
+-- an item inside `levels` levels, read with those that are left
 pub reads_again : (left levels : ℕ) → left + levels ≡ 16 → ReadsAgain levels (item_at left)
 unfolding item_at
 reads_again zero levels e = whole_again levels None (omega arith)
 reads_again (suc left) levels e = whole_again levels (Some (item_at left)) (reads_again left (levels + 1) (omega arith))
 
--- the notation of an item is read as the item
+-- the notation of an item is read back as the item
 pub notation_again : (x : DataItem) (text : List ℕ) → Notates x text → item_at 16 text ≡ Some (x, [])
 notation_again x text n =
     let whole : notation_of x ++ [] ≡ notation_of x = append-nil (notation_of x) in

@@ -11,7 +11,7 @@ use Rattle.cbor_diag.specs.Reading.{Read, quoted_at, text_at, item_at}
 use Rattle.cbor_diag.specs.Answers.{Notates, IsReadAs, Gives}
 use Rattle.cbor_diag.proofs.Again.{notation_again, same_read}
 
--- what is read of the notation of an item is the item
+-- what is read from the notation of an item is that item
 same_item : (x y : DataItem) (text rest : List ℕ) → Notates x text → item_at 16 text ≡ Some (y, rest) → y ≡ x
 same_item x y text rest n e = same_read y x rest [] (sym e ∙ notation_again x text n)
 

@@ -38,7 +38,7 @@ plain b ge quote slash delete =
 high : (b : ℕ) → 128 ≤ b → escape b ≡ b ∷ []
 high b ge = plain b (omega arith) (λ e. omega (arith, e)) (λ e. omega (arith, e)) (λ e. omega (arith, e))
 
--- bytes above 127 stay as they are
+-- bytes above 127 are left alone
 abbrev IsHigh : ℕ → Type 0
 IsHigh b = 128 ≤ b
 

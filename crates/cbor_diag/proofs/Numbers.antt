@@ -1,4 +1,4 @@
--- A number that is written is read.
+-- A number that is written is read back.
 use Rattle.std.proofs.Common.{◌≡◌, ℕ, ◌+◌, ◌-◌, ◌*◌, ◌/◌, ◌%◌, ◌^◌, ◌<◌, ◌≤◌, true, false, List, [], ◌∷◌, ◌++◌, Some, refl, ap, ◌∙◌, append_assoc, arith}
 use Rattle.std.specs.Prelude.{decimal, nat_le}
 use Rattle.std.proofs.lemmas.Bool.{and_from, le-leb}
@@ -20,7 +20,7 @@ number_step n d rest le lt =
     let value : 48 + d - 48 ≡ d = omega arith in
     rw (digit, small, value) refl
 
--- the digits that stand first are read first, whatever follows
+-- the digits at the front are read first, whatever follows
 number_first : (n : ℕ) (rest : List ℕ) → n ≤ 2 ^ 64 → number_at 0 (decimal n ++ rest) ≡ number_at n rest
 number_first n rest le =
     decimal_by_steps_wide (λ m ds. (behind : List ℕ) → m ≤ 2 ^ 64 → number_at 0 (ds ++ behind) ≡ number_at m behind) one more n (omega arith) rest le

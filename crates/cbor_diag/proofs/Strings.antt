@@ -1,4 +1,4 @@
--- A string that is written is read.
+-- A string that is written is read back.
 use Rattle.std.proofs.Common.{◌≡◌, ℕ, zero, suc, ◌+◌, ◌*◌, ◌/◌, ◌%◌, ◌<◌, ◌≤◌, ◌==◌, ◌||◌, false, List, [], ◌∷◌, ◌++◌, length, slice_index, ◌⊎◌, Option, Some, None, refl, sym, ap, subst, ◌∙◌, append_assoc, arith, inl, inr}
 use Rattle.std.specs.Prelude.{codes, nat_lt}
 use Rattle.std.specs.List.{AllByRecursion}
@@ -21,7 +21,7 @@ hex_byte_again b rest lt =
     let value : b / 16 * 16 + b % 16 ≡ b = omega arith in
     rw (high, low, value) refl
 
--- a digit is no quote
+-- a digit is not a quote
 no_quote_digit : (d : ℕ) → d < 16 → (slice_index lower_digits d == 39) ≡ false
 no_quote_digit d lt = ne_eqb _ _ (λ is. let value : hex_digit_value (slice_index lower_digits d) ≡ Some d = IsDigits-lower_digits d lt in let none : ◌≡◌ {A = Option ℕ} None (Some d) = subst (λ (v : ℕ). hex_digit_value v ≡ Some d) is value in absurd cc)
 
@@ -49,7 +49,7 @@ bytes_again bytes rest all =
 
 -- ---- texts
 
--- how a byte stands in a text
+-- how a byte appears in a text
 pub record StandsIn (b : ℕ) : Type 0 where
   pub read : (rest : List ℕ) → character (escape b ++ rest) ≡ Some (b, rest)
   pub unclosed : (rest : List ℕ) → after (codes "\"") (escape b ++ rest) ≡ None

@@ -5,11 +5,12 @@ use Rattle.det_cbor.specs.DataItem.{DataItem, UnsignedInteger, NegativeInteger, 
 
 -- ---- strings
 
+-- the bytes in hexadecimal, as in `h'00ff'`
 abbrev pub bytes_notation : List ℕ → List ℕ
 bytes_notation bytes = codes "h'" ++ (encode_lower bytes ++ codes "'")
 
--- a byte of a text: a quote, a backslash or a control character is escaped. Each byte of a character
--- above 127 is above 127 too, and stays as it is.
+-- A byte of a text: a quote, a backslash or a control character is escaped. Each byte of a character above
+-- 127 is above 127 too, and is left alone.
 abbrev pub escape : ℕ → List ℕ
 escape b =
     if (b == 34) || (b == 92) then 92 ∷ b ∷ []
@@ -20,12 +21,13 @@ abbrev pub escaped : List ℕ → List ℕ
 escaped [] = []
 escaped (b ∷ bytes) = escape b ++ escaped bytes
 
+-- the escaped text in double quotes
 abbrev pub text_notation : List ℕ → List ℕ
 text_notation bytes = codes "\"" ++ (escaped bytes ++ codes "\"")
 
 -- ---- items
 
--- the negative integer of n is -1 - n
+-- the notation of an item; NegativeInteger n stands for -1 - n
 abbrev mutual
   pub notation_of : DataItem → List ℕ
   notation_of (UnsignedInteger n) = decimal n
@@ -43,7 +45,7 @@ abbrev mutual
   items_notation NoItems = []
   items_notation (ItemThen x xs) = notation_of x ++ later_items xs
 
-  -- the items after one
+  -- the items after the first
   pub later_items : DataItems → List ℕ
   later_items NoItems = []
   later_items (ItemThen x xs) = codes ", " ++ (notation_of x ++ later_items xs)
@@ -53,7 +55,7 @@ abbrev mutual
   pairs_notation (PairThen key value ps) =
       notation_of key ++ (codes ": " ++ (notation_of value ++ later_pairs ps))
 
-  -- the pairs after one
+  -- the pairs after the first
   pub later_pairs : DataPairs → List ℕ
   later_pairs NoPairs = []
   later_pairs (PairThen key value ps) =

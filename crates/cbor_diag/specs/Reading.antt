@@ -1,4 +1,4 @@
--- How a text is read. What is read may differ a little from a notation.
+-- How a text is read. The reader accepts a little more than notations.
 use Rattle.std.specs.Prelude.{ℕ, zero, suc, ◌+◌, ◌-◌, ◌*◌, ◌^◌, nat_lt, nat_le, ◌==◌, ◌&&◌, if◌then◌else◌, Bool, true, false, List, [], ◌∷◌, length, codes, Option, Some, None}
 use Rattle.std.specs.Str.{is_utf8}
 use Rattle.hex.specs.Hex.{hex_digit_value}
@@ -8,6 +8,7 @@ use Rattle.cbor_diag.specs.declared.quoted.Quoted.{Quoted}
 use Rattle.cbor_diag.specs.declared.quoted.Quoted.TheVariants as quoted
 
 infixl 10 ◌>>=◌
+-- goes on with what was read, or stops
 abbrev pub ◌>>=◌ : {A B : Type 0} → Option A → (A → Option B) → Option B
 (Some x) >>= f = f x
 None >>= f = None
@@ -19,18 +20,20 @@ Read A = Option (A × List ℕ)
 abbrev pub Reader : Type 0
 Reader = List ℕ → Read DataItem
 
--- what is chosen where something is there, and else
+-- the one result if something is there, and the other if not
 abbrev pub if_there : {A B : Type 0} → Option A → (A → B) → B → B
 if_there (Some x) f other = f x
 if_there None f other = other
 
 -- ---- marks
 
+-- what follows the mark, if the text begins with it
 abbrev pub after : List ℕ → List ℕ → Option (List ℕ)
 after [] text = Some text
 after (m ∷ mark) [] = None
 after (m ∷ mark) (b ∷ text) = if b == m then after mark text else None
 
+-- what follows the mark; without the mark, the text itself
 abbrev pub past : List ℕ → List ℕ → List ℕ
 past mark text = if_there (after mark text) (λ rest. rest) text
 
@@ -39,19 +42,20 @@ past mark text = if_there (after mark text) (λ rest. rest) text
 abbrev pub is_digit : ℕ → Bool
 is_digit b = nat_le 48 b && nat_le b 57
 
--- the number that digits spell after a number
+-- the number that the digits at the front make after the number n
 abbrev pub number_at : ℕ → List ℕ → Read ℕ
 number_at n [] = Some (n, [])
 number_at n (b ∷ text) =
     if is_digit b then (if nat_le n (2 ^ 64) then number_at (n * 10 + (b - 48)) text else None)
     else Some (n, b ∷ text)
 
+-- the negative integer with this absolute value, which is from 1 to 2 ^ 64
 abbrev pub negative_of : ℕ × List ℕ → Read DataItem
 negative_of r =
     if r.0 == 0 then None
     else if nat_le r.0 (2 ^ 64) then Some (NegativeInteger (r.0 - 1), r.1) else None
 
--- a negative integer behind its sign
+-- a negative integer, read after its sign
 abbrev pub negative_at : Reader
 negative_at text = number_at 0 text >>= negative_of
 
@@ -61,6 +65,7 @@ abbrev pub first : List ℕ → Read ℕ
 first [] = None
 first (b ∷ text) = Some (b, text)
 
+-- a byte from two hexadecimal digits
 abbrev pub hex_byte : List ℕ → Read ℕ
 hex_byte text = do
   high ← first text
@@ -73,6 +78,7 @@ hex_byte text = do
 abbrev pub plain : ℕ × List ℕ → Read ℕ
 plain r = if r.0 == 92 then if_there (first r.1) Some (Some r) else Some r
 
+-- one byte of a text, which may be escaped
 abbrev pub character : List ℕ → Read ℕ
 character text = if_there (after (codes "\\u00") text) hex_byte (first text >>= plain)
 
@@ -84,7 +90,7 @@ abbrev pub piece_at : Quoted → List ℕ → Read ℕ
 piece_at quoted.Bytes text = hex_byte text
 piece_at quoted.Text text = character text
 
--- at most so many pieces and a quote
+-- the pieces up to the closing quote, in at most `count` steps
 abbrev pub quoted_by : Quoted → ℕ → List ℕ → Read (List ℕ)
 quoted_by kind zero text = None
 quoted_by kind (suc count) text =
@@ -101,7 +107,7 @@ abbrev pub text_at : Reader
 text_at text =
     quoted_at quoted.Text text >>= λ r. if is_utf8 r.0 then Some (TextString r.0, r.1) else None
 
--- ---- the parts of an array, a map and a tag, by a reader for each
+-- ---- the parts of an array, a map and a tag, given a reader for each part
 
 abbrev pub items_by : Reader → ℕ → List ℕ → Read (List DataItem)
 items_by read zero text = None
@@ -149,7 +155,7 @@ word_at text =
     (if_there (after (codes "false") text) (λ rest. Some (Boolean false, rest))
     (if_there (after (codes "null") text) (λ rest. Some (NullItem, rest)) None))
 
--- an item that begins with no digit
+-- an item that does not begin with a digit
 abbrev pub marked_at : Option Reader → Reader
 marked_at parts text =
     if_there (after (codes "-") text) negative_at
@@ -164,12 +170,12 @@ item_with parts [] = None
 item_with parts (b ∷ text) =
     if is_digit b then numbered_at parts (b ∷ text) else marked_at parts (b ∷ text)
 
--- an item with at most so many levels
+-- reads an item that nests at most `levels` deep
 unfoldable pub item_at : ℕ → Reader
 item_at zero text = item_with None text
 item_at (suc levels) text = item_with (Some (item_at levels)) text
 
--- the reader of parts
+-- the reader of an item's parts
 abbrev pub reader_at : ℕ → Option Reader
 reader_at zero = None
 reader_at (suc levels) = Some (item_at levels)

@@ -8,7 +8,7 @@ use std::alloc::AllocError;
 /// Why a text was not read.
 #[derive(Clone, Copy, Debug, PartialEq, Eq)]
 pub enum NotationFault {
-    /// The text is the notation of no valid item.
+    /// The text is not the notation of any valid item.
     NoNotation,
     NoMemory,
 }

@@ -3,11 +3,11 @@
 ghost use Rattle.std.specs.Prelude.{◌≡◌, option_map};
 ghost use Rattle.cbor_diag.specs.Reading.{number_at};
 
-// Above each number of a notation, of which -1 - (2^64 - 1) has the largest.
+// The largest number in a notation: that of the integer -1 - (2^64 - 1).
 const MOST: u128 = 1 << 64;
 
-/// The number that the digits at the front spell, and what follows them. No digits spell 0, and a
-/// number far above those of a notation is refused.
+/// Reads the digits at the front as a number, and returns what follows them. No digits give 0. A
+/// number far above `MOST` is refused.
 pub(crate) fn read_number(text: &[u8]) -> Option<(u128, &[u8])>
     ensures { option_map (λ r. (r.0, r.1.now)) result ≡ number_at 0 text.now }
 {

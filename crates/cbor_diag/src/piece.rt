@@ -1,17 +1,17 @@
-//! Reading the marks of a notation and the bytes of a string, one at a time.
+//! Reading the marks of a notation, and the bytes of a string one at a time.
 
 ghost use Rattle.std.specs.Prelude.{◌≡◌, option_map};
 ghost use Rattle.hex.specs.Hex.{hex_digit_value};
 ghost use Rattle.cbor_diag.specs.Reading.{after as after_mark, past as past_mark, hex_byte as hex_byte_at, character as character_at};
 
-/// What follows a mark that stands at the front.
+/// What follows a mark, if it is at the front.
 pub(crate) fn after<'a>(text: &'a [u8], mark: &[u8]) -> Option<&'a [u8]>
     ensures { option_map (λ r. r.now) result ≡ after_mark mark.now text.now }
 {
     text.strip_prefix(mark)
 }
 
-/// What follows a mark that may stand at the front.
+/// What follows a mark, if it is at the front, or else the whole text.
 pub(crate) fn past<'a>(text: &'a [u8], mark: &[u8]) -> &'a [u8]
     ensures { result.now ≡ past_mark mark.now text.now }
 {
@@ -29,7 +29,7 @@ fn hex_digit(byte: u8) -> Option<u8>
     }
 }
 
-/// The byte that two hexadecimal digits at the front spell, and what follows them.
+/// Reads a byte from the two hexadecimal digits at the front.
 pub(crate) fn hex_byte(text: &[u8]) -> Option<(u8, &[u8])>
     ensures { option_map (λ r. (r.0, r.1.now)) result ≡ hex_byte_at text.now }
 {
@@ -40,7 +40,7 @@ pub(crate) fn hex_byte(text: &[u8]) -> Option<(u8, &[u8])>
     Some((byte, rest))
 }
 
-/// The byte that stands at the front of a text's content, maybe behind an escape, and what follows it.
+/// Reads the next byte of a text's content, which may be escaped.
 pub(crate) fn character(text: &[u8]) -> Option<(u8, &[u8])>
     ensures { option_map (λ r. (r.0, r.1.now)) result ≡ character_at text.now }
 {

@@ -11,7 +11,7 @@ use det_cbor::{Item, Text};
 use itoa::Buffer;
 use std::alloc::{AllocError, Global};
 
-/// The item in diagnostic notation (RFC 8949, section 8).
+/// Writes an item in diagnostic notation (RFC 8949, section 8).
 pub fn notation(alloc: Global, item: &Item) -> Result<Text, AllocError>
     requires { IsValid (tree_of item.now) }
     ensures { IfOk result (λ text. text ≡ notation_of (tree_of item.now)) }
@@ -28,7 +28,7 @@ fn push_number(out: &mut String, number: u128) -> Result<(), AllocError>
     out.push_str(buffer.format(number))
 }
 
-// The integer -1 - number.
+// Writes the integer -1 - number.
 fn push_negative(out: &mut String, number: u64) -> Result<(), AllocError>
     ensures { OnOk result
         (string_bytes out.new ≡ string_bytes out.old ++ 45 ∷ decimal (suc number)) }
@@ -86,7 +86,7 @@ fn push_text(alloc: Global, out: &mut String, text: &str) -> Result<(), AllocErr
     out.push_str("\"")
 }
 
-// Recurses as deep as the item nests, which is bounded for a valid item.
+// Recurses as deep as the item nests, which is at most 16 levels for a valid item.
 #[cycle(push)]
 fn push_item(alloc: Global, out: &mut String, item: &Item) -> Result<(), AllocError>
     ensures { OnOk result (string_bytes out.new

@@ -1,4 +1,4 @@
-//! Reading what stands between quotes.
+//! Reading quoted strings.
 
 ghost use Rattle.std.specs.Prelude.{◌≡◌, option_map};
 ghost use Rattle.cbor_diag.specs.Answers.{Gives};
@@ -9,7 +9,7 @@ use crate::piece::{after, character, hex_byte};
 use det_cbor::Bytes;
 use std::alloc::Global;
 
-/// What stands between quotes.
+/// The kinds of quoted strings.
 #[derive(Clone, Copy)]
 pub(crate) enum Quoted {
     Bytes,
@@ -34,7 +34,7 @@ fn piece(quoted: Quoted, text: &[u8]) -> Option<(u8, &[u8])>
     }
 }
 
-/// The bytes up to the closing quote, and what follows it.
+/// Reads the bytes up to the closing quote, and returns what follows it.
 pub(crate) fn read_quoted(
     alloc: Global,
     quoted: Quoted,

@@ -1,5 +1,5 @@
-//! Reading diagnostic notation. What is read may differ a little from a notation, so it is written
-//! again and compared.
+//! Reading diagnostic notation. The reader accepts a little more than notations, so what it reads
+//! is written again and compared.
 
 ghost use Rattle.std.specs.Prelude.{◌≡◌, ◌<◌, ℕ, List, length, option_map, IfOk};
 ghost use Rattle.det_cbor.specs.DataItem.{DataItem};
@@ -14,7 +14,7 @@ use crate::{NotationFault, notation};
 use det_cbor::{Inner, Item, Items, Pairs, Text, valid};
 use std::alloc::Global;
 
-// How many arrays, maps and tags of a valid item may stand round one another.
+// How deep the arrays, maps and tags of a valid item may nest.
 const MAX_LEVELS: u8 = 16;
 
 fn read_negative(text: &[u8]) -> Option<(Item, &[u8])>
@@ -56,7 +56,7 @@ fn read_text(alloc: Global, text: &[u8]) -> Result<(Item, &[u8]), NotationFault>
     }
 }
 
-// The levels for the parts of an item that has at most so many.
+// The levels that are left for the parts of an item.
 fn part_levels(levels: u8) -> Result<u8, NotationFault>
     ensures reader { Gives item_at result (reader_at levels) }
     ensures fewer { IfOk result (λ left. left < levels) }
@@ -83,7 +83,7 @@ fn read_item(alloc: Global, text: &[u8], levels: u8) -> Result<(Item, &[u8]), No
     }
 }
 
-// An item that begins with no digit.
+// Reads an item that does not begin with a digit.
 #[cycle(read)]
 fn read_marked(alloc: Global, text: &[u8], levels: u8) -> Result<(Item, &[u8]), NotationFault>
     ensures { Gives (λ r. (tree_of r.0, r.1.now)) result (marked_at (reader_at levels) text.now) }
@@ -108,7 +108,7 @@ fn read_marked(alloc: Global, text: &[u8], levels: u8) -> Result<(Item, &[u8]), 
     found(read_word(text))
 }
 
-// An unsigned integer, or a tag and its item.
+// Reads an unsigned integer, or a tag and its item.
 #[cycle(read)]
 fn read_numbered(alloc: Global, text: &[u8], levels: u8) -> Result<(Item, &[u8]), NotationFault>
     ensures { Gives (λ r. (tree_of r.0, r.1.now)) result (numbered_at (reader_at levels) text.now) }
@@ -166,7 +166,7 @@ fn read_pairs(alloc: Global, text: &[u8], levels: u8) -> Result<(Pairs, &[u8]), 
     Err(NotationFault::NoNotation)
 }
 
-// The item, where the text is its notation.
+// Returns the item if it is valid and the text is its notation.
 fn checked(alloc: Global, text: &str, item: Item) -> Result<Item, NotationFault>
     ensures same { IfOk result (λ same. tree_of same ≡ tree_of item) }
     ensures notates { IfOk result (λ same. Notates (tree_of same) text.now) }
@@ -182,7 +182,8 @@ fn checked(alloc: Global, text: &str, item: Item) -> Result<Item, NotationFault>
     Ok(item)
 }
 
-/// The item whose notation the text is. Takes memory for the item, and for its notation once more.
+/// Reads the item whose notation the text is. Allocates for the item, and once more for its
+/// notation.
 pub fn read_notation(alloc: Global, text: &str) -> Result<Item, NotationFault>
     ensures item { IfOk result (λ item. Notates (tree_of item) text.now) }
     ensures every_item { (x : DataItem) → Notates x text.now → IsReadAs x result }

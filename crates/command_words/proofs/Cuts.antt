@@ -1,4 +1,4 @@
--- Where a word is cut, and what words say that are cut so.
+-- Where a word is cut, and what words that are cut so say.
 use Rattle.std.proofs.Common.{◌≡◌, ◌∙◌, ◌≢◌, ◌<◌, ◌||◌, ◌&&◌, not, ℕ, List, [], ◌∷◌, ◌++◌, length, map, get_or, eqb, Option, Some, None, refl, sym, ap, ap₂, subst, zero, suc, arith, Bool, true, false, if◌then◌else◌}
 use Rattle.std.specs.Prelude.{filter_map, unwrap_or}
 use Rattle.std.specs.Option.{option_map_or}
@@ -138,7 +138,7 @@ answers_read (word ∷ words) all =
           distinct = (unnamed answer.uri words (denied (list_any (names answer.uri) words) alone), rest.distinct);
         }
 
--- and on to the same answers
+-- an answer that is spelled and cut is the same answer
 pub spelled_cut : (answer : Answer) → IsAfterLast answer → cut (spelled_answer answer) ≡ Some answer
 spelled_cut answer lacks = cut_there answer.uri answer.name (lacks_at answer.name lacks)
 

@@ -1,4 +1,4 @@
--- The values of a command, by the rows that it found.
+-- The values of a command's arguments, given the rows that were found.
 use Rattle.std.proofs.Common.{◌≡◌, ◌∙◌, List, [], Bool, true, false, ◌&&◌, Option, Some, drop, refl, sym, ap}
 use Rattle.std.specs.Prelude.{is_some, unwrap_or}
 use Rattle.clap.specs.Walk.{Row, first_of}
@@ -11,7 +11,7 @@ pub both : (a b : Bool) → (a && b) ≡ true → (a ≡ true) × (b ≡ true)
 both true b h = (refl, h)
 both false b h = let never : false ≡ true = h in cc
 
--- the value of an argument, by words whose first is the name of the command
+-- the value of an argument, in words whose first one is the name of the command
 abbrev pub value_in : App → Word → Words → Option Word
 value_in app id words = first_of id (matches_of app (drop 1 words))
 

@@ -1,4 +1,4 @@
--- A word that names no command, or the last one behind `run`.
+-- A word that is not the name of a command, or of one of the commands of `run`.
 use Rattle.std.proofs.Common.{◌≡◌, ◌∙◌, ◌≤◌, ◌-◌, suc, ℕ, List, [], ◌∷◌, length, take, take_all, drop, slice_index_or, Bool, true, false, None, codes, refl, sym, ap, subst, Bor, arith, if◌then◌else◌}
 use Rattle.std.specs.List.{list_all}
 use Rattle.std.specs.Str.{bytes_eq}
@@ -13,7 +13,7 @@ no_name name command never = of (bytes_eq name command) refl where
   of true e = absurd (never ((bytes_decides name command).0 e))
   of false e = e
 
--- ---- behind `run`
+-- ---- after `run`
 
 pub record IsNoRun (name : Word) : Type 0 where
   pub init : name ≡ codes "init" → ⊥
@@ -47,7 +47,7 @@ run_migrate (run ∷ name ∷ words) none some is =
     run_of_migrate run.now name.now (texts words) (subst (λ (l : List (Bor Word)). (slice_index_or l 0 none).now ≡ codes "migrate") all is)
     ∙ ap (λ (l : List (Bor Word)). migrate_of (texts l)) (sym all)
 
--- ---- in front
+-- ---- as the first word
 
 pub record IsNoCommand (name : Word) : Type 0 where
   pub make : name ≡ codes "make" → ⊥

@@ -29,7 +29,7 @@ rest_plain word more plain = (both (is_plain word) (list_all is_plain more) plai
 
 -- ---- `check`, `drill` and `run migrate`
 
--- a row takes each plain word behind its name as this argument
+-- a row takes any plain word after its name as this argument
 abbrev TakesOne : Row → Word → Type 0
 TakesOne r id = (n w : Word) → is_plain w ≡ true → (takes (app_for r) (w ∷ []) ≡ true) × (value_in (app_for r) id (n ∷ w ∷ []) ≡ Some w)
 
@@ -48,7 +48,7 @@ unfolding clap_on_literals
 takes_migrate n [] hw = (refl, refl)
 takes_migrate n (w ∷ ws) hw = let ew = no_minus w ws hw in rw (ew, no_short w ws ew) (refl, refl)
 
--- two words, of which a row takes the second as this argument
+-- two words, the second of which a row takes as this argument
 pub record Ones (r : Row) (id : Word) (words : Words) : Type 0 where
   pub takes_them : takes (app_for r) (drop 1 words) ≡ true
   pub name : Word
@@ -75,14 +75,14 @@ migrates_texts words many plain = ones row.Migrate (codes "BASE") takes_migrate 
 
 -- ---- `run init`
 
--- a row takes two words behind its name as these arguments
+-- a row takes two words after its name as these arguments
 abbrev AreTaken : Row → Word → Word → Word → Word → Word → Type 0
 AreTaken r first second n v w =
     (takes (app_for r) (v ∷ w ∷ []) ≡ true)
     × (value_in (app_for r) first (n ∷ v ∷ w ∷ []) ≡ Some v)
     × (value_in (app_for r) second (n ∷ v ∷ w ∷ []) ≡ Some w)
 
--- two plain words, each empty or begun by no dash
+-- two plain words, each of which is empty or does not begin with a dash
 two_plain : (P : Word → Word → Type 0) → P [] []
     → ((w : ℕ) (ws : Word) → eqb w 45 ≡ false → short_of (w ∷ ws) ≡ None → P [] (w ∷ ws))
     → ((v : ℕ) (vs : Word) → eqb v 45 ≡ false → short_of (v ∷ vs) ≡ None → P (v ∷ vs) [])

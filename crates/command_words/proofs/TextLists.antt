@@ -1,4 +1,4 @@
--- The words of texts that are lent, part by part.
+-- The words of borrowed texts, part by part.
 use Rattle.std.proofs.Common.{◌≡◌, ◌∙◌, ◌≤◌, ◌-◌, zero, suc, ℕ, List, [], ◌∷◌, length, take, drop, slice_index_or, refl, sym, ap, Bor, arith}
 use Rattle.std.proofs.Math.Seq.{take-length}
 use Rattle.std.proofs.lemmas.List.{length-drop}
@@ -23,6 +23,6 @@ dropped (suc n) (word ∷ words) = dropped n words
 pub to_the_end : (n : ℕ) (words : List (Bor Word)) → take (length words - n) (drop n words) ≡ drop n words
 to_the_end n words = ap (λ (m : ℕ). take m (drop n words)) (sym (length-drop n words)) ∙ take-length (drop n words)
 
--- the texts behind the first one, as a range of those that are lent
+-- the texts after the first one, as a range of the borrowed ones
 pub behind_first : (words : List (Bor Word)) → texts (take (length words - 1) (drop 1 words)) ≡ drop 1 (texts words)
 behind_first words = ap texts (to_the_end 1 words) ∙ dropped 1 words

@@ -151,7 +151,7 @@ module _ (n v u : Text) (us : List Text) (hv : is_plain v ≡ true) (hu : is_pla
 
 -- ---- all that `run update` is given
 
--- as an argument of any number of values has them
+-- the values of an argument that can have any number of them
 abbrev pub some_words : Words → Option Words
 some_words [] = None
 some_words (word ∷ words) = Some (word ∷ words)
@@ -193,7 +193,7 @@ few_enough n few = grind arith
 at_most : (n : ℕ) → n ≤ 64 → nat_le n 64 ≡ true
 at_most n few = grind arith
 
--- those behind the file, as a range of the texts that are lent
+-- those after the file, as a range of the borrowed texts
 abbrev pub behind : List (Bor Word) → List (Bor Word)
 behind words = take (length words - 2) (drop 2 words)
 
@@ -216,7 +216,7 @@ unwrapped : (words : Words) → unwrap_or (some_words words) [] ≡ words
 unwrapped [] = refl
 unwrapped (word ∷ words) = refl
 
--- an update of a file, with what was handed out of its words
+-- an update of a file, given the values of its words
 said_of : (words : Words) (h : Updates words) (file : Word) (got : Option Words) (said : List Answer) → length h.answers ≤ 64 → are_answers h.answers ≡ true → h.first ≡ file
     → got ≡ some_words h.answers → said ≡ filter_map cut (unwrap_or got []) → Some (Update file said) ≡ update_of words
 said_of words h file got said few all is_file is_got is_said =
@@ -225,7 +225,7 @@ said_of words h file got said few all is_file is_got is_said =
     let read : uris_of h.answers ≡ Some (filter_map cut h.answers) = ap (λ (b : Bool). if b then Some (filter_map cut h.answers) else None) yes in
     sym (h.table ∙ ap (option_map (Update h.first)) read ∙ ap (λ (w : Word). Some (Update w (filter_map cut h.answers))) is_file ∙ ap (λ (s : List Answer). Some (Update file s)) (sym is))
 
--- an update, by the rows that were found of its words
+-- an update, given the rows that were found for its words
 module _ (words : List (Bor Word)) (some : 2 ≤ length words) (few : length (behind words) ≤ 64) (plain : list_all is_plain (texts words) ≡ true) where
   pub handed : (rows : List Row) → rows ≡ matches_of (app_for row.Update) (drop 1 (texts words)) → are_answers (texts (behind words)) ≡ true → (file : Word) → first_of (codes "FILE") rows ≡ Some file
       → (got : Option Words) → got ≡ all_of (codes "URI=NAME") rows → (said : List Answer) → said ≡ filter_map cut (unwrap_or got []) → Some (Update file said) ≡ update_of (texts words)

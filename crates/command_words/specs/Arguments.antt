@@ -1,4 +1,4 @@
--- The commands that hand out arguments by their places.
+-- The commands as `clap` knows them, which hands out their arguments.
 use Rattle.std.specs.Prelude.{true, Some, codes}
 use Rattle.clap.specs.Lexer.{usize_max}
 use Rattle.clap.specs.Walk.{Rule}
@@ -9,19 +9,19 @@ use Rattle.command_words.specs.declared.arguments.Values.TheVariants as has
 use Rattle.command_words.specs.declared.arguments.Row.{Row}
 use Rattle.command_words.specs.declared.arguments.Row.TheVariants as row
 
--- an argument of so many values: one, or any number of them
+-- an argument with one value, or with any number of values
 abbrev pub rule_for : Values → Word → Rule
 rule_for has.One id = new_rule id
 rule_for has.AnyNumber id =
     record (new_rule id)
     { range = Some (record { start_inclusive = 0; end_inclusive = usize_max }) }
 
--- a command of this name with no argument and no flag for help: its words do not hold its name
+-- a command with this name and without arguments; its words do not include its name, and it has no help flag
 abbrev pub bare_app : Word → App
 bare_app name =
     on_top (λ s. record s { no_binary_name = true; disable_help_flag = true }) (new_app name)
 
--- the command of each row, by its name and its arguments in order
+-- the command of each row: its name, and its arguments in order
 abbrev pub app_for : Row → App
 app_for row.Check = with_rule (bare_app (codes "check")) (rule_for has.One (codes "FILE"))
 app_for row.Drill = with_rule (bare_app (codes "drill")) (rule_for has.One (codes "NUMBER"))

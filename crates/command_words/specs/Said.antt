@@ -1,4 +1,4 @@
--- A command, as what it asks for.
+-- What a command of the code asks for.
 use Rattle.command_words.specs.Tasks.{Task, Make, Describe, Show, Check, Init, Update, Boot, Status, Migrate, Drill}
 use Rattle.command_words.specs.declared.command.Command.{Command}
 use Rattle.command_words.specs.declared.command.Command.TheVariants as commands

@@ -1,4 +1,4 @@
--- How each command is spelled, and which commands there are: what the table of commands reads.
+-- How each command is spelled, and which commands there are. The table of commands reads just these.
 use Rattle.std.specs.Prelude.{◌≡◌, ◌≢◌, ◌↔◌, ◌<◌, ◌≤◌, ◌^◌, ℕ, false, List, [], ◌∷◌, ◌++◌, map, length, Option, Some, None, codes, decimal}
 use Rattle.std.specs.List.{AllByRecursion}
 use Rattle.command_words.specs.Tasks.{Word, Words, Answer, Task, Make, Describe, Show, Check, Init, Update, Boot, Status, Migrate, Drill}
@@ -9,9 +9,11 @@ use Rattle.command_words.specs.Table.{task_of}
 abbrev pub equals_sign : ℕ
 equals_sign = 61
 
+-- the URI, an equals sign, and the name of the file
 abbrev pub spelled_answer : Answer → Word
 spelled_answer answer = answer.uri ++ equals_sign ∷ answer.name
 
+-- the words of a command
 abbrev pub spelled : Task → Words
 spelled (Make description key out) = codes "make" ∷ description ∷ key ∷ out ∷ []
 spelled (Describe file) = codes "show" ∷ file ∷ []
@@ -24,20 +26,21 @@ spelled Status = codes "run" ∷ codes "status" ∷ []
 spelled (Migrate base) = codes "run" ∷ codes "migrate" ∷ decimal base ∷ []
 spelled (Drill number) = codes "drill" ∷ decimal number ∷ []
 
+-- the word does not begin with a dash
 abbrev pub IsPlain : Word → Type 0
 IsPlain word = begins_with_dash word ≡ false
 
--- the name has no `=`, since the word is cut at its last one
+-- the name contains no `=`, since a word is cut at its last one
 abbrev pub IsAfterLast : Answer → Type 0
 IsAfterLast answer = AllByRecursion (λ byte. byte ≢ equals_sign) answer.name
 
--- no two of them answer one URI
+-- no two of them answer the same URI
 abbrev pub AreDistinct : List Answer → Type 0
 AreDistinct [] = Unit {0}
 AreDistinct (answer ∷ later) =
     AllByRecursion (λ (other : Answer). other.uri ≢ answer.uri) later × AreDistinct later
 
--- the bounds of a command
+-- the bounds on a command's arguments
 abbrev pub IsWithin : Task → Type 0
 IsWithin (Update file answers) =
     (length answers ≤ most_uris) × AllByRecursion IsAfterLast answers × AreDistinct answers
@@ -51,15 +54,16 @@ pub record Asks (words : Words) (task : Task) : Type 0 where
   pub plain : AllByRecursion IsPlain words
   pub within : IsWithin task
 
--- the task that the words ask for, if they spell a command
+-- the words ask for this task, or, if there is none, for no task at all
 abbrev pub AskFor : Words → Option Task → Type 0
 AskFor words (Some task) = Asks words task
 AskFor words None = (task : Task) → Asks words task → ⊥
 
+-- the laws of the table of commands
 pub record WordLaws : Type 0 where
   -- the table reads what is spelled, and nothing else
   pub reads : (words : Words) (task : Task) → (task_of words ≡ Some task) ↔ Asks words task
   pub usage : (words : Words) → (task_of words ≡ None) ↔ ((task : Task) → Asks words task → ⊥)
-  -- so words ask for one thing at most
+  -- so words ask for at most one task
   pub one : (words : Words) (first second : Task) → Asks words first → Asks words second
       → first ≡ second

@@ -1,4 +1,4 @@
--- The table of the commands, by their words.
+-- The table of commands.
 use Rattle.std.specs.Prelude.{[], ◌∷◌, Option, Some, None, option_map, codes, if◌then◌else◌}
 use Rattle.std.specs.List.{list_all}
 use Rattle.std.specs.Str.{bytes_eq}
@@ -7,7 +7,7 @@ use Rattle.command_words.specs.Words.{is_plain}
 use Rattle.command_words.specs.Numbers.{number_of}
 use Rattle.command_words.specs.UriWords.{uris_of}
 
--- ---- each command by its words, whose first is its name
+-- ---- each command, read from its words, the first of which is its name
 
 abbrev pub make_of : Words → Option Task
 make_of (name ∷ description ∷ key ∷ out ∷ []) = Some (Make description key out)
@@ -30,7 +30,7 @@ abbrev pub update_of : Words → Option Task
 update_of (name ∷ file ∷ words) = option_map (Update file) (uris_of words)
 update_of _ = None
 
--- the name alone
+-- a command without arguments: its name alone
 abbrev pub alone_of : Task → Words → Option Task
 alone_of task (name ∷ []) = Some task
 alone_of task _ = None
@@ -43,7 +43,7 @@ abbrev pub drill_of : Words → Option Task
 drill_of (name ∷ number ∷ []) = option_map Drill (number_of number)
 drill_of _ = None
 
--- ---- all of them
+-- ---- all commands
 
 abbrev pub run_named : Word → Words → Option Task
 run_named name words =
@@ -71,6 +71,6 @@ abbrev pub task_in : Words → Option Task
 task_in [] = None
 task_in (name ∷ words) = named name (name ∷ words)
 
--- all other words are usage
+-- the task that the words ask for, if any; none of them may begin with a dash
 abbrev pub task_of : Words → Option Task
 task_of words = if list_all is_plain words then task_in words else None

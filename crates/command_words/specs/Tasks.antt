@@ -1,4 +1,4 @@
--- The task of a command line, by its words.
+-- What a command line asks for.
 use Rattle.std.specs.Prelude.{ℕ, List, map}
 use Rattle.std.specs.Borrow.{Bor}
 
@@ -8,7 +8,7 @@ Word = List ℕ
 abbrev pub Words : Type 0
 Words = List Word
 
--- the name of the file that answers a URI
+-- a URI, and the name of the file that answers it
 pub record Answer : Type 0 where
   pub uri : Word
   pub name : Word
@@ -25,6 +25,6 @@ pub data Task : Type 0 where
   Migrate : ℕ → Task
   Drill : ℕ → Task
 
--- the words of a list of texts that are lent
+-- the words that borrowed texts are
 abbrev pub texts : List (Bor Word) → Words
 texts words = map (λ (word : Bor Word). word.now) words

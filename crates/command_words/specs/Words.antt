@@ -1,4 +1,4 @@
--- Which words may stand in a command line.
+-- Which words can be in a command line.
 use Rattle.std.specs.Prelude.{Bool, false, ◌==◌, not, [], ◌∷◌}
 use Rattle.command_words.specs.Tasks.{Word}
 

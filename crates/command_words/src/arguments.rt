@@ -1,4 +1,4 @@
-//! The commands, as `clap` takes their words and hands out their arguments by their places.
+//! The commands as `clap` knows them. It takes their words, and hands out their arguments.
 
 ghost use Rattle.std.specs.Prelude.{◌≡◌, ◌<◌, true, IfOk, Some, is_some, option_map, length, drop};
 ghost use Rattle.clap.specs.Takes.{takes};
@@ -12,14 +12,14 @@ use clap::error::ErrorKind;
 use clap::{Arg, ArgMatches, Command};
 use std::alloc::{AllocError, Global};
 
-/// How many values an argument has. None is required, since the table has judged the words.
+/// How many values an argument has. None is required, since the table has already judged the words.
 #[derive(Clone, Copy)]
 pub(crate) enum Values {
     One,
     AnyNumber,
 }
 
-/// A row whose arguments `clap` hands out.
+/// A row of the table whose arguments `clap` hands out.
 #[derive(Clone, Copy)]
 pub(crate) enum Row {
     Check,
@@ -31,7 +31,8 @@ pub(crate) enum Row {
     Update,
 }
 
-// A command of this name, whose words are its arguments alone. No word begins with a dash, so there is no flag.
+// A command with this name. Its words are its arguments only: none begins with a dash, so there are
+// no flags.
 fn bare<'a>(alloc: Global, name: &'a str) -> Command<'a>
     ensures { app_of result ≡ bare_app name.entry.now }
 {
@@ -40,7 +41,7 @@ fn bare<'a>(alloc: Global, name: &'a str) -> Command<'a>
         .disable_help_flag(true)
 }
 
-// With one more argument.
+// Adds an argument to a command.
 fn with<'a>(
     alloc: Global,
     command: Command<'a>,
@@ -85,7 +86,7 @@ fn command_for<'a>(alloc: Global, row: Row) -> Result<Command<'a>, AllocError>
     }
 }
 
-// Matches words that a command takes, which fails only where memory runs out.
+// Matches words that the command takes. Fails only if memory runs out.
 fn matched<'a>(
     command: &mut Command<'a>,
     words: &'a [&'a str],
@@ -104,7 +105,8 @@ fn matched<'a>(
     }
 }
 
-/// Matches the words behind a command's name, which the command of a row takes. It fails only where memory runs out.
+/// Matches the words after a command's name. The command of the row takes them, so it fails only if
+/// memory runs out.
 pub(crate) fn found<'a>(
     alloc: Global,
     row: Row,
@@ -119,7 +121,7 @@ pub(crate) fn found<'a>(
     matched(&mut command, &words[1..])
 }
 
-/// The value of an argument that stands in the words.
+/// The value of an argument that was given.
 pub(crate) fn value_of<'a>(matches: &ArgMatches<'a>, id: &str) -> &'a str
     requires { is_some (first_of id.now (rows_of (found_of matches.now))) ≡ true }
     ensures { first_of id.now (rows_of (found_of matches.now)) ≡ Some result.now }
@@ -134,7 +136,7 @@ pub(crate) fn option_of<'a>(matches: &ArgMatches<'a>, id: &str) -> Option<&'a st
     matches.get_str(id)
 }
 
-/// The values of an argument that has any number of them.
+/// The values of an argument that can have any number of them.
 pub(crate) fn values_of<'m, 'a>(matches: &'m ArgMatches<'a>, id: &str) -> Option<&'m [&'a str]>
     ensures { option_map (λ s. texts s.now) result
         ≡ all_of id.now (rows_of (found_of matches.entry.now)) }

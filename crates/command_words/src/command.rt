@@ -1,11 +1,11 @@
-//! The commands that words ask for.
+//! The commands of the program.
 
 use crate::uri_words::UriWords;
 
-/// A command and its arguments. Keys are the names of files.
+/// A command and its arguments. A key is given by the name of its file.
 #[derive(Debug, Drop)]
 pub enum Command<'a> {
-    /// To make an envelope of a description in JSON, and to store it.
+    /// Makes an envelope from a description in JSON, and stores it.
     Make {
         /// The description's file.
         description: &'a str,
@@ -14,49 +14,49 @@ pub enum Command<'a> {
         /// The name under which the envelope is stored.
         out: &'a str,
     },
-    /// To print the description of an envelope.
+    /// Prints the description of an envelope.
     Describe {
         /// The envelope's file.
         file: &'a str,
     },
-    /// To show the parts of an envelope, and whether it is authentic.
+    /// Shows the parts of an envelope, and whether it is authentic.
     Show {
         /// The envelope's file.
         file: &'a str,
-        /// The file of the key that it is to be authentic under.
+        /// The file of the key that authenticates it.
         key: &'a str,
     },
-    /// To judge every path of the commands in an envelope's manifest.
+    /// Judges every path through the commands of an envelope's manifest.
     Check {
         /// The envelope's file.
         file: &'a str,
     },
-    /// To format the flash.
+    /// Formats the flash.
     Init {
         /// The file of the device's description in JSON.
         device: &'a str,
         /// The file of the key that the device keeps.
         key: &'a str,
     },
-    /// To run the update procedure of an envelope, and to install it.
+    /// Runs the update procedure of an envelope, and installs it.
     Update {
         /// The envelope's file.
         file: &'a str,
-        /// The files that answer URIs.
+        /// The files that answer the URIs.
         uris: UriWords<'a>,
     },
-    /// To run the invocation procedure of what is installed.
+    /// Runs the invocation procedure of what is installed.
     Boot,
-    /// To print the record and the lengths of the contents.
+    /// Prints the record and the lengths of the contents.
     Status,
-    /// To move what is installed into the layout of version 2.
+    /// Moves what is installed into the layout of version 2.
     Migrate {
-        /// Where the head of the new layout stands.
+        /// The place of the new layout's head.
         base: u64,
     },
-    /// To make and run rounds on a flash in memory.
+    /// Makes rounds and runs them on a flash in memory.
     Drill {
-        /// Where the draws of the rounds start.
+        /// The number that the draws of the rounds start from.
         number: u64,
     },
 }

@@ -2,7 +2,8 @@
 
 ghost use Rattle.command_words.specs.Spelled.{WordLaws};
 
-/// Each command is read from its words, and from no others, as the table of commands reads them.
+/// Does nothing. Its contract is the law of the words: the table reads each command from the words
+/// that spell it, and from no others.
 pub fn word_laws()
     ensures { WordLaws }
 {}

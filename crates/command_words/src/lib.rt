@@ -1,4 +1,5 @@
-//! The command that words ask for: the program judges them itself, and leaves their arguments to `clap`.
+//! The command that words ask for. The program judges the words itself, and leaves the arguments to
+//! `clap`.
 #![tactic(auto)]
 
 mod arguments;

@@ -1,4 +1,4 @@
-//! The rows of the table: each command, by its words.
+//! The rows of the table, each of which reads a command from its words.
 
 ghost use Rattle.std.specs.Prelude.{◌≡◌, true, IfOk, option_map};
 ghost use Rattle.std.specs.List.{list_all};
@@ -13,7 +13,7 @@ use crate::number::number_of;
 use crate::uri_words::{UriWords, are_answers};
 use std::alloc::{AllocError, Global};
 
-/// How many words `URI=NAME` one command may have.
+/// How many words `URI=NAME` a command may have.
 const MOST_URIS: usize = 64;
 
 /// `make DESCRIPTION KEY OUT`
@@ -146,7 +146,7 @@ fn migrate<'a>(alloc: Global, words: &'a [&'a str]) -> Result<Option<Command<'a>
     }
 }
 
-// A command of no arguments.
+// A command without arguments.
 fn alone<'a>(command: Command<'a>, words: &[&str]) -> Option<Command<'a>>
     ensures { option_map said result ≡ alone_of (said command.entry) (texts words.now) }
 {

@@ -27,10 +27,11 @@ fn in_table<'a>(alloc: Global, words: &'a [&'a str]) -> Result<Option<Command<'a
     }
 }
 
-/// The command that the words spell; none where they are usage. The words do not hold the program's name.
+/// The command that the words spell, or `None` if they spell none and the program has to show its
+/// usage. The words do not include the program's name.
 ///
-/// Words that are usage are told without memory. The arguments of a command are left to `clap`, which takes them all,
-/// unless memory runs out.
+/// Words that spell no command are recognized without allocating. The arguments of a command are
+/// left to `clap`, which takes them all unless memory runs out.
 pub fn command_of<'a>(
     alloc: Global,
     words: &'a [&'a str],

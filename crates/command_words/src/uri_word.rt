@@ -1,18 +1,18 @@
-//! A word that says which file answers a URI.
+//! A word that names the file for a URI.
 
 ghost use Rattle.std.specs.Prelude.{◌≡◌, option_map};
 ghost use Rattle.command_words.specs.UriWords.{answer_said, cut};
 
-/// The name of the file that answers a URI. Both may be empty.
+/// A URI, and the name of the file that answers it. Both may be empty.
 #[derive(Clone, Copy, Debug, PartialEq, Eq)]
 pub struct UriWord<'a> {
     /// The URI.
     pub uri: &'a str,
-    /// The name of the file, which has no `=`.
+    /// The name of the file, which contains no `=`.
     pub name: &'a str,
 }
 
-/// A word, cut at its last `=`; none where it has none.
+/// Cuts a word at its last `=`, or returns `None` if it has none.
 pub(crate) fn cut(word: &str) -> Option<UriWord<'_>>
     ensures { option_map answer_said result ≡ cut word.now }
 {

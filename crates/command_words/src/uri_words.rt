@@ -1,4 +1,4 @@
-//! The words that say which files answer which URIs.
+//! The words that name the files for URIs.
 
 ghost use Rattle.std.specs.Prelude.{◌≡◌, [], ◌∷◌, ◌++◌, map, IfOk, OnOk, filter_map};
 ghost use Rattle.std.specs.List.{list_any};
@@ -9,7 +9,8 @@ use crate::uri_word::{UriWord, cut};
 use std::alloc::{AllocError, Global};
 use std::marker::Model;
 
-/// Names of files by the URIs that they answer, in the order of their words. No URI stands in it twice.
+/// URIs and the names of the files that answer them, in the order of their words. No URI occurs
+/// twice.
 #[derive(Debug, Drop)]
 pub struct UriWords<'a> {
     held: Vec<UriWord<'a>>,
@@ -34,7 +35,7 @@ impl<'a> UriWords<'a> {
         }
     }
 
-    // Adds what a word says; nothing where it has no `=`.
+    // Adds what a word says, or nothing if it has no `=`.
     fn push(&mut self, word: &'a str) -> Result<(), AllocError>
         ensures { OnOk result (self.new ≡ self.old ++ filter_map cut (word.entry.now ∷ [])) }
     {
@@ -44,14 +45,14 @@ impl<'a> UriWords<'a> {
         }
     }
 
-    /// The words, lent, each cut in two.
+    /// Borrows the words, each cut in two.
     pub fn as_slice(&self) -> &[UriWord<'a>]
         ensures { map answer_said result.now ≡ self.now }
     {
         self.held.as_slice()
     }
 
-    /// These words, each cut in two. Those without a `=` are left out.
+    /// Cuts the words in two, leaving out those without a `=`.
     pub(crate) fn cut(alloc: Global, words: &[&'a str]) -> Result<UriWords<'a>, AllocError>
         ensures { IfOk result (λ uris. uris ≡ filter_map cut (texts words.now)) }
     {
@@ -87,7 +88,7 @@ fn is_last(word: &str, later: &[&str]) -> bool
     }
 }
 
-/// Whether each word has a `=`, and no two of them name one URI.
+/// Whether each word has a `=`, and no two of them name the same URI.
 pub(crate) fn are_answers(words: &[&str]) -> bool
     ensures { result ≡ are_answers (texts words.now) }
 {

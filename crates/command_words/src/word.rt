@@ -1,11 +1,11 @@
-//! Words by themselves.
+//! Single words.
 
 ghost use Rattle.std.specs.Prelude.{◌≡◌};
 ghost use Rattle.std.specs.List.{list_all};
 ghost use Rattle.command_words.specs.Tasks.{texts};
 ghost use Rattle.command_words.specs.Words.{is_plain};
 
-// No word of a command begins with a dash.
+// Whether the word can be in a command: none of those begins with a dash.
 fn is_plain(word: &str) -> bool
     ensures { result ≡ is_plain word.now }
 {

@@ -1,4 +1,4 @@
--- A block is laid out in one way.
+-- A block has only one layout.
 use Rattle.std.proofs.Common.{◌≡◌, ℕ, List, [], ◌∷◌, ◌++◌, refl, sym, ap, subst, ◌∙◌, arith, lit<}
 use Rattle.std.proofs.lemmas.List.{append-nil}
 use Rattle.det_cbor.specs.declared.head.Head.{Head}
@@ -58,7 +58,7 @@ one_header block p q s t a b =
     let rest = spell (ByteString p) ++ tail_of a.unprotected s in
     (one_string rest p q _ _ (parts_string block rest p s a (parts_front block p s a)) (parts_string block rest q t b (parts_front block p s a))).0
 
--- ---- the levels: of a whole item, the map in the array in the tag is valid there
+-- ---- levels: the map of a whole item is valid in the array in the tag
 
 record InTag (rest : List ℕ) : Type 0 where
   inner : DataItem
@@ -98,7 +98,7 @@ second_valid (ItemThen a (ItemThen b xs)) first second rest v n f s e =
     let same = (one_spelling 2 0 b second (spell_items xs) rest v.1.0 s after).0 in
     subst (IsValidWithin 2) same v.1.0
 
--- an item that is laid out as a block is the block's item
+-- an item that is laid out as a block is the item of a block
 pub parts_spell : (block protected tag : List ℕ) → IsBytes block → IsItem block → (h : HasParts block protected tag) → Spells (mac0_item protected h.unprotected tag) block
 parts_spell block protected tag fits x h =
     let rest = spell (ByteString protected) ++ tail_of h.unprotected tag in

@@ -14,7 +14,7 @@ use Rattle.hmac_mac0.specs.Layout.{StartsWithString}
 pub bytes_front : (front rest : List ℕ) → IsBytes (front ++ rest) → IsBytes front
 bytes_front front rest h = subst IsBytes (take_at front rest (length front) refl) (IsBytes-take (length front) (front ++ rest) h)
 
--- the content of a byte string in bytes is of bytes
+-- the content of a byte string is made of bytes if the whole is
 pub content_bytes : (bytes content rest : List ℕ) → IsBytes bytes → bytes ≡ spell (ByteString content) ++ rest → AllByRecursion IsByte content
 content_bytes bytes content rest fits e =
     all_bytes content (IsBytes-rest (head_bytes 2 (length content)) content (bytes_front (spell (ByteString content)) rest (subst IsBytes e fits)))
@@ -33,7 +33,7 @@ unfolding head_bytes
 kid_spelling macs.Hmac256 string = refl
 kid_spelling macs.Hmac512 string = refl
 
--- 1 stands before 4
+-- the key 1 sorts before the key 4
 in_order : IsAbove (Some (spell (UnsignedInteger 1))) (spell (UnsignedInteger 4))
 unfolding head_bytes
 in_order = refl
@@ -71,13 +71,13 @@ header_cases : (P : Type 0) (kind : MacKind) (protected : List ℕ) (kid : Optio
 header_cases P kind protected None s f g = f (s.is ∙ plain_spelling kind)
 header_cases P kind protected (Some kid) s f g = g kid s.valid.2.3.2 (s.is ∙ kid_spelling kind (spell (ByteString kid)))
 
--- after the front with a kid, a header is a kid and no more
+-- a header that begins with the front for a kid has a kid and nothing more
 pub kid_alone : (kind : MacKind) (protected rest : List ℕ) → protected ≡ front_of_kid kind ++ rest → IsHeader kind protected → (kid : List ℕ) × StartsWithString rest kid []
 kid_alone kind protected rest e h =
     header_cases ((kid : List ℕ) × StartsWithString rest kid []) kind protected h.kid h.spells (λ p. absurd (clash kind rest (sym e ∙ p)))
     (λ kid string p. (kid, record { short = string.0; parts = same_rest kind rest (spell (ByteString kid) ++ []) (sym e ∙ p) }))
 
--- with another front, a header is the plain one
+-- a header with another front is the one without a kid
 pub header_plain : (kind : MacKind) (protected : List ℕ) → ((rest : List ℕ) → protected ≡ front_of_kid kind ++ rest → ⊥) → IsHeader kind protected → protected ≡ made_header kind
 header_plain kind protected other h = header_cases (protected ≡ made_header kind) kind protected h.kid h.spells (λ p. p) (λ kid string p. absurd (other (spell (ByteString kid) ++ []) p))
 

@@ -1,4 +1,4 @@
--- Bytes begin with one string, one map and one head at most.
+-- Bytes begin with at most one byte string, one map and one head.
 use Rattle.std.proofs.Common.{◌≡◌, ℕ, ◌+◌, ◌<◌, ◌^◌, List, [], ◌∷◌, ◌++◌, length, take, drop, Option, Some, None, Result, Ok, Err, Bool, true, refl, sym, ap, subst, ◌∙◌, append_assoc, arith, Bor}
 use Rattle.std.proofs.lemmas.List.{append-nil, take_at, drop_at, length-append}
 use Rattle.std.specs.Prelude.{IfOk, IfErr, IfSome, IfNone, IsTrue}
@@ -139,7 +139,7 @@ one_map bytes r s x y = (one_spelling 0 0 (MapOf x.pairs) (MapOf y.pairs) r s x.
 
 -- ---- the parts after the protected header
 
--- a byte string with more behind it does not stand alone
+-- a byte string that is followed by more is not the whole
 pub not_alone : (bytes found rest content : List ℕ) → StartsWithString bytes found rest → 0 < length rest → StartsWithString bytes content [] → ⊥
 not_alone bytes found rest content x more y = omega (arith, ap length (one_string bytes found content rest [] x y).1)
 

@@ -1,4 +1,4 @@
--- The MAC structure is what the pieces of it make together.
+-- The pieces of the MAC structure make up the structure.
 use Rattle.std.proofs.Common.{◌≡◌, ℕ, List, ◌++◌, ◌∷◌, [], append_assoc}
 use Rattle.std.proofs.lemmas.List.{append-nil}
 use Rattle.std.specs.Prelude.{codes}

@@ -14,7 +14,7 @@ abbrev pub size_of : MacKind → ℕ
 size_of macs.Hmac256 = 32
 size_of macs.Hmac512 = 64
 
--- the MAC of a message, whole: by SHA-256 or by SHA-512
+-- the whole MAC of a message, by SHA-256 or by SHA-512
 abbrev pub mac_of : MacKind → List ℕ → List ℕ → List ℕ
 mac_of macs.Hmac256 key message = hmac_of key message
 mac_of macs.Hmac512 key message = hmac512_of key message

@@ -7,12 +7,12 @@ use Rattle.sha2.specs.Sha512.{sha512}
 abbrev pub short_key : (List ℕ → List ℕ) → ℕ → List ℕ → List ℕ
 short_key hash block key = if nat_le (length key) block then key else hash key
 
--- the key, filled up with zeros to a block
+-- the key, padded with zeros to a block
 abbrev pub padded_key : (List ℕ → List ℕ) → ℕ → List ℕ → List ℕ
 padded_key hash block key =
     short_key hash block key ++ replicate (block - length (short_key hash block key)) 0
 
--- the block of the key, each of its bytes changed by one byte
+-- the block of the key, with each byte XORed with this one
 abbrev pub key_xor : (List ℕ → List ℕ) → ℕ → List ℕ → ℕ → List ℕ
 key_xor hash block key byte = map (λ b. bit_xor b byte) (padded_key hash block key)
 

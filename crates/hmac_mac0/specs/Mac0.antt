@@ -12,7 +12,7 @@ mac_structure protected payload =
     (ItemThen (ByteString protected)
     (ItemThen (ByteString []) (ItemThen (ByteString payload) NoItems))))
 
--- the tag by an algorithm and a key: the MAC of the structure's encoding
+-- the tag by an algorithm under a key: the MAC of the structure's encoding
 unfoldable pub tag_of : MacKind → List ℕ → List ℕ → List ℕ → List ℕ
 tag_of kind key protected payload = mac_of kind key (spell (mac_structure protected payload))
 
@@ -23,13 +23,12 @@ abbrev pub kid_pairs : Option (List ℕ) → DataPairs
 kid_pairs None = NoPairs
 kid_pairs (Some kid) = PairThen (UnsignedInteger 4) (ByteString kid) NoPairs
 
--- 1 (alg) to the number of an algorithm, and maybe a kid (RFC 9052, section 3.1)
+-- the map of 1 (alg) to the number of an algorithm, and perhaps a kid (RFC 9052, section 3.1)
 abbrev pub mac_header : MacKind → Option (List ℕ) → DataItem
 mac_header kind kid =
     MapOf (PairThen (UnsignedInteger 1) (UnsignedInteger (number_of kind)) (kid_pairs kid))
 
--- tag 17 round [protected, unprotected, payload, tag], whose payload is detached (RFC 9052, section
--- 6.2)
+-- tag 17 around [protected, unprotected, payload, tag], where the payload is detached (RFC 9052, section 6.2)
 abbrev pub mac0_item : List ℕ → DataPairs → List ℕ → DataItem
 mac0_item protected unprotected tag =
     TaggedItem 17
@@ -38,19 +37,18 @@ mac0_item protected unprotected tag =
     (ItemThen (MapOf unprotected)
     (ItemThen NullItem (ItemThen (ByteString tag) NoItems)))))
 
--- these bytes are a protected header, which names this algorithm
+-- these bytes are a protected header that names this algorithm
 pub record IsHeader (kind : MacKind) (protected : List ℕ) : Type 0 where
   pub kid : Option (List ℕ)
   pub spells : Spells (mac_header kind kid) protected
 
--- the whole block is a COSE_Mac0 with this protected header, which names this algorithm, and this
--- tag
+-- the whole block is a COSE_Mac0 with this tag and this protected header, which names this algorithm
 pub record IsMac0 (block : List ℕ) (kind : MacKind) (protected tag : List ℕ) : Type 0 where
   pub header : IsHeader kind protected
   pub unprotected : DataPairs
   pub spells : Spells (mac0_item protected unprotected tag) block
 
--- the block's tag is that of the key and the payload, by the algorithm that the block names
+-- the block's tag is the one of the key and the payload, by the algorithm that the block names
 pub record Verifies (block key payload : List ℕ) : Type 0 where
   pub kind : MacKind
   pub protected : List ℕ
@@ -58,7 +56,7 @@ pub record Verifies (block key payload : List ℕ) : Type 0 where
   pub is_block : IsMac0 block kind protected tag
   pub matches : tag ≡ tag_of kind key protected payload
 
--- the block has another tag than the expected one, that of the key and the payload
+-- the block's tag is `found` and not `expected`, which is the one of the key and the payload
 pub record Mismatches (block key payload expected found : List ℕ) : Type 0 where
   pub kind : MacKind
   pub protected : List ℕ
@@ -68,11 +66,11 @@ pub record Mismatches (block key payload expected found : List ℕ) : Type 0 whe
 
 -- ---- the blocks that are made
 
--- the map of 1 (alg) to the number of an algorithm, spelled
+-- the encoded map of 1 (alg) to the number of an algorithm
 abbrev pub made_header : MacKind → List ℕ
 made_header kind = 0xa1 ∷ 0x01 ∷ number_of kind ∷ []
 
--- with that header, the kid unprotected, and the tag of the key and the payload
+-- the item of a block with that header, the kid unprotected, and the tag of the key and the payload
 abbrev pub made_item : MacKind → List ℕ → Option (List ℕ) → List ℕ → DataItem
 made_item kind key kid payload =
     mac0_item (made_header kind) (kid_pairs kid) (tag_of kind key (made_header kind) payload)

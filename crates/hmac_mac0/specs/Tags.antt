@@ -1,4 +1,4 @@
--- The tags by either algorithm.
+-- The tags of both algorithms.
 use Rattle.std.specs.Prelude.{ℕ, List}
 use Rattle.hmac_mac0.specs.declared.mac_tag.MacTag.{MacTag}
 use Rattle.hmac_mac0.specs.declared.mac_tag.MacTag.TheVariants as tags

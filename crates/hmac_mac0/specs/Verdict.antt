@@ -6,7 +6,7 @@ use Rattle.hmac_mac0.specs.declared.verdict.MacVerdict.TheVariants as verdict
 use Rattle.hmac_mac0.specs.Mac0.{IsMac0, Verifies, Mismatches}
 use Rattle.hmac_mac0.specs.Tags.{tag_bytes}
 
--- with the tags of a block that differ
+-- what a verdict says of a block; if the tags differ, it holds both
 abbrev pub IsJustified : MacVerdict → List ℕ → List ℕ → List ℕ → Type 0
 IsJustified verdict.Verified block key payload = Verifies block key payload
 IsJustified verdict.OtherKind block key payload =

@@ -1,4 +1,4 @@
-//! A MAC by either algorithm, of pieces one after another.
+//! A MAC by either algorithm, computed piece by piece.
 
 ghost use Rattle.std.specs.Prelude.{◌≡◌, ◌++◌, [], List, ℕ};
 ghost use Rattle.hmac_mac0.specs.Algorithms.{mac_of};
@@ -17,7 +17,7 @@ pub(crate) enum AnyMac {
 impl AnyMac {
     ghost use Rattle.hmac_mac0.specs.MacState.{HasTakenBy};
 
-    /// A MAC under this key, of no bytes yet.
+    /// Starts a MAC under this key.
     pub(crate) fn new(kind: MacKind, key: &[u8]) -> AnyMac
         ensures { HasTakenBy kind result key.now [] }
     {
@@ -38,7 +38,7 @@ impl AnyMac {
         }
     }
 
-    /// The MAC of the pieces, one after another.
+    /// The MAC of all the pieces, in their order.
     pub(crate) fn finish(self) -> MacTag
         ensures { (kind : MacKind) (key message : List ℕ) → HasTakenBy kind self key message
             → tag_bytes result ≡ mac_of kind key message }

@@ -1,4 +1,4 @@
-//! Which bytes are a Mac0 block (RFC 9052, section 6.2).
+//! Reading a Mac0 block (RFC 9052, section 6.2).
 
 ghost use Rattle.std.specs.Prelude.{◌↔◌, IsTrue, List, ℕ, IfSome, IfNone};
 ghost use Rattle.det_cbor.specs.OneReading.{IsItem};
@@ -22,7 +22,7 @@ pub(crate) struct Parts<'a> {
     pub(crate) tag: &'a [u8],
 }
 
-/// The parts of a Mac0 block, or `None` where the bytes are of another kind.
+/// Splits a Mac0 block into its parts, or returns `None` if the bytes are not one.
 pub(crate) fn read_block(block: &[u8]) -> Option<Parts<'_>>
     ensures some { IfSome result
         (λ parts. IsMac0 block.now parts.kind parts.protected.now parts.tag.now) }
@@ -42,7 +42,7 @@ pub(crate) fn read_block(block: &[u8]) -> Option<Parts<'_>>
     }
 }
 
-// Whether the bytes are one whole item.
+// Whether the bytes are exactly one item.
 fn is_item(bytes: &[u8]) -> bool
     ensures { IsTrue result ↔ IsItem bytes.now }
 {
@@ -50,7 +50,7 @@ fn is_item(bytes: &[u8]) -> bool
     cursor.skip().is_ok() && cursor.left() == 0
 }
 
-// The content of the protected header and the tag of bytes that are laid out as a block.
+// Splits off the content of the protected header and the tag, if the bytes are laid out as a block.
 fn split_block(block: &[u8]) -> Option<(&[u8], &[u8])>
     ensures some { IfSome result (λ parts. HasParts block.now parts.0.now parts.1.now) }
     ensures none { IfNone result ((protected tag : List ℕ) → HasParts block.now protected tag → ⊥) }

@@ -9,14 +9,14 @@ use crate::compare::are_equal;
 use crate::layout::is_string;
 use crate::mac_kind::number;
 
-/// The map of 1 (alg) to an algorithm, spelled.
+/// The protected header that names this algorithm: the map of 1 (alg) to its number.
 pub(crate) fn header(kind: MacKind) -> [u8; 3]
     ensures { result ≡ made_header kind }
 {
     [0xa1, 0x01, number(kind)]
 }
 
-// Whether the bytes are a protected header of this algorithm: the algorithm, and maybe a kid.
+// Whether the bytes are a protected header that names this algorithm, and perhaps a kid.
 fn is_header(kind: MacKind, protected: &[u8]) -> bool
     ensures { IsTrue result ↔ IsHeader kind protected.now }
 {
@@ -28,7 +28,7 @@ fn is_header(kind: MacKind, protected: &[u8]) -> bool
     }
 }
 
-/// The algorithm of a protected header, or `None` where the bytes are none.
+/// The algorithm that a protected header names, or `None` if the bytes are not such a header.
 pub(crate) fn algorithm(protected: &[u8]) -> Option<MacKind>
     ensures some { IfSome result (λ kind. IsHeader kind protected.now) }
     ensures none { IfNone result ((kind : MacKind) → IsHeader kind protected.now → ⊥) }

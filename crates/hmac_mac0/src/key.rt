@@ -13,7 +13,7 @@ const BLOCK: usize = 64;
 // The length of a block of SHA-512, in bytes.
 const BLOCK_512: usize = 128;
 
-/// The key in a block of SHA-256: filled up with zeros, or hashed first where it is longer.
+/// The key in a block of SHA-256: padded with zeros, or hashed first if it is longer than a block.
 pub(crate) fn padded(key: &[u8]) -> [u8; 64]
     ensures { result ≡ padded_key sha256 64 key.now }
 {
@@ -24,7 +24,7 @@ pub(crate) fn padded(key: &[u8]) -> [u8; 64]
     }
 }
 
-/// The same in a block of SHA-512.
+/// The same for SHA-512.
 pub(crate) fn padded512(key: &[u8]) -> [u8; 128]
     ensures { result ≡ padded_key sha512 128 key.now }
 {
@@ -35,7 +35,7 @@ pub(crate) fn padded512(key: &[u8]) -> [u8; 128]
     }
 }
 
-// A key of at most a block, with zeros behind it.
+// A key of at most a block, padded with zeros.
 fn filled<const SIZE: usize>(key: &[u8]) -> [u8; SIZE]
     requires { length key.now ≤ SIZE }
     ensures { result ≡ key.now ++ replicate (SIZE - length key.now) 0 }
@@ -45,7 +45,7 @@ fn filled<const SIZE: usize>(key: &[u8]) -> [u8; SIZE]
     block
 }
 
-/// The block with each byte changed by the same byte.
+/// The block with each byte XORed with `with`.
 pub(crate) fn xored<const SIZE: usize>(block: &[u8; SIZE], with: u8) -> [u8; SIZE]
     ensures { result ≡ map (λ b. bit_xor b with) block.now }
 {

@@ -1,4 +1,4 @@
-//! The parts of a Mac0 block, one after another.
+//! The parts of a Mac0 block, in their order.
 
 ghost use Rattle.std.specs.Prelude.{◌≡◌, ◌↔◌, IsTrue, [], List, ℕ, IfSome, IfNone};
 ghost use Rattle.det_cbor.specs.HeadSpelling.{BeginsWith};
@@ -6,7 +6,7 @@ ghost use Rattle.hmac_mac0.specs.Layout.{BeginsWithKind, StartsWithString, Start
 
 use det_cbor::{Cursor, HeadKind};
 
-// The value of the next head, which is to be of a kind.
+// Reads the next head, which must be of this kind, and returns its value.
 fn head(cursor: &mut Cursor<'_>, kind: HeadKind) -> Option<u64>
     ensures some { IfSome result
         (λ value. BeginsWith cursor.old.left (record { kind = kind; value = value })
@@ -25,7 +25,7 @@ fn head(cursor: &mut Cursor<'_>, kind: HeadKind) -> Option<u64>
     }
 }
 
-/// The content of the next item, which is to be a byte string.
+/// Reads a byte string and returns its content.
 pub(crate) fn string<'a>(cursor: &mut Cursor<'a>) -> Option<&'a [u8]>
     ensures some { IfSome result
         (λ content. StartsWithString cursor.old.left content.now cursor.new.left) }
@@ -36,7 +36,7 @@ pub(crate) fn string<'a>(cursor: &mut Cursor<'a>) -> Option<&'a [u8]>
     cursor.bytes(length).ok()
 }
 
-// Passes over the next item, which is to be a map.
+// Skips the next item, and returns whether it is a map.
 fn map(cursor: &mut Cursor<'_>) -> bool
     ensures passed { IsTrue result → StartsWithMap cursor.old.left cursor.new.left }
     ensures every { (rest : List ℕ) → StartsWithMap cursor.old.left rest → IsTrue result }
@@ -47,7 +47,7 @@ fn map(cursor: &mut Cursor<'_>) -> bool
     }
 }
 
-// Passes over the next item, which is to be null.
+// Skips the next head, and returns whether it is null.
 fn null(cursor: &mut Cursor<'_>) -> bool
     ensures passed { IsTrue result → StartsWithNull cursor.old.left cursor.new.left }
     ensures every { (rest : List ℕ) → StartsWithNull cursor.old.left rest → IsTrue result }
@@ -55,7 +55,7 @@ fn null(cursor: &mut Cursor<'_>) -> bool
     head(cursor, HeadKind::Null).is_some()
 }
 
-/// The tag, after the unprotected header and null, where nothing follows it.
+/// Reads the unprotected header, null and the tag. Returns the tag if nothing follows it.
 pub(crate) fn last_tag<'a>(cursor: &mut Cursor<'a>) -> Option<&'a [u8]>
     ensures some { IfSome result (λ tag. EndsWithTag cursor.old.left tag.now) }
     ensures none { IfNone result ((tag : List ℕ) → EndsWithTag cursor.old.left tag → ⊥) }
@@ -66,7 +66,7 @@ pub(crate) fn last_tag<'a>(cursor: &mut Cursor<'a>) -> Option<&'a [u8]>
     last_string(cursor)
 }
 
-// The content of the next item, which is to be a byte string, where nothing follows it.
+// Reads a byte string, and returns its content if nothing follows it.
 fn last_string<'a>(cursor: &mut Cursor<'a>) -> Option<&'a [u8]>
     ensures some { IfSome result (λ content. StartsWithString cursor.old.left content.now []) }
     ensures none { IfNone result
@@ -79,7 +79,7 @@ fn last_string<'a>(cursor: &mut Cursor<'a>) -> Option<&'a [u8]>
     Some(content)
 }
 
-/// Whether the bytes are one byte string.
+/// Whether the bytes are exactly one byte string.
 pub(crate) fn is_string(bytes: &[u8]) -> bool
     ensures { IsTrue result ↔ ((content : List ℕ) × StartsWithString bytes.now content []) }
 {

@@ -1,4 +1,4 @@
-//! HMAC-SHA-256 of pieces, one after another.
+//! HMAC-SHA-256, computed piece by piece.
 
 ghost use Rattle.std.specs.Prelude.{◌≡◌, ◌++◌, [], List, ℕ};
 ghost use Rattle.hmac_mac0.specs.Hmac.{hmac_of};
@@ -6,7 +6,7 @@ ghost use Rattle.hmac_mac0.specs.Hmac.{hmac_of};
 use crate::key::{padded, xored};
 use sha2::{Digest, Sha256};
 
-/// A MAC that is being computed: the pieces so far, under a key.
+/// A MAC that is being computed from pieces of the message.
 #[derive(Drop)]
 pub struct Mac {
     inner: Sha256,
@@ -16,7 +16,7 @@ pub struct Mac {
 impl Mac {
     ghost use Rattle.hmac_mac0.specs.MacState.{HasTaken};
 
-    /// A MAC under this key, of no bytes yet.
+    /// Starts a MAC under this key. A key longer than 64 bytes is hashed first.
     #[tactic(auto, unfolding(crate::specs::MacState::HasTaken))]
     pub fn new(key: &[u8]) -> Mac
         ensures { HasTaken result key.now [] }
@@ -39,7 +39,7 @@ impl Mac {
         self.inner.update(piece);
     }
 
-    /// The MAC of the pieces, one after another.
+    /// The MAC of all the pieces, in their order.
     #[tactic(auto, unfolding(crate::specs::MacState::HasTaken, crate::specs::Hmac::hmac_of))]
     pub fn finish(self) -> [u8; 32]
         ensures { (key message : List ℕ) → HasTaken self key message
@@ -53,7 +53,7 @@ impl Mac {
     }
 }
 
-/// The MAC of a message in one piece.
+/// The MAC of a message in one piece, by SHA-256.
 pub fn hmac(key: &[u8], message: &[u8]) -> [u8; 32]
     ensures { result ≡ hmac_of key.now message.now }
 {

@@ -1,4 +1,4 @@
-//! HMAC-SHA-512 of pieces, one after another.
+//! HMAC-SHA-512, computed piece by piece.
 
 ghost use Rattle.std.specs.Prelude.{◌≡◌, ◌++◌, [], List, ℕ};
 ghost use Rattle.hmac_mac0.specs.Hmac.{hmac512_of};
@@ -6,7 +6,7 @@ ghost use Rattle.hmac_mac0.specs.Hmac.{hmac512_of};
 use crate::key::{padded512, xored};
 use sha2::{Digest, Sha512};
 
-/// A MAC by SHA-512 that is being computed: the pieces so far, under a key.
+/// A MAC by SHA-512 that is being computed from pieces of the message.
 #[derive(Drop)]
 pub struct Mac512 {
     inner: Sha512,
@@ -16,7 +16,7 @@ pub struct Mac512 {
 impl Mac512 {
     ghost use Rattle.hmac_mac0.specs.MacState.{HasTaken512};
 
-    /// A MAC under this key, of no bytes yet. A key longer than 128 bytes is hashed first.
+    /// Starts a MAC under this key. A key longer than 128 bytes is hashed first.
     #[tactic(auto, unfolding(crate::specs::MacState::HasTaken512))]
     pub fn new(key: &[u8]) -> Mac512
         ensures { HasTaken512 result key.now [] }
@@ -39,7 +39,7 @@ impl Mac512 {
         self.inner.update(piece);
     }
 
-    /// The MAC of the pieces, one after another.
+    /// The MAC of all the pieces, in their order.
     #[tactic(auto, unfolding(crate::specs::MacState::HasTaken512, crate::specs::Hmac::hmac512_of))]
     pub fn finish(self) -> [u8; 64]
         ensures { (key message : List ℕ) → HasTaken512 self key message
@@ -53,7 +53,7 @@ impl Mac512 {
     }
 }
 
-/// The MAC by SHA-512 of a message in one piece.
+/// The MAC of a message in one piece, by SHA-512.
 pub fn hmac512(key: &[u8], message: &[u8]) -> [u8; 64]
     ensures { result ≡ hmac512_of key.now message.now }
 {

@@ -13,10 +13,10 @@ use crate::structure::tag;
 use det_cbor::{Bytes, HeadKind, push_kind, push_string};
 use std::alloc::{AllocError, Global};
 
-/// The block whose tag is that of the key and the payload, by an algorithm.
+/// Makes the block that authenticates a payload under a key, by this algorithm.
 ///
-/// The protected header holds the algorithm alone; a kid, which is a name for the key, stands
-/// unprotected.
+/// The protected header holds only the algorithm. A kid, which names the key, goes into the
+/// unprotected header. The payload is detached.
 pub fn make_block(
     alloc: Global,
     mac: MacKind,
@@ -40,7 +40,7 @@ pub fn make_block(
     Ok(block)
 }
 
-// Adds the heads of tag 17 and of an array of four, and the protected header.
+// Appends the heads of tag 17 and of an array of four, and the protected header.
 fn push_header(block: &mut Bytes, kind: MacKind) -> Result<(), AllocError>
     ensures { OnOk result
         (block.new
@@ -51,7 +51,7 @@ fn push_header(block: &mut Bytes, kind: MacKind) -> Result<(), AllocError>
     push_string(block, &header(kind))
 }
 
-// Adds the map of 4 to a kid, or the empty map.
+// Appends the map of 4 (kid) to the kid, or the empty map if there is none.
 fn push_unprotected(block: &mut Bytes, kid: Option<&[u8]>) -> Result<(), AllocError>
     ensures is_string { OnOk result (IfSome kid.entry (λ k. IsString k.now)) }
     ensures ok { OnOk result

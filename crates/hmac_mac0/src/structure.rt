@@ -12,13 +12,13 @@ use crate::any_mac::AnyMac;
 use crate::{MacKind, MacTag};
 use det_cbor::{HeadKind, ShortHead};
 
-// An array of four, and its first element.
+// The head of an array of four, and its first element.
 const CONTEXT: [u8; 6] = *b"\x84\x64MAC0";
 
-// The byte string of no external data.
+// The empty byte string, since there is no external data.
 const NO_EXTERNAL: [u8; 1] = [0x40];
 
-/// The tag of a protected header and a payload, by an algorithm.
+/// The tag of a protected header and a payload under a key, by this algorithm.
 pub(crate) fn tag(kind: MacKind, key: &[u8], protected: &[u8], payload: &[u8]) -> MacTag
     ensures { tag_bytes result ≡ tag_of kind key.now protected.now payload.now }
 {
@@ -39,7 +39,7 @@ fn add_string(mac: &mut AnyMac, content: &[u8])
     mac.add(content);
 }
 
-// Adds a first byte and what follows it.
+// Adds a first byte and the bytes after it.
 fn add_parts(mac: &mut AnyMac, first: u8, rest: &[u8])
     ensures { (kind : MacKind) (key message : List ℕ) → HasTakenBy kind mac.old key message
         → HasTakenBy kind mac.new key (message ++ first ∷ rest.now) }

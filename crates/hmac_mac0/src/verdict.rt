@@ -10,19 +10,19 @@ use crate::block::read_block;
 use crate::compare::are_equal;
 use crate::structure::tag;
 
-/// Whether a block verifies under a key, for a payload that stands apart from it.
+/// Whether a block verifies under a key, for a detached payload.
 #[derive(Clone, Copy, Debug, PartialEq, Eq)]
 pub enum MacVerdict<'a> {
-    /// The block's tag is that of the key and the payload.
+    /// The block's tag is the one of the key and the payload.
     Verified,
-    /// The block is no Mac0 block, and may be of any other kind.
+    /// The bytes are not a Mac0 block, and may be of any other kind.
     OtherKind,
-    /// A Mac0 block with another tag, of any length: the tag that was computed by the block's
-    /// algorithm, and the block's.
+    /// A Mac0 block with another tag. `expected` is the tag computed by the block's algorithm;
+    /// `found` is the block's, and may have any length.
     Differs { expected: MacTag, found: &'a [u8] },
 }
 
-/// Verifies a block. Takes no memory.
+/// Verifies a block for a detached payload. Allocates nothing.
 pub fn verify<'a>(block: &'a [u8], key: &[u8], payload: &[u8]) -> MacVerdict<'a>
     ensures verified { (result ≡ MacVerdict.Verified) ↔ Verifies block.now key.now payload.now }
     ensures other_kind { (result ≡ MacVerdict.OtherKind)

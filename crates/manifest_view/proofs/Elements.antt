@@ -1,4 +1,4 @@
--- Elements that are judged without being kept, and lent one by one.
+-- Elements that are judged without being kept, and borrowed one by one.
 use Rattle.std.proofs.Common.{◌≡◌, ◌∙◌, ℕ, zero, suc, ◌+◌, ◌-◌, ◌<◌, List, [], ◌∷◌, length, Result, Ok, Err, refl, sym, ap, arith}
 use Rattle.std.specs.Prelude.{IsOk}
 use Rattle.det_cbor.specs.HeadReading.{◌>>=◌, map_ok}
@@ -9,7 +9,7 @@ use Rattle.suit_manifest.specs.Elements.{all_from}
 use Rattle.suit_cursor.specs.LentParts.{read_or}
 use Rattle.suit_cursor.proofs.Known.{ok_is, first_ok, then_ok}
 
--- whether it went well
+-- whether reading succeeds
 abbrev pub judged : {A : Type 0} → Result A Refusal → Result (Unit {0}) Refusal
 judged r = map_ok (λ _. tt) r
 
@@ -39,7 +39,7 @@ judged_step read count done at next inner u total lt item good so_far =
     rw (one, ← item, a.1) (one_judged a.0 (all_from read (count - (done + 1)) next)) in
     sym step ∙ so_far
 
--- where reading one is refused, reading them all is
+-- if reading one of the elements is refused, so is reading all of them
 pub judged_ill : {A : Type 0} (read : Position → Result A Refusal) (count done : ℕ) (at next inner : Position) (total : Result (Unit {0}) Refusal) (e : Refusal)
     → done < count → Ok (inner, next) ≡ inner_from at → Err e ≡ judged (read inner)
     → judged (all_from read (count - done) at) ≡ total → Err e ≡ total
@@ -49,7 +49,7 @@ judged_ill read count done at next inner total e lt item bad so_far =
     let step : judged (all_from read (count - done) at) ≡ Err e = rw (one, ← item, is) refl in
     sym step ∙ so_far
 
--- ---- so many are lent as are read
+-- ---- as many are borrowed as are read
 
 grown : {A : Type 0} (a : A) (r : Result (List A) Refusal) → IsOk r → length (read_or [] (r >>= λ rest. Ok (a ∷ rest))) ≡ suc (length (read_or [] r))
 grown a (Ok rest) ok = refl

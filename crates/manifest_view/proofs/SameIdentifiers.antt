@@ -1,4 +1,4 @@
--- Whether identifiers by their numbers are the same.
+-- Whether identifiers at two indices are equal.
 use Rattle.std.proofs.Common.{◌≡◌, ℕ, zero, suc, ◌<◌, Bool, true, false, List, [], ◌∷◌, length, get_or, refl, sym, subst, ◌∙◌, arith}
 use Rattle.std.specs.Prelude.{MatchBool}
 use Rattle.suit_params.specs.Alike.{HaveOneId, HaveOtherIds}
@@ -8,7 +8,7 @@ use Rattle.suit_manifest.proofs.AlikeSteps.{same_true, same_itself}
 abbrev Ids : Type 0
 Ids = List (List (List ℕ))
 
--- whatever stands past the end
+-- whatever is read past the end
 inside : {A : Type 0} (xs : List A) (i : ℕ) (d e : A) → i < length xs → get_or xs i d ≡ get_or xs i e
 inside [] i d e lt = absurd (omega (arith, lt))
 inside (x ∷ xs) zero d e lt = refl

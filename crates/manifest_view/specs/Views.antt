@@ -1,4 +1,4 @@
--- Lent manifests and their parts as what they spell.
+-- Borrowed manifests and their parts, as what they spell.
 use Rattle.std.specs.Prelude.{ℕ, List, Option, Some, None, Result, Ok}
 use Rattle.std.specs.Borrow.{Bor}
 use Rattle.det_cbor.specs.HeadReading.{◌>>=◌}
@@ -52,6 +52,7 @@ manifest_of view = record {
 
 -- ---- the steps of reading
 
+-- the content of a byte string that holds one item
 abbrev pub content_at : Position → Result (List ℕ) Refusal
 content_at p = content_from p >>= λ c. only_from c.0 >>= λ _. Ok c.0.left
 

@@ -1,4 +1,4 @@
-//! Whether lent identifiers are alike.
+//! Whether borrowed identifiers are equal.
 
 ghost use Rattle.std.specs.Prelude.{◌≡◌, ◌<◌, [], length, get_or};
 ghost use Rattle.suit_manifest.specs.ComponentsJudging.{same_id};
@@ -6,7 +6,7 @@ ghost use Rattle.suit_manifest.specs.ComponentsJudging.{same_id};
 use crate::{LentIdentifier, LentIdentifiers};
 use suit_params::IdentifiedList;
 
-// The identifier at this place of the order.
+// The identifier at index `n` of those that are left.
 fn at<'a>(ids: &mut LentIdentifiers<'a>, n: u64) -> LentIdentifier<'a>
     requires { n < length ids.old }
     ensures lent { result ≡ get_or ids.old n [] }
@@ -19,7 +19,7 @@ fn at<'a>(ids: &mut LentIdentifiers<'a>, n: u64) -> LentIdentifier<'a>
     left.next().unwrap()
 }
 
-// Whether they have the same byte strings.
+// Whether both identifiers have the same byte strings.
 fn are_same(mut id: LentIdentifier<'_>, mut other: LentIdentifier<'_>) -> bool
     ensures { result ≡ same_id id.entry other.entry }
 {

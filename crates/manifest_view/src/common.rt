@@ -1,4 +1,4 @@
-//! The common part of a manifest, lent from an item judged before.
+//! The common part of a manifest, borrowed from an item that was judged before.
 
 ghost use Rattle.std.specs.Prelude.{◌≡◌, ◌≤◌, length, IfOk};
 ghost use Rattle.det_cbor.specs.HeadReading.{map_ok};
@@ -21,7 +21,7 @@ pub(crate) struct Common<'a> {
     pub(crate) shared: Option<LentSequence<'a>>,
 }
 
-// The common part, by the values of a map.
+// Borrows the common part from the values of its map.
 fn lend_values<'a>(place: u64, values: CommonValues<'a>) -> Result<Common<'a>, Refusal>
     ensures says { map_ok common_of result
         ≡ common_values_from place values.entry }
@@ -33,7 +33,7 @@ fn lend_values<'a>(place: u64, values: CommonValues<'a>) -> Result<Common<'a>, R
     Ok(Common { components, shared })
 }
 
-// The common part, by a map of so many pairs.
+// Borrows the common part from a map of `pairs` pairs.
 fn lend_pairs<'a>(map: Cursor<'a>, place: u64, pairs: u64) -> Result<Common<'a>, Refusal>
     ensures says { map_ok common_of result ≡ common_pairs_from place pairs map.entry }
     ensures few { IfOk result (λ common. length common.components ≤ 8) }
@@ -42,8 +42,8 @@ fn lend_pairs<'a>(map: Cursor<'a>, place: u64, pairs: u64) -> Result<Common<'a>,
     lend_values(place, values)
 }
 
-// A whole item as the common part: unknown keys are refused first, then missing ones, and then the
-// first value that is refused.
+// Borrows the common part from a whole item. Unknown keys are refused first, then missing ones, and
+// then the first bad value.
 fn lend_item<'a>(mut item: Cursor<'a>) -> Result<Common<'a>, Refusal>
     ensures says { map_ok common_of result ≡ common_at item.entry }
     ensures few { IfOk result (λ common. length common.components ≤ 8) }
@@ -53,7 +53,7 @@ fn lend_item<'a>(mut item: Cursor<'a>) -> Result<Common<'a>, Refusal>
     lend_pairs(item, place, pairs)
 }
 
-/// The common part that a byte string holds.
+/// Borrows the common part that a byte string holds.
 pub(crate) fn lend_common<'a>(mut item: Cursor<'a>) -> Result<Common<'a>, Refusal>
     ensures says { map_ok common_of result ≡ held_at (only_at common_at) item.entry }
     ensures few { IfOk result (λ common. length common.components ≤ 8) }

@@ -1,4 +1,4 @@
-//! The identifiers of a manifest's components, judged where they stand.
+//! The identifiers of a manifest's components, judged in place.
 
 ghost use Rattle.std.specs.Prelude.{◌≡◌, ◌-◌, ◌≤◌, length, IfOk};
 ghost use Rattle.det_cbor.specs.HeadReading.{map_ok};
@@ -12,7 +12,7 @@ use suit_params::{
     Refusal, Why, first_like, read_array, read_content, read_item, refused, same_place,
 };
 
-// A byte string.
+// Judges a byte string.
 fn judge_part(mut item: Cursor<'_>) -> Result<(), Refusal>
     ensures { result ≡ map_ok (λ _. tt) (part_at item.entry) }
 {
@@ -20,7 +20,7 @@ fn judge_part(mut item: Cursor<'_>) -> Result<(), Refusal>
     Ok(())
 }
 
-// So many byte strings.
+// Judges the next `count` byte strings.
 fn judge_parts(mut items: Cursor<'_>, count: u64) -> Result<(), Refusal>
     ensures { result ≡ map_ok (λ _. tt) (all_from part_at count items.entry) }
 {
@@ -31,7 +31,7 @@ fn judge_parts(mut items: Cursor<'_>, count: u64) -> Result<(), Refusal>
     Ok(())
 }
 
-// A whole item as an identifier, which has at most 64 bytes.
+// Judges a whole item as an identifier, which must take at most 64 bytes.
 fn judge_identifier(mut item: Cursor<'_>) -> Result<(), Refusal>
     ensures { result ≡ map_ok (λ _. tt) (identifier_at item.entry) }
 {
@@ -46,7 +46,7 @@ fn judge_identifier(mut item: Cursor<'_>) -> Result<(), Refusal>
     }
 }
 
-// So many identifiers.
+// Judges the next `count` identifiers.
 fn judge_identifiers(mut items: Cursor<'_>, count: u64) -> Result<(), Refusal>
     ensures { result ≡ map_ok (λ _. tt) (all_from identifier_at count items.entry) }
 {
@@ -57,7 +57,7 @@ fn judge_identifiers(mut items: Cursor<'_>, count: u64) -> Result<(), Refusal>
     Ok(())
 }
 
-// The same, lent then.
+// Judges the next `count` identifiers, and borrows them.
 fn lend_identifiers<'a>(mut items: Cursor<'a>, count: u64) -> Result<LentIdentifiers<'a>, Refusal>
     ensures says { result ≡ all_from identifier_at count items.entry }
     ensures all { IfOk result (λ ids. length ids ≡ count) }
@@ -70,8 +70,8 @@ fn lend_identifiers<'a>(mut items: Cursor<'a>, count: u64) -> Result<LentIdentif
     })
 }
 
-// Refuses two that are alike: the second is found first, and then the first that it is like. No
-// identifier is before the first.
+// Refuses two equal identifiers: the second is as early as possible, and then the first. The first
+// identifier has none before it.
 fn judge_apart(ids: &mut LentIdentifiers<'_>, mut items: Cursor<'_>) -> Result<(), Refusal>
     ensures apart { result ≡ apart_from ids.old 1 (length ids.old - 1) items.entry }
     ensures same { ids.new ≡ ids.old }
@@ -95,7 +95,7 @@ fn lend_apart<'a>(mut items: Cursor<'a>, count: u64) -> Result<LentIdentifiers<'
     Ok(ids)
 }
 
-// So many identifiers of an array at a place.
+// Borrows the next `count` identifiers of an array whose place is `place`.
 fn lend_counted<'a>(
     items: Cursor<'a>,
     place: u64,
@@ -113,8 +113,8 @@ fn lend_counted<'a>(
     }
 }
 
-/// The identifiers of components that a whole item is: too many are refused first, then the first
-/// that is no identifier or too long, and then two that are alike.
+/// Borrows the identifiers of components from a whole item. Too many are refused first, then the
+/// first one that is malformed or too long, and then two that are equal.
 pub(crate) fn lend_components<'a>(mut item: Cursor<'a>) -> Result<LentIdentifiers<'a>, Refusal>
     ensures says { result ≡ components_at item.entry }
     ensures few { IfOk result (λ ids. length ids ≤ 8) }

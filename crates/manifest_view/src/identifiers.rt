@@ -1,4 +1,4 @@
-//! Identifiers of components, lent.
+//! Borrowed identifiers of components.
 
 ghost use Rattle.std.specs.Prelude.{◌≡◌, length};
 ghost use Rattle.manifest_view.specs.Lending.{LendsIdentifier, LendsPart};
@@ -7,8 +7,8 @@ use det_cbor::Cursor;
 use std::marker::Model;
 use suit_params::{bytes_left, read_array, read_content, read_item, same_place};
 
-/// The identifiers of components that are left (draft-ietf-suit-manifest-25, section 8.4.5), lent
-/// by bytes that were judged.
+/// The identifiers of components that are left (draft-ietf-suit-manifest-25, section 8.4.5),
+/// borrowed from bytes that were judged.
 #[derive(Drop)]
 pub struct LentIdentifiers<'a> {
     pub(crate) cursor: Cursor<'a>,
@@ -27,7 +27,7 @@ impl<'a> Model for LentIdentifiers<'a> {
     ghost invariant = { λ s. AreIdentifiers s.left s.cursor };
 }
 
-/// The byte strings of an identifier that are left, lent.
+/// The byte strings of an identifier that are left, borrowed.
 #[derive(Drop)]
 pub struct LentIdentifier<'a> {
     cursor: Cursor<'a>,
@@ -54,7 +54,7 @@ impl<'a> LentIdentifiers<'a> {
         self.left
     }
 
-    /// The same identifiers, lent again.
+    /// A copy, which borrows the same identifiers.
     pub fn copy(&mut self) -> LentIdentifiers<'a>
         ensures copied { result ≡ self.old }
         ensures same { self.new ≡ self.old }
@@ -65,7 +65,7 @@ impl<'a> LentIdentifiers<'a> {
         }
     }
 
-    /// The next identifier, lent. `None` stands exactly at the end.
+    /// The next identifier, or `None` at the end.
     pub fn next(&mut self) -> Option<LentIdentifier<'a>>
         ensures { LendsIdentifier self.old self.new result }
     {
@@ -83,7 +83,7 @@ impl<'a> LentIdentifiers<'a> {
 }
 
 impl<'a> LentIdentifier<'a> {
-    /// The content of the next byte string. `None` stands exactly at the end.
+    /// The content of the next byte string, or `None` at the end.
     pub fn next(&mut self) -> Option<&'a [u8]>
         ensures { LendsPart self.old self.new result }
     {

@@ -1,4 +1,5 @@
-//! The values of a manifest's map after common, lent from an item judged before.
+//! The values that follow the common part in a manifest's map, borrowed from items that were judged
+//! before.
 
 ghost use Rattle.std.specs.Prelude.{◌≡◌};
 ghost use Rattle.det_cbor.specs.HeadReading.{map_ok};
@@ -24,7 +25,7 @@ pub(crate) struct Later<'a> {
     pub(crate) text: TextView<'a>,
 }
 
-/// Lends the values in their order, for so many components.
+/// Borrows the values in their order. Component indices must be below `count`.
 pub(crate) fn lend_later<'a>(values: LaterValues<'a>, count: u32) -> Result<Later<'a>, Refusal>
     ensures { later_from count values.entry
         ≡ map_ok (λ l. record {

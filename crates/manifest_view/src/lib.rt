@@ -1,8 +1,8 @@
-//! Manifests (draft-ietf-suit-manifest-25, section 8.4) in the bytes of an envelope: judged once,
-//! and then lent by parts.
+//! Manifests (draft-ietf-suit-manifest-25, section 8.4) in the bytes of an envelope. They are
+//! judged once, and then their parts are borrowed.
 //!
-//! Nothing is copied and no memory is taken. A contract sees a lent manifest as the one that its
-//! bytes spell.
+//! Nothing is copied, and nothing is allocated. Contracts see a borrowed manifest as the one that
+//! its bytes spell.
 #![tactic(auto)]
 
 mod alike;

@@ -1,16 +1,17 @@
-//! Members that may stand apart from their manifest, lent.
+//! Borrowed severable members.
 
 use suit_cursor::LentSequence;
 use suit_params::Digest;
 
-/// A member that may stand in the manifest, or apart in the envelope.
+/// A severable member, which is in the manifest or severed into the envelope.
 #[derive(Drop)]
 pub enum MemberView<'a> {
-    /// There is none.
+    /// There is no such member.
     Empty,
-    /// The manifest holds it.
+    /// The manifest holds the member.
     Here(LentSequence<'a>),
-    /// The manifest states the digest of the member's whole byte string in the envelope.
+    /// The member is severed. The manifest states the digest of its whole byte string in the
+    /// envelope.
     Apart(Digest),
 }
 

@@ -1,4 +1,4 @@
-//! Values of a manifest's map, lent from items judged before.
+//! The values in a manifest's map, borrowed from items that were judged before.
 
 ghost use Rattle.std.specs.Prelude.{◌≡◌};
 ghost use Rattle.det_cbor.specs.HeadReading.{map_ok};
@@ -15,7 +15,7 @@ use suit_cursor::LentSequence;
 use suit_manifest::read_text;
 use suit_params::{Refusal, bytes_left, digest_of, only_item, read_content, read_head, same_place};
 
-/// A text, if there is one.
+/// Borrows a text, if there is one.
 pub(crate) fn lend_reference<'a>(item: Option<Cursor<'a>>) -> Result<Option<&'a str>, Refusal>
     ensures { map_ok lent_text result ≡ may text_at item.entry }
 {
@@ -25,7 +25,7 @@ pub(crate) fn lend_reference<'a>(item: Option<Cursor<'a>>) -> Result<Option<&'a 
     }
 }
 
-// The sequence that a byte string holds, for so many components.
+// Borrows the sequence that a byte string holds. Component indices must be below `count`.
 fn lend_sequence<'a>(
     mut item: Cursor<'a>,
     shared: bool,
@@ -38,7 +38,7 @@ fn lend_sequence<'a>(
     LentSequence::new(bytes_left(content), place, shared, count)
 }
 
-/// The same, if there is one.
+/// Borrows the sequence that a byte string holds, if there is one.
 pub(crate) fn lend_optional<'a>(
     item: Option<Cursor<'a>>,
     shared: bool,
@@ -52,7 +52,7 @@ pub(crate) fn lend_optional<'a>(
     }
 }
 
-// A digest, or a byte string that holds a sequence.
+// Borrows a severable member: a digest, or a byte string that holds a sequence.
 #[tactic(auto, unfolding(suit_manifest::specs::ManifestReading::severed_at))]
 fn lend_severed<'a>(mut item: Cursor<'a>, count: u32) -> Result<MemberView<'a>, Refusal>
     ensures { map_ok member_of result ≡ severed_at count item.entry }
@@ -65,7 +65,7 @@ fn lend_severed<'a>(mut item: Cursor<'a>, count: u32) -> Result<MemberView<'a>, 
     }
 }
 
-/// The same, if there is one.
+/// Borrows a severable member, if there is one.
 pub(crate) fn lend_member<'a>(
     item: Option<Cursor<'a>>,
     count: u32,
@@ -78,7 +78,7 @@ pub(crate) fn lend_member<'a>(
     }
 }
 
-// The content of a byte string that holds one item.
+// Borrows the content of a byte string that holds one item.
 fn lend_content<'a>(mut item: Cursor<'a>) -> Result<&'a [u8], Refusal>
     ensures { map_ok (λ b. b.now) result ≡ content_at item.entry }
 {
@@ -88,7 +88,7 @@ fn lend_content<'a>(mut item: Cursor<'a>) -> Result<&'a [u8], Refusal>
     Ok(bytes_left(content))
 }
 
-// A digest, or a byte string that holds one item.
+// Borrows the text: a digest, or a byte string that holds one item.
 #[tactic(auto, unfolding(suit_manifest::specs::ManifestReading::text_member_at))]
 fn lend_text_item<'a>(mut item: Cursor<'a>) -> Result<TextView<'a>, Refusal>
     ensures { map_ok text_of result ≡ text_member_at item.entry }
@@ -101,7 +101,7 @@ fn lend_text_item<'a>(mut item: Cursor<'a>) -> Result<TextView<'a>, Refusal>
     }
 }
 
-/// The same, if there is one.
+/// Borrows the text, if there is one.
 pub(crate) fn lend_text_member<'a>(item: Option<Cursor<'a>>) -> Result<TextView<'a>, Refusal>
     ensures { map_ok text_of result ≡ text_in item.entry }
 {

@@ -1,4 +1,4 @@
-//! Manifests, lent.
+//! Borrowed manifests.
 
 ghost use Rattle.std.specs.Prelude.{◌≡◌, ◌≤◌, ◌+◌, ◌<◌, ◌^◌, length, Result, Ok, Err, IfOk, IfErr, IsOkAnd};
 ghost use Rattle.det_cbor.specs.HeadReading.{map_ok};
@@ -17,11 +17,12 @@ use suit_cursor::LentSequence;
 use suit_manifest::{ManifestValues, manifest_values, needed, read_number, read_version};
 use suit_params::{Refusal, only_item, read_map};
 
-/// A manifest (draft-ietf-suit-manifest-25, section 8.4), lent by its bytes. Its sequences were
-/// judged, and are entered by their heads. Places are counted in bytes from the envelope's first.
+/// A manifest (draft-ietf-suit-manifest-25, section 8.4), borrowed from its bytes. Its sequences
+/// have been judged, and only their heads are read to enter them. Places are in bytes from the
+/// start of the envelope.
 #[derive(Drop)]
 pub struct ManifestView<'a> {
-    /// The number that grows with each manifest of a device.
+    /// The sequence number, which grows with each manifest of a device.
     pub sequence: u64,
     pub components: LentIdentifiers<'a>,
     /// The commands that are run before each member.
@@ -35,7 +36,7 @@ pub struct ManifestView<'a> {
     pub text: TextView<'a>,
 }
 
-// A manifest, by the values of a map.
+// Borrows a manifest from the values of its map.
 fn lend_values<'a>(place: u64, values: ManifestValues<'a>) -> Result<ManifestView<'a>, Refusal>
     ensures { map_ok manifest_of result ≡ values_from place values.entry }
 {
@@ -60,7 +61,7 @@ fn lend_values<'a>(place: u64, values: ManifestValues<'a>) -> Result<ManifestVie
     })
 }
 
-// A manifest, by a map of so many pairs.
+// Borrows a manifest from a map of `pairs` pairs.
 fn lend_pairs<'a>(map: Cursor<'a>, place: u64, pairs: u64) -> Result<ManifestView<'a>, Refusal>
     ensures { map_ok manifest_of result ≡ pairs_from place pairs map.entry }
 {
@@ -68,7 +69,7 @@ fn lend_pairs<'a>(map: Cursor<'a>, place: u64, pairs: u64) -> Result<ManifestVie
     lend_values(place, values)
 }
 
-// A whole item as a manifest.
+// Borrows a manifest from a whole item.
 fn lend_item<'a>(mut item: Cursor<'a>) -> Result<ManifestView<'a>, Refusal>
     ensures { map_ok manifest_of result ≡ manifest_at item.entry }
 {
@@ -77,7 +78,7 @@ fn lend_item<'a>(mut item: Cursor<'a>) -> Result<ManifestView<'a>, Refusal>
     lend_pairs(item, place, pairs)
 }
 
-// See `ManifestView::read`.
+// Does the work of `ManifestView::read`.
 fn lend_manifest<'a>(bytes: &'a [u8], place: u64) -> Result<ManifestView<'a>, Refusal>
     requires { place + length bytes.now < 2 ^ 64 }
     ensures { map_ok manifest_of result
@@ -88,9 +89,9 @@ fn lend_manifest<'a>(bytes: &'a [u8], place: u64) -> Result<ManifestView<'a>, Re
 }
 
 impl<'a> ManifestView<'a> {
-    /// The manifest that the bytes spell. The bytes start at this place in the envelope, from which
-    /// the places of commands and refusals count. They are judged once, here, as `decode_manifest`
-    /// judges them. Takes no memory.
+    /// Reads the manifest that the bytes spell. `place` is where the bytes begin in the envelope;
+    /// the places of commands and refusals are counted from the envelope's start. The bytes are
+    /// judged once, here, as by `decode_manifest`. Allocates nothing.
     pub fn read(bytes: &'a [u8], place: u64) -> Result<ManifestView<'a>, Refusal>
         requires { place + length bytes.now < 2 ^ 64 }
         ensures ok { IfOk result (λ view. SaysWhole IsManifest place bytes.now (manifest_of view)) }

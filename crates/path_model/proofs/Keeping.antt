@@ -1,4 +1,5 @@
--- Where a fault falls in a recalled play, it is a path so far. With nothing to recall it falls where it does on the device.
+-- Where a fault falls in a recalled play, it is a path so far. With nothing to recall it falls where it does on the
+-- device.
 use Rattle.std.proofs.Common.{◌≡◌, ℕ, Bool, true, false, List, [], ◌∷◌, Option, Some, None, refl, sym, ap, subst, ◌∙◌, inl, inr}
 use Rattle.std.specs.Prelude.{IsTrue, option_map}
 use Rattle.std.proofs.lemmas.List.{append-nil}

@@ -1,4 +1,5 @@
--- What a recalled play launches has its digest, where the contents from which it goes on are as its recalled steps matched them.
+-- What a recalled play launches has its digest, where the contents from which it goes on are as its recalled steps
+-- matched them.
 use Rattle.std.proofs.Common.{◌≡◌, ℕ, Bool, true, false, List, [], ◌∷◌, ◌++◌, Option, Some, None, refl, sym, ap, subst, ◌∙◌, append_assoc, inl, inr, ◌⊎◌}
 use Rattle.std.proofs.lemmas.List.{append-nil}
 use Rattle.std.specs.List.{AllByRecursion}

@@ -1,4 +1,5 @@
--- A procedure that lost its power, and is given again with the outcomes so far, comes to what it comes to without a loss.
+-- A procedure that lost its power, and is given again with the outcomes so far, comes to what it comes to without a
+-- loss.
 use Rattle.std.proofs.Common.{◌≡◌, ℕ, Bool, List, [], Option, Some, None, inl, inr, refl, sym, ◌∙◌, ap, subst}
 use Rattle.std.proofs.lemmas.List.{append-nil}
 use Rattle.suit_commands.specs.declared.kinds.ActKind.{ActKind}

@@ -11,22 +11,23 @@ use Rattle.path_model.specs.declared.event.Event.TheVariants.{Tried, Matched, Mi
 use Rattle.suit_params.specs.InForce.{in_force, identifier_of, number_of, bytes_of, digest_in, size_in}
 use Rattle.path_model.specs.Behaviour.{Behaviour, Done, Condition}
 
--- it is passed: this event, and the state stays
+-- the condition passes: there is this event, and the state stays
 abbrev pub IsMet : Event → Behaviour
 IsMet event state events ending = (events ≡ event ∷ []) × (ending ≡ Done state)
 
--- it failed: this event, the place of the failure, and the sequence ends
+-- the condition fails: there is this event and the place of the command, and the sequence ends
 abbrev pub IsUnmet : ℕ → Event → Behaviour
 IsUnmet place event state events ending =
     (events ≡ event ∷ Failed place ∷ []) × (ending ≡ Condition place state.soft_failure)
 
--- ---- conditions on the identity: passed exactly where the parameter is there and the identity
--- has the same
+-- ---- conditions on the identity pass exactly if their parameter is in force and the identity has the same value
 
+-- the parameter is in force, and the identity has its value
 abbrev pub IsAsWanted : {A : Type 0} → Option A → Option A → Type 0
 IsAsWanted None own = ⊥
 IsAsWanted (Some wanted) own = own ≡ Some wanted
 
+-- the condition passes if the value is the wanted one, and fails if not
 abbrev pub Compares : {A : Type 0} → ℕ → TestKind → ℕ → Option A → Option A → Behaviour
 Compares place kind component wanted own state events ending =
     (IsAsWanted wanted own × IsMet (Tried component kind true) state events ending)
@@ -48,16 +49,16 @@ abbrev pub slot_of : Option Identity → Option ℕ
 slot_of None = None
 slot_of (Some identity) = Some identity.slot
 
--- an identifier of the identity, with the one in force under this key
+-- compares an identifier of the identity with the one in force under this key
 abbrev pub ComparesIdentifier : TestKind → ParamKey → (Option Identity → Option (List ℕ)) → List Identity → ℕ → ℕ
     → Behaviour
 ComparesIdentifier kind key own_of identities place component state =
     Compares place kind component (identifier_of (in_force state.parameters component key))
     (own_of (slice_get identities component)) state
 
--- ---- conditions on the content, which may end either way where their parameter is there
+-- ---- conditions on the content may end either way if their parameter is in force
 
--- under the digest and size in force
+-- image match, under the digest and size in force
 abbrev pub Matches : ℕ → ℕ → Option Digest → Option ℕ → Behaviour
 Matches place component None size state events ending =
     IsUnmet place (Missed component) state events ending
@@ -65,6 +66,7 @@ Matches place component (Some digest) size state events ending =
     IsMet (Matched component digest size) state events ending
     ⊎ IsUnmet place (Missed component) state events ending
 
+-- check content, by the content in force
 abbrev pub ChecksContent : ℕ → ℕ → Option (List ℕ) → Behaviour
 ChecksContent place component None state events ending =
     IsUnmet place (Tried component tests.CheckContent false) state events ending
@@ -74,6 +76,7 @@ ChecksContent place component (Some content) state events ending =
 
 -- ---- each condition
 
+-- how each condition may end at one component
 abbrev pub Tests : TestKind → List Identity → ℕ → ℕ → Behaviour
 Tests tests.Vendor identities place component state =
     ComparesIdentifier tests.Vendor keys.Vendor vendor_of identities place component state

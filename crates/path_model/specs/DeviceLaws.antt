@@ -19,7 +19,7 @@ use Rattle.path_model.specs.DevicePlays.{Launched, Device, content_at, asking, c
 
 -- ---- conditions
 
--- the content has the digest in force, and the size where one is
+-- the content has the digest in force, and the size if one is in force
 pub record HasImage (state : State) (device : Device) (component : ℕ) : Type 0 where
   pub digest : Digest
   pub named : digest_in state.parameters component ≡ Some digest
@@ -27,27 +27,30 @@ pub record HasImage (state : State) (device : Device) (component : ℕ) : Type 0
   pub size : (size : ℕ) → size_in state.parameters component ≡ Some size
       → length (content_at device component) ≡ size
 
+-- the condition passes in this state, on this device
 abbrev pub TestPasses : Setting → TestKind → ℕ → ℕ → State → Device → Type 0
 TestPasses setting kind place component state device =
     ((condition_play setting kind place component).comes state device).ending ≡ Done state
 
+-- the flash failed before the content was read
 pub record IsUnread (place : ℕ) (device : Device) (outcome : Outcome Device) : Type 0 where
   pub events : outcome.events ≡ []
   pub ending : outcome.ending ≡ Directive place
   pub cause : outcome.cause ≡ Some causes.FlashFault
   pub world : outcome.world ≡ device
 
+-- when conditions on the content pass, and what conditions leave
 pub record ConditionRules : Type 0 where
   pub image : (setting : Setting) (place component : ℕ) (state : State) (device : Device)
       → TestPasses setting tests.ImageMatch place component state device ↔ HasImage state device component
   pub content : (setting : Setting) (place component : ℕ) (state : State) (device : Device)
       → TestPasses setting tests.CheckContent place component state device
       ↔ (bytes_of (in_force state.parameters component keys.Content) ≡ Some (content_at device component))
-  -- none changes anything
+  -- a condition changes nothing
   pub leaves :
       (setting : Setting) (kind : TestKind) (place component : ℕ) (state : State) (device : Device)
       → ((condition_play setting kind place component).comes state device).world ≡ device
-  -- where the flash fails, nothing is told and nothing changes
+  -- if the flash fails in a condition, it has no event and changes nothing
   pub cut :
       (setting : Setting) (kind : TestKind) (place component : ℕ) (state : State) (device : Device)
       (outcome : Outcome Device)
@@ -55,37 +58,42 @@ pub record ConditionRules : Type 0 where
 
 -- ---- directives
 
+-- what a directive comes to at one component
 abbrev pub acts_at : Setting → ActKind → ℕ → ℕ → State → Device → Outcome Device
 acts_at setting kind place component state device = (directive_play setting kind place component).comes state device
 
+-- the bytes in force under this key
 abbrev pub content_named : State → ℕ → ParamKey → Option (List ℕ)
 content_named state component key = bytes_of (in_force state.parameters component key)
 
+-- the source in force
 abbrev pub source_named : State → ℕ → Option ℕ
 source_named state component = number_of (in_force state.parameters component keys.Source)
 
--- it fails for this cause and changes nothing
+-- the directive fails for this cause, and changes nothing
 abbrev pub FailsFor : Outcome Device → Cause → Device → Type 0
 FailsFor outcome cause device = (outcome.cause ≡ Some cause) × (outcome.world ≡ device)
 
--- the component holds these bytes, and all else is as it was
+-- the component has these bytes, and all else is as it was
 pub record Holds (component : ℕ) (bytes : List ℕ) (before after : Device) : Type 0 where
   pub content : component < length before.contents → content_at after component ≡ bytes
   pub others : (other : ℕ) → other ≢ component → content_at after other ≡ content_at before other
   pub launches : after.launches ≡ before.launches
   pub asked : after.asked ≡ before.asked
 
+-- a directive without its parameter fails, and changes nothing
 abbrev pub MissingRule : ActKind → (State → ℕ → Type 0) → Type 0
 MissingRule kind Lacks =
     (setting : Setting) (place component : ℕ) (state : State) (device : Device)
     → Lacks state component → FailsFor (acts_at setting kind place component state device) causes.Missing device
 
--- a source that is the component itself
+-- a copy or swap whose source is the component itself fails
 abbrev pub ItselfRule : ActKind → Type 0
 ItselfRule kind =
     (setting : Setting) (place component : ℕ) (state : State) (device : Device) → source_named state component ≡ Some component
     → FailsFor (acts_at setting kind place component state device) causes.SelfCopy device
 
+-- a write replaces the content with the one in force, if there is room for it
 pub record WriteRules : Type 0 where
   pub missing :
       MissingRule acts.Write (λ state component. content_named state component keys.Content ≡ None)
@@ -99,7 +107,8 @@ pub record WriteRules : Type 0 where
       → content_named state component keys.Content ≡ Some bytes → capacity_of setting component < length bytes
       → FailsFor (acts_at setting acts.Write place component state device) causes.TooLarge device
 
--- The host is asked first, whatever it holds, and the payload is that of this request. One that is too large leaves nothing.
+-- The host is asked first, whatever it holds, and the payload is the answer to this request. A payload that is too
+-- large leaves the content empty.
 pub record FetchRules : Type 0 where
   pub missing :
       MissingRule acts.Fetch (λ state component. content_named state component keys.Uri ≡ None)
@@ -120,6 +129,7 @@ pub record FetchRules : Type 0 where
       → let outcome = acts_at setting acts.Fetch place component state device in
       (outcome.cause ≡ Some causes.TooLarge) × Holds component [] (asking setting uri device) outcome.world
 
+-- a copy replaces the content with that of the source, if there is room for it
 pub record CopyRules : Type 0 where
   pub missing : MissingRule acts.Copy (λ state component. source_named state component ≡ None)
   pub itself : ItselfRule acts.Copy
@@ -131,7 +141,7 @@ pub record CopyRules : Type 0 where
       → source_named state component ≡ Some source → source ≢ component → capacity_of setting component < length (content_at device source)
       → FailsFor (acts_at setting acts.Copy place component state device) causes.TooLarge device
 
--- each holds what the other held, and all else is as it was
+-- each component has what the other one had, and all else is as it was
 pub record Exchanged (component source : ℕ) (before after : Device) : Type 0 where
   pub content : component < length before.contents
       → content_at after component ≡ content_at before source
@@ -142,11 +152,12 @@ pub record Exchanged (component source : ℕ) (before after : Device) : Type 0 w
   pub launches : after.launches ≡ before.launches
   pub asked : after.asked ≡ before.asked
 
--- one of the two contents has no room in the place of the other
+-- one of the two contents does not fit into the other component
 abbrev pub NoRoom : Setting → Device → ℕ → ℕ → Type 0
 NoRoom setting device component source =
     (capacity_of setting component < length (content_at device source)) ⊎ (capacity_of setting source < length (content_at device component))
 
+-- a swap exchanges the two contents, if there is room for each
 pub record SwapRules : Type 0 where
   pub missing : MissingRule acts.Swap (λ state component. source_named state component ≡ None)
   pub itself : ItselfRule acts.Swap
@@ -159,7 +170,7 @@ pub record SwapRules : Type 0 where
       → source_named state component ≡ Some source → source ≢ component → NoRoom setting device component source
       → FailsFor (acts_at setting acts.Swap place component state device) causes.TooLarge device
 
--- the launch that an invoke adds
+-- this is the launch that an invoke adds
 pub record IsLaunchOf (state : State) (device : Device) (at : ℕ) (launch : Launched) : Type 0 where
   pub component : launch.component ≡ at
   pub bytes : launch.bytes ≡ content_at device at
@@ -167,6 +178,7 @@ pub record IsLaunchOf (state : State) (device : Device) (at : ℕ) (launch : Lau
   pub size : launch.size ≡ size_in state.parameters at
   pub args : launch.args ≡ bytes_of (in_force state.parameters at keys.Args)
 
+-- one launch was added, and nothing else changed
 pub record Launches (state : State) (component : ℕ) (before after : Device) : Type 0 where
   pub launch : Launched
   pub is : IsLaunchOf state before component launch
@@ -174,6 +186,7 @@ pub record Launches (state : State) (component : ℕ) (before after : Device) : 
   pub contents : after.contents ≡ before.contents
   pub asked : after.asked ≡ before.asked
 
+-- without a fault, an invoke launches the content
 abbrev pub InvokeRule : Type 0
 InvokeRule =
     (setting : Setting) (place component : ℕ) (state : State) (device : Device)
@@ -182,8 +195,9 @@ InvokeRule =
 
 -- ---- payloads
 
+-- which payload or file a URI finds, and what a host is asked for
 pub record PayloadRules : Type 0 where
-  -- under a key that begins with '#' those of the envelope
+  -- a key that begins with '#' finds a payload of the envelope
   pub integrated : (setting : Setting) (request : ℕ) (key : List ℕ)
       → payload_of setting request (35 ∷ key) ≡ found_under setting.payloads (35 ∷ key)
   -- any other URI names a file, if it is known and there is such a file
@@ -191,13 +205,13 @@ pub record PayloadRules : Type 0 where
       → found_under setting.words (first ∷ uri) ≡ Some name → payload_of setting request (first ∷ uri) ≡ setting.files request name
   pub unnamed : (setting : Setting) (request first : ℕ) (uri : List ℕ) → first ≢ 35
       → found_under setting.words (first ∷ uri) ≡ None → payload_of setting request (first ∷ uri) ≡ None
-  -- a host is asked for that file, and for none under a key and where no file is known
+  -- the host is asked for that file, and for none under a key or if no file is known
   pub asks_none : (words : List (List ℕ × List ℕ)) (key : List ℕ) → asked_by words (35 ∷ key) ≡ []
   pub asks : (words : List (List ℕ × List ℕ)) (first : ℕ) (uri name : List ℕ) → first ≢ 35
       → found_under words (first ∷ uri) ≡ Some name → asked_by words (first ∷ uri) ≡ name ∷ []
   pub asks_unnamed : (words : List (List ℕ × List ℕ)) (first : ℕ) (uri : List ℕ) → first ≢ 35
       → found_under words (first ∷ uri) ≡ None → asked_by words (first ∷ uri) ≡ []
-  -- the first of a name is found
+  -- the first pair with a name is found
   pub none : (key : List ℕ) → found_under [] key ≡ None
   pub here : (key value : List ℕ) (pairs : List (List ℕ × List ℕ))
       → found_under ((key, value) ∷ pairs) key ≡ Some value
@@ -206,28 +220,29 @@ pub record PayloadRules : Type 0 where
 
 -- ---- faults
 
--- the component holds some bytes, up to its capacity, and all else is as it was
+-- the component has some bytes, up to its capacity, and all else is as it was
 pub record HoldsSome (setting : Setting) (component : ℕ) (before after : Device) : Type 0 where
   pub bytes : List ℕ
   pub short : length bytes ≤ capacity_of setting component
   pub holds : Holds component bytes before after
 
--- both sides of a swap do
+-- both components of a swap have some bytes, up to their capacities, and all else is as it was
 pub record HoldBoth (setting : Setting) (component : ℕ) (before after : Device) : Type 0 where
   pub source : ℕ
   pub middle : Device
   pub one : HoldsSome setting component before middle
   pub other : HoldsSome setting source middle after
 
--- the device behind the ask for the URI in force
+-- the device after the request for the URI in force
 pub record Asking (setting : Setting) (state : State) (component : ℕ) (before : Device)
     (Then : Device → Type 0) : Type 0 where
   pub uri : List ℕ
   pub named : content_named state component keys.Uri ≡ Some uri
   pub then_so : Then (asking setting uri before)
 
--- the device that a fault may leave: one of the flash any content of what the directive writes, one of the host the old
--- content or none, and one of the launcher all as it was. A fetch asks the host first, which may fail at once.
+-- the device that a fault may leave: a fault of the flash leaves any content of what the directive writes, one of the
+-- host the old content or none, and one of the launcher all as it was; a fetch asks the host first, which may fail at
+-- once
 abbrev pub Leaves : Setting → ActKind → Cause → ℕ → State → Device → Device → Type 0
 Leaves setting acts.Write causes.FlashFault component state before after = HoldsSome setting component before after
 Leaves setting acts.Fetch causes.FlashFault component state before after =
@@ -240,6 +255,7 @@ Leaves setting acts.Invoke causes.FlashFault component state before after = afte
 Leaves setting acts.Invoke causes.LaunchFault component state before after = after ≡ before
 Leaves setting kind cause component state before after = ⊥
 
+-- a fault ended the directive, for a cause that it may have
 pub record IsFault (setting : Setting) (kind : ActKind) (place component : ℕ) (state : State)
     (before : Device) (outcome : Outcome Device) : Type 0 where
   pub ending : outcome.ending ≡ Directive place
@@ -247,6 +263,7 @@ pub record IsFault (setting : Setting) (kind : ActKind) (place component : ℕ) 
   pub named : outcome.cause ≡ Some cause
   pub leaves : Leaves setting kind cause component state before outcome.world
 
+-- whatever cuts a directive is such a fault
 abbrev pub FaultRule : Type 0
 FaultRule =
     (setting : Setting) (kind : ActKind) (place component : ℕ) (state : State) (device : Device) (outcome : Outcome Device)

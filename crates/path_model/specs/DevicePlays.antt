@@ -24,7 +24,7 @@ use Rattle.path_model.specs.Path.{first_state}
 use Rattle.path_model.specs.Settings.{Setting, asked_by, capacity_of, payload_of, NamesFile}
 use Rattle.path_model.specs.Plays.{Outcome, Play, procedure}
 
--- one launch: the component, its content, and what its parameters name
+-- a launch: the component, its content, and what the parameters in force give for it
 pub record Launched : Type 0 where
   pub component : ℕ
   pub bytes : List ℕ
@@ -32,7 +32,8 @@ pub record Launched : Type 0 where
   pub size : Option ℕ
   pub args : Option (List ℕ)
 
--- the content of each component, what was launched, and the names of files that the host was asked for, in order
+-- a device: the content of each component, what was launched, and the names of files that the host was asked for, in
+-- order
 pub record Device : Type 0 where
   pub contents : List (List ℕ)
   pub launches : List Launched
@@ -47,7 +48,7 @@ with_content device component bytes =
 
 -- ---- conditions
 
--- a test: the event where it passes, and the one where it fails
+-- a condition with one event if it passes, and another one if it fails
 abbrev pub tested : ℕ → Event → Event → State → Device → Bool → Outcome Device
 tested place passed failed state device true =
     record { events = passed ∷ []; ending = Done state; cause = None; world = device }
@@ -58,12 +59,12 @@ tested place passed failed state device false = record {
   world = device;
 }
 
--- a condition that looks at a content ends at once where the flash fails, and tells nothing
+-- a condition that reads a content ends at once if the flash fails, without an event
 abbrev pub unread : ℕ → Device → Outcome Device
 unread place device =
     record { events = []; ending = Directive place; cause = Some causes.FlashFault; world = device }
 
--- a condition that looks at no content
+-- a condition that reads no content
 abbrev pub comparing : ℕ → TestKind → ℕ → (State → Bool) → Play Device
 comparing place kind component holds = record {
   comes = λ state device.
@@ -76,7 +77,7 @@ abbrev pub same_identifier : Option (List ℕ) → Option (List ℕ) → Bool
 same_identifier (Some wanted) (Some own) = bytes_eq own wanted
 same_identifier _ _ = false
 
--- an identifier of the identity, with the one in force under this key
+-- compares an identifier of the identity with the one in force under this key
 abbrev pub comparing_identifier : TestKind → ParamKey → (Option Identity → Option (List ℕ)) → Setting → ℕ → ℕ
     → Play Device
 comparing_identifier kind key own_of setting place component =
@@ -88,15 +89,16 @@ abbrev pub same_number : Option ℕ → Option ℕ → Bool
 same_number (Some wanted) (Some own) = own == wanted
 same_number _ _ = false
 
--- a size that is not in force fits every content
+-- if no size is in force, every content fits
 abbrev pub fits_size : Option ℕ → List ℕ → Bool
 fits_size None content = true
 fits_size (Some size) content = length content == size
 
--- the content has the digest, and the size where one is
+-- the content has the digest, and the size if one is given
 abbrev pub is_image : Digest → Option ℕ → List ℕ → Bool
 is_image digest size content = has_digest digest content && fits_size size content
 
+-- an image match, under the digest in force, if there is one
 abbrev pub matched : ℕ → ℕ → Option ℕ → State → Device → Option Digest → Outcome Device
 matched place component size state device None =
     tested place (Missed component) (Missed component) state device false
@@ -104,6 +106,7 @@ matched place component size state device (Some digest) =
     tested place (Matched component digest size) (Missed component) state device
     (is_image digest size (content_at device component))
 
+-- image match, which reads the content only if a digest is in force
 abbrev pub matching : ℕ → ℕ → Play Device
 matching place component = record {
   comes = λ state device.
@@ -114,10 +117,12 @@ matching place component = record {
       × (outcome ≡ unread place device);
 }
 
+-- a content is in force, and this is it
 abbrev pub is_content : Option (List ℕ) → List ℕ → Bool
 is_content None content = false
 is_content (Some wanted) content = bytes_eq content wanted
 
+-- check content, which reads the content only if its parameter is in force
 abbrev pub checking : ℕ → ℕ → Play Device
 checking place component = record {
   comes = λ state device.
@@ -129,6 +134,7 @@ checking place component = record {
       × (outcome ≡ unread place device);
 }
 
+-- each condition, on the contents of a device
 abbrev pub condition_play : Setting → TestKind → ℕ → ℕ → Play Device
 condition_play setting tests.Vendor place component =
     comparing_identifier tests.Vendor keys.Vendor vendor_of setting place component
@@ -147,11 +153,12 @@ condition_play setting tests.Abort place component =
 
 -- ---- directives
 
--- the device after a directive, or why it failed and the device that it leaves
+-- what a directive makes of the device, or why it failed and what it leaves
 pub data Change : Type 0 where
   Made : (device : Device) → Change
   Refused : (cause : Cause) (device : Device) → Change
 
+-- how a directive with these events ends, by what it makes of the device
 abbrev pub concluded : ℕ → List Event → State → Change → Outcome Device
 concluded place events state (Made device) =
     record { events = events; ending = Done state; cause = None; world = device }
@@ -162,19 +169,19 @@ concluded place events state (Refused cause device) = record {
   world = device;
 }
 
--- the content becomes these bytes, where there is room for them
+-- the content is replaced with these bytes, if there is room for them
 abbrev pub filled : Setting → ℕ → List ℕ → Device → Change
 filled setting component bytes device =
     if nat_le (length bytes) (capacity_of setting component)
     then Made (with_content device component bytes)
     else Refused causes.TooLarge device
 
--- the host was asked for the file that the URI names, where it names one
+-- the host was asked for the file that the URI names, if it names one
 abbrev pub asking : Setting → List ℕ → Device → Device
 asking setting uri device =
     record device { asked = device.asked ++ asked_by setting.words uri }
 
--- a payload that is too large leaves nothing
+-- a payload that is too large leaves the content empty
 abbrev pub fetched : Setting → ℕ → Option (List ℕ) → Device → Change
 fetched setting component None device = Refused causes.Absent device
 fetched setting component (Some bytes) device =
@@ -182,22 +189,24 @@ fetched setting component (Some bytes) device =
     then Made (with_content device component bytes)
     else Refused causes.TooLarge (with_content device component [])
 
--- the payload of a URI; the host is asked first
+-- the fetch of a URI; the host is asked first
 abbrev pub fetching : Setting → ℕ → List ℕ → Device → Change
 fetching setting component uri device =
     fetched setting component (payload_of setting (length device.asked) uri)
     (asking setting uri device)
 
+-- the content is replaced with that of the source, which has to be another component
 abbrev pub copied : Setting → ℕ → ℕ → Device → Change
 copied setting component source device =
     if source == component then Refused causes.SelfCopy device
     else filled setting component (content_at device source) device
 
--- the content fits the other component
+-- the content of one component fits into the other one
 abbrev pub fits_into : Setting → Device → ℕ → ℕ → Bool
 fits_into setting device component other =
     nat_le (length (content_at device component)) (capacity_of setting other)
 
+-- the two contents are exchanged, if each fits and the source is another component
 abbrev pub swapped : Setting → ℕ → ℕ → Device → Change
 swapped setting component source device =
     if source == component then Refused causes.SelfCopy device
@@ -207,14 +216,14 @@ swapped setting component source device =
     (content_at device component))
     else Refused causes.TooLarge device
 
--- a directive with a parameter: without it, it fails
+-- a directive that takes a parameter fails without it
 abbrev pub acted : {A : Type 0} → ℕ → (A → List Event) → (A → Device → Change) → State → Device
     → Option A → Outcome Device
 acted place told makes state device None = concluded place [] state (Refused causes.Missing device)
 acted place told makes state device (Some parameter) =
     concluded place (told parameter) state (makes parameter device)
 
--- where a fault cut it, it tells what a failure does
+-- a directive that a fault cuts has the events of a failure
 abbrev pub ActIsCut : {A : Type 0} → ℕ → (A → List Event) → (A → Cause → Device → Device → Type 0)
     → State → Device → Outcome Device → Option A → Type 0
 ActIsCut place told Leaves state device outcome None = ⊥
@@ -222,6 +231,7 @@ ActIsCut place told Leaves state device outcome (Some parameter) =
     (cause : Cause) × (left : Device) × Leaves parameter cause device left
     × (outcome ≡ concluded place (told parameter) state (Refused cause left))
 
+-- a directive that takes a parameter, and may be cut only with it
 abbrev pub acting : {A : Type 0} → ℕ → (State → Option A) → (A → List Event) → (A → Device → Change)
     → (A → Cause → Device → Device → Type 0) → Play Device
 acting place wanted told makes Leaves = record {
@@ -229,25 +239,27 @@ acting place wanted told makes Leaves = record {
   IsCut = λ state device outcome. ActIsCut place told Leaves state device outcome (wanted state);
 }
 
--- it writes its component alone
+-- a directive that writes its component alone
 abbrev pub writing : {A : Type 0} → ℕ → ℕ → (State → Option A) → (A → Device → Change)
     → (A → Cause → Device → Device → Type 0) → Play Device
 writing place component wanted makes Leaves =
     acting place wanted (λ parameter. Wrote component ∷ []) makes Leaves
 
--- ---- the effect of a fault
+-- ---- what a fault leaves
 
--- any content of the component, up to its capacity
+-- the component has any content, up to its capacity
 abbrev pub HoldsAny : Setting → ℕ → Device → Device → Type 0
 HoldsAny setting component before left =
     (bytes : List ℕ) × (length bytes ≤ capacity_of setting component)
     × (left ≡ with_content before component bytes)
 
+-- only a fault of the flash cuts a write or a copy, and it leaves any content
 abbrev pub WriteLeaves : Setting → ℕ → Cause → Device → Device → Type 0
 WriteLeaves setting component causes.FlashFault before left = HoldsAny setting component before left
 WriteLeaves setting component _ before left = ⊥
 
--- a fault of the host comes where a file is named. It leaves the old content or none; the host was asked, or could not be.
+-- a fault of the host comes only if the URI names a file; it leaves the old content or none, and the host was asked, or
+-- could not be
 abbrev pub FetchLeaves : Setting → List ℕ → ℕ → Cause → Device → Device → Type 0
 FetchLeaves setting uri component causes.HostFault before left =
     NamesFile setting.words uri
@@ -257,6 +269,7 @@ FetchLeaves setting uri component causes.FlashFault before left =
     HoldsAny setting component (asking setting uri before) left
 FetchLeaves setting uri component _ before left = ⊥
 
+-- only a fault of the flash cuts a swap, and it leaves any contents
 abbrev pub SwapLeaves : Setting → ℕ → ℕ → Cause → Device → Device → Type 0
 SwapLeaves setting component source causes.FlashFault before left =
     (middle : Device) × HoldsAny setting component before middle
@@ -265,6 +278,7 @@ SwapLeaves setting component source _ before left = ⊥
 
 -- ---- each directive
 
+-- the launch of a component's content, with the parameters in force
 abbrev pub launch_of : Device → ℕ → Parameters → Launched
 launch_of device component parameters = record {
   component = component;
@@ -274,15 +288,18 @@ launch_of device component parameters = record {
   args = bytes_of (in_force parameters component keys.Args);
 }
 
+-- the device after that launch
 abbrev pub launching : Device → ℕ → Parameters → Device
 launching device component parameters =
     record device { launches = device.launches ++ launch_of device component parameters ∷ [] }
 
+-- a fault of the flash or of the launcher may cut an invoke
 abbrev pub StopsLaunch : Cause → Type 0
 StopsLaunch causes.FlashFault = Unit {0}
 StopsLaunch causes.LaunchFault = Unit {0}
 StopsLaunch _ = ⊥
 
+-- invoke, which is done unless a fault cuts it
 abbrev pub invoking : ℕ → ℕ → Play Device
 invoking place component = record {
   comes = λ state device.
@@ -293,6 +310,7 @@ invoking place component = record {
       (outcome ≡ concluded place (invoke_event component state.parameters false ∷ []) state (Refused cause device));
 }
 
+-- each directive, on the contents of a device
 abbrev pub directive_play : Setting → ActKind → ℕ → ℕ → Play Device
 directive_play setting acts.Write place component =
     writing place component (λ state. bytes_of (in_force state.parameters component keys.Content))
@@ -312,10 +330,11 @@ directive_play setting acts.Invoke place component = invoking place component
 
 -- ---- procedures
 
--- nothing was launched and no file asked for before
+-- the device before the procedure: nothing is launched, and no file is asked for
 abbrev pub first_device : List (List ℕ) → Device
 first_device contents = record { contents = contents; launches = []; asked = [] }
 
+-- a procedure, on the contents of a device
 abbrev pub plan_play : PlanTree → Setting → Play Device
 plan_play plan setting =
     procedure Device (condition_play setting) (directive_play setting) plan.count plan
@@ -324,7 +343,7 @@ plan_play plan setting =
 abbrev pub played : PlanTree → Setting → List (List ℕ) → Outcome Device
 played plan setting contents = (plan_play plan setting).comes first_state (first_device contents)
 
--- a play of it that a fault cut short
+-- a fault may cut the play of a procedure short like this
 abbrev pub IsFaulted : PlanTree → Setting → List (List ℕ) → Outcome Device → Type 0
 IsFaulted plan setting contents outcome =
     (plan_play plan setting).IsCut first_state (first_device contents) outcome

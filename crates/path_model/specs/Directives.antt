@@ -10,16 +10,19 @@ use Rattle.path_model.specs.declared.event.Event.TheVariants.{Set, Wrote, Invoke
 use Rattle.suit_params.specs.InForce.{Parameters, in_force, with_param, number_of, bytes_of, digest_in, size_in}
 use Rattle.path_model.specs.Behaviour.{State, Behaviour, Done, Directive}
 
--- ---- override parameters: each is set in the order of the list, and soft failure is that of the running sequence
+-- ---- override parameters: each is set, in the order of the list; soft failure is that of the running sequence
 
+-- the events of an override at one component: one for each parameter of the list
 abbrev pub set_events : ℕ → List Param → List Event
 set_events component [] = []
 set_events component (param ∷ list) = Set component param ∷ set_events component list
 
+-- soft failure after one parameter of an override
 abbrev pub soft_after : Bool → Param → Bool
 soft_after soft_failure (params.Soft value) = value
 soft_after soft_failure _ = soft_failure
 
+-- the state after an override at one component
 abbrev pub after_override : State → ℕ → List Param → State
 after_override state component [] = state
 after_override state component (param ∷ list) =
@@ -29,13 +32,15 @@ after_override state component (param ∷ list) =
       soft_failure = soft_after state.soft_failure param;
     }) component list
 
+-- an override is always done
 abbrev pub Overrides : List Param → ℕ → Behaviour
 Overrides list component state events ending =
     (events ≡ set_events component list) × (ending ≡ Done (after_override state component list))
 
--- ---- write, fetch, copy and swap: without their parameter they only fail, and with it they may end either way.
--- A component counts as written also where the directive failed.
+-- ---- write, fetch, copy and swap: without their parameter they fail, and with it they may end either way. A component
+-- counts as written even if the directive failed.
 
+-- a directive that writes, by the parameter that it needs
 abbrev pub Writes : {A : Type 0} → ℕ → Option A → (A → List Event) → Behaviour
 Writes place None written state events ending =
     (events ≡ Failed place ∷ []) × (ending ≡ Directive place)
@@ -45,10 +50,12 @@ Writes place (Some parameter) written state events ending =
 
 -- ---- invoke, with the digest and size in force
 
+-- the event of an invoke
 abbrev pub invoke_event : ℕ → Parameters → Bool → Event
 invoke_event component parameters passed =
     Invoked component (digest_in parameters component) (size_in parameters component) passed
 
+-- an invoke may succeed or fail
 abbrev pub Invokes : ℕ → ℕ → Behaviour
 Invokes place component state events ending =
     ((events ≡ invoke_event component state.parameters true ∷ []) × (ending ≡ Done state))
@@ -58,6 +65,7 @@ Invokes place component state events ending =
 
 -- ---- each directive that acts on a content
 
+-- how each directive that acts on a content may end at one component
 abbrev pub Acts : ActKind → ℕ → ℕ → Behaviour
 Acts acts.Write place component state =
     Writes place (bytes_of (in_force state.parameters component keys.Content))

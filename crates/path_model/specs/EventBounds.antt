@@ -8,13 +8,13 @@ use Rattle.suit_commands.specs.Tree.{PlanTree}
 use Rattle.suit_commands.specs.Numbers.{work_number}
 use Rattle.path_model.specs.Path.{Path}
 
--- how many of these events are not Set
+-- how many of these events are not `Set`
 abbrev pub told_number : List Event → ℕ
 told_number [] = 0
 told_number (Set component param ∷ events) = told_number events
 told_number (_ ∷ events) = suc (told_number events)
 
--- the number is a count: of parts together it is their sum, of one event 1, and 0 of one that sets a parameter
+-- this number counts one by one: it is the sum of two parts, 0 for an event that sets a parameter, and 1 for any other
 pub record CountsEvents : Type 0 where
   pub parts : (front rest : List Event)
       → told_number (front ++ rest) ≡ told_number front + told_number rest
@@ -22,7 +22,7 @@ pub record CountsEvents : Type 0 where
   pub other : (event : Event) → ((component : ℕ) (param : Param) → event ≢ Set component param)
       → told_number (event ∷ []) ≡ 1
 
--- on a path they are at most three times the work of the procedure
+-- on a path this number is at most three times the work of the procedure
 abbrev pub PathsBounded : Type 0
 PathsBounded =
     (plan : PlanTree) (identities : List Identity) (events : List Event)

@@ -7,17 +7,18 @@ use Rattle.path_model.specs.declared.cover.Bearing.{Bearing}
 use Rattle.path_model.specs.declared.cover.Bearing.TheVariants as bearings
 use Rattle.path_model.specs.Safe.{Covered, AllCovered}
 
--- at this index, and no earlier one is not covered
+-- the event at this index is not covered, and all before it are
 pub record IsUncoveredFirst (events : List Event) (index : ℕ) : Type 0 where
   pub within : index < length events
   pub uncovered : Covered events index → ⊥
   pub earlier : (i : ℕ) → i < index → Covered events i
 
+-- the index of the first uncovered event, or none if all are covered
 abbrev pub IsFirstUncovered : List Event → Option ℕ → Type 0
 IsFirstUncovered events None = AllCovered events
 IsFirstUncovered events (Some index) = IsUncoveredFirst events index
 
--- how an event bears on whether a component stands as matched under a digest and a size
+-- what an event does to the match of a component under a digest and a size
 abbrev pub Bears : Event → ℕ → Digest → Option ℕ → Bearing → Type 0
 Bears event component digest size bearings.Matches = event ≡ Matched component digest size
 Bears event component digest size bearings.Ends = event ≡ Wrote component

@@ -1,4 +1,4 @@
--- That a run is one, for one list of identities and one way for each free step to end (this project's own law).
+-- For one list of identities, and one outcome for each free step, there is one run (this project's own law).
 use Rattle.std.specs.Prelude.{◌≡◌, ◌⊎◌, ℕ, true, false, List, [], ◌∷◌, ◌++◌, Option}
 use Rattle.suit_params.specs.declared.digest.Digest.{Digest}
 use Rattle.suit_commands.specs.declared.kinds.TestKind.TheVariants as tests
@@ -10,7 +10,7 @@ use Rattle.path_model.specs.Behaviour.{State, Ending}
 use Rattle.path_model.specs.Runs.{Runs}
 use Rattle.path_model.specs.Path.{RunsPlan}
 
--- the steps that are free: what each tells where it passes, and where it fails
+-- the free steps, with what their events tell
 pub data FreeStep : Type 0 where
   MatchStep : (component place : ℕ) (digest : Digest) (size : Option ℕ) → FreeStep
   ContentStep : (component place : ℕ) → FreeStep
@@ -18,6 +18,7 @@ pub data FreeStep : Type 0 where
   SwapStep : (component source place : ℕ) → FreeStep
   InvokeStep : (component place : ℕ) (digest : Option Digest) (size : Option ℕ) → FreeStep
 
+-- the events of a free step that passes
 abbrev pub passed_told : FreeStep → List Event
 passed_told (MatchStep component place digest size) = Matched component digest size ∷ []
 passed_told (ContentStep component place) = Tried component tests.CheckContent true ∷ []
@@ -25,6 +26,7 @@ passed_told (WriteStep component place) = Wrote component ∷ []
 passed_told (SwapStep component source place) = Wrote component ∷ Wrote source ∷ []
 passed_told (InvokeStep component place digest size) = Invoked component digest size true ∷ []
 
+-- the events of a free step that fails
 abbrev pub failed_told : FreeStep → List Event
 failed_told (MatchStep component place digest size) = Missed component ∷ Failed place ∷ []
 failed_told (ContentStep component place) =
@@ -34,7 +36,7 @@ failed_told (SwapStep component source place) = Wrote component ∷ Wrote source
 failed_told (InvokeStep component place digest size) =
     Invoked component digest size false ∷ Failed place ∷ []
 
--- one run passes a free step where the other fails it, and up to there both told the same
+-- one run passes a free step where the other fails it, and before that both told the same
 pub record PartsAt (passing failing : List Event) : Type 0 where
   pub common : List Event
   pub step : FreeStep
@@ -43,14 +45,16 @@ pub record PartsAt (passing failing : List Event) : Type 0 where
   pub passes : passing ≡ common ++ (passed_told step ++ passing_rest)
   pub fails : failing ≡ common ++ (failed_told step ++ failing_rest)
 
+-- both runs have the same events and the same ending
 abbrev pub IsSameRun : List Event → Ending → List Event → Ending → Type 0
 IsSameRun events ending others other = (events ≡ others) × (ending ≡ other)
 
--- so two runs are the same, or part at a free step
+-- two runs are the same, or part at a free step
 abbrev pub SameOrParts : List Event → Ending → List Event → Ending → Type 0
 SameOrParts events ending others other =
     IsSameRun events ending others other ⊎ (PartsAt events others ⊎ PartsAt others events)
 
+-- two runs of a sequence or of a procedure are the same, or part at a free step
 pub record OneRun : Type 0 where
   pub sequence : (sequence : SequenceTree) (identities : List Identity) (count : ℕ) (state : State)
       (events others : List Event) (ending other : Ending)

@@ -1,15 +1,15 @@
--- Laws of the parameters in force. They are stated of those that have a place for each of eight components and
--- twelve keys.
+-- Laws of the parameters in force. They are for lists that have a place for each of eight components and twelve keys.
 use Rattle.std.specs.Prelude.{◌≡◌, ◌<◌, ℕ, Some, None, length}
 use Rattle.suit_params.specs.declared.param.Param.{Param}
 use Rattle.suit_params.specs.declared.param.ParamKey.{ParamKey}
 use Rattle.suit_params.specs.ParamKeys.{key_of}
 use Rattle.suit_params.specs.InForce.{Parameters, none_in_force, with_param, in_force}
 
+-- there is a place for each of eight components and twelve keys
 abbrev pub IsWhole : Parameters → Type 0
 IsWhole parameters = length parameters ≡ 96
 
--- they stay such, whatever is overridden
+-- an override keeps the list like this
 pub record StaysWhole : Type 0 where
   pub first : IsWhole none_in_force
   pub next : (parameters : Parameters) (component : ℕ) (param : Param) → IsWhole parameters
@@ -25,14 +25,14 @@ OverrideReplaces =
     (parameters : Parameters) (component : ℕ) (param : Param) → IsWhole parameters → component < 8
     → in_force (with_param parameters component param) component (key_of param) ≡ Some param
 
--- and leaves what is in force for another component, or under another key
+-- an override leaves what is in force for another component, or under another key
 abbrev pub OverrideKeeps : Type 0
 OverrideKeeps =
     (parameters : Parameters) (component other : ℕ) (param : Param) (key : ParamKey) → IsWhole parameters → component < 8 → other < 8
     → ((other ≡ component) × (key ≡ key_of param) → ⊥)
     → in_force (with_param parameters component param) other key ≡ in_force parameters other key
 
--- where the same is in force, it is the same value
+-- if the same is in force in both, they are equal
 abbrev pub IsCanonical : Type 0
 IsCanonical =
     (a b : Parameters) → IsWhole a → IsWhole b

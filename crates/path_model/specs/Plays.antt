@@ -1,6 +1,6 @@
--- The outcome of a sequence in a world that decides each free step, and where a fault of the outside may cut it short
--- (draft-ietf-suit-manifest-25, section 6.4, and this project's own choices). The world, and how conditions and
--- directives act in it, are left open here.
+-- What a sequence comes to in a world that decides each free step, and where a fault of the outside may cut it short
+-- (draft-ietf-suit-manifest-25, section 6.4, and this project's own choices). The world is left open here, and so is
+-- what conditions and directives do in it.
 use Rattle.std.specs.Prelude.{◌≡◌, ℕ, ◌⊎◌, true, false, List, [], ◌∷◌, ◌++◌, Option, None}
 use Rattle.suit_params.specs.declared.param.Param.{Param}
 use Rattle.suit_commands.specs.declared.kinds.TestKind.{TestKind}
@@ -15,21 +15,21 @@ use Rattle.path_model.specs.Runs.{entry_state, after_run, after_branch}
 use Rattle.path_model.specs.Path.{start_state}
 
 module _ (World : Type 0) where
-  -- the events, how it ended, why the directive failed where one did, and the world that it left
+  -- the events, how they ended, why the directive failed if one did, and the world that is left
   pub record Outcome : Type 0 where
     pub events : List Event
     pub ending : Ending
     pub cause : Option Cause
     pub world : World
 
-  -- A play: what comes of a state and a world, and what may come of them where a fault cuts the play at one step.
+  -- A play: what a state and a world come to, and what they may come to if a fault cuts the play in one step.
   pub record Play : Type 1 where
     pub comes : State → World → Outcome
     pub IsCut : State → World → Outcome → Type 0
 
-  -- ---- one after another
+  -- ---- plays in order
 
-  -- behind events that were told before
+  -- the outcome of what comes later, with these events before it
   abbrev pub behind : List Event → Outcome → Outcome
   behind events later =
       record {
@@ -39,14 +39,14 @@ module _ (World : Type 0) where
         world = later.world;
       }
 
-  -- a play came to this; where it is done, the next one goes on there
+  -- the first play came to this; if it is done, the next one goes on from there
   abbrev pub going_on : (State → World → Outcome) → List Event → Option Cause → World → Ending
       → Outcome
   going_on next events cause world (Done state) = behind events (next state world)
   going_on next events cause world ending =
       record { events = events; ending = ending; cause = cause; world = world }
 
-  -- a play came to this, and the next one was cut
+  -- the first play came to this, and the next one was cut
   abbrev pub NextIsCut : (State → World → Outcome → Type 0) → List Event → World → Ending → Outcome
       → Type 0
   NextIsCut IsCut events world (Done state) outcome =
@@ -54,6 +54,7 @@ module _ (World : Type 0) where
   NextIsCut IsCut events world (Condition place soft_failure) outcome = ⊥
   NextIsCut IsCut events world (Directive place) outcome = ⊥
 
+  -- the first play, and then the second from where the first is done
   abbrev pub in_turn : Play → Play → Play
   in_turn first second = record {
     comes = λ state world. let one = first.comes state world in
@@ -63,7 +64,7 @@ module _ (World : Type 0) where
         ⊎ NextIsCut second.IsCut one.events one.world one.ending outcome;
   }
 
-  -- these events, and another state
+  -- a play that has these events and leaves another state
   abbrev pub becoming : (State → List Event) → (State → State) → Play
   becoming told next = record {
     comes =
@@ -72,15 +73,16 @@ module _ (World : Type 0) where
     IsCut = λ state world outcome. ⊥;
   }
 
+  -- no event, and the same state
   abbrev pub nothing : Play
   nothing = becoming (λ state. []) (λ state. state)
 
-  -- once for each of these components, in order
+  -- the play at each of these components, in order
   abbrev pub each : (ℕ → Play) → List ℕ → Play
   each at [] = nothing
   each at (component ∷ components) = in_turn (at component) (each at components)
 
-  -- once for each selected component
+  -- the play at each selected component, in order
   abbrev pub each_selected : (ℕ → Play) → Play
   each_selected at = record {
     comes = λ state. (each at state.selection).comes state;
@@ -89,6 +91,7 @@ module _ (World : Type 0) where
 
   -- ---- override parameters
 
+  -- an override at one component
   abbrev pub overriding : List Param → ℕ → Play
   overriding list component =
       becoming (λ state. set_events component list) (λ state. after_override state component list)
@@ -103,7 +106,7 @@ module _ (World : Type 0) where
     IsCut = λ state world. inner.IsCut (entry_state state component false) world;
   }
 
-  -- a branch came to this; where it failed softly, the others are tried with the state at the entry
+  -- a branch came to this; if it failed softly, the other branches are tried from the state at its entry
   abbrev pub after_trying : State → (State → World → Outcome) → List Event → Option Cause → World
       → Ending → Outcome
   after_trying state others events cause world (Condition place true) =
@@ -120,6 +123,7 @@ module _ (World : Type 0) where
   OtherIsCut state IsCut events world (Done inner) outcome = ⊥
   OtherIsCut state IsCut events world (Directive place) outcome = ⊥
 
+  -- a branch, and if it fails softly the other branches after it
   abbrev pub trying_branch : Play → Play → ℕ → Play
   trying_branch inner others component = record {
     comes = λ state world. let one = inner.comes (entry_state state component true) world in
@@ -141,7 +145,7 @@ module _ (World : Type 0) where
     IsCut = λ state world outcome. ⊥;
   }
 
-  -- ---- whole sequences, for conditions and directives at a place and a component
+  -- ---- whole sequences, by the plays of conditions and directives
 
   module _ (tests : TestKind → ℕ → ℕ → Play) (acts : ActKind → ℕ → ℕ → Play) (count : ℕ) where
     abbrev mutual
@@ -150,6 +154,7 @@ module _ (World : Type 0) where
       sequence_play (StepThen place command rest) =
           in_turn (command_play command place) (sequence_play rest)
 
+      -- a command, at the selected components
       pub command_play : CommandTree → ℕ → Play
       command_play (Test kind report) place = each_selected (tests kind place)
       command_play (Act kind report) place = each_selected (acts kind place)
@@ -159,14 +164,14 @@ module _ (World : Type 0) where
       command_play (TryEach branches) place = each_selected (branches_play branches place)
       command_play (RunSequence inner) place = each_selected (running_inner (sequence_play inner))
 
-      -- the branches in order
+      -- the branches of a try each, in order
       pub branches_play : BranchesTree → ℕ → ℕ → Play
       branches_play NoBranches place component = exhausted place
       branches_play (NullThen rest) place component = nothing
       branches_play (BranchThen inner rest) place component =
           trying_branch (sequence_play inner) (branches_play rest place component) component
 
-    -- a shared sequence or a member
+    -- the shared sequence or a member, from the state in which it starts
     abbrev pub starting : SequenceTree → Play
     starting sequence = record {
       comes = λ state. (sequence_play sequence).comes (start_state state);

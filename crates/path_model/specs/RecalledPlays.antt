@@ -1,5 +1,5 @@
--- Plays whose first free steps end as a list says, and losses of power in them (this project's own choices). A play
--- that lost its power is given again with the outcomes that it kept, and does not do those steps again.
+-- Plays whose first free steps end as a list says, and what a power loss in them leaves (this project's own choices).
+-- After a loss, the play is run again with the outcomes that it kept, and does not do those steps again.
 use Rattle.std.specs.Prelude.{◌≡◌, ℕ, Bool, true, false, List, [], ◌∷◌, ◌++◌, Option, Some, None, option_map}
 use Rattle.suit_params.specs.declared.param.ParamKey.TheVariants as keys
 use Rattle.suit_params.specs.InForce.{in_force, number_of, bytes_of, digest_in, size_in}
@@ -14,7 +14,7 @@ use Rattle.path_model.specs.Settings.{Setting}
 use Rattle.path_model.specs.Plays.{Outcome, Play, command_play, procedure}
 use Rattle.path_model.specs.DevicePlays.{Device, with_content, condition_play, directive_play}
 
--- the outcomes that are still to be recalled, those that were recalled or kept so far, and the device
+-- the outcomes that are left to recall, those that were recalled or kept so far, and the device
 pub record Recalling : Type 0 where
   pub left : List Bool
   pub kept : List Bool
@@ -23,9 +23,10 @@ pub record Recalling : Type 0 where
 abbrev pub recalling : List Bool → List Bool → Device → Recalling
 recalling left kept device = record { left = left; kept = kept; device = device }
 
--- ---- which free step a command is, at a place and a component; none where its parameter is absent, and where it looks
--- at no content
+-- ---- which free step a command is at a place and a component; it is none if its parameter is not in force, or if it
+-- reads no content
 
+-- the free step of a condition, if it is one
 abbrev pub free_test : TestKind → ℕ → ℕ → State → Option FreeStep
 free_test tests.ImageMatch place component state =
     option_map (λ digest. MatchStep component place digest (size_in state.parameters component))
@@ -35,6 +36,7 @@ free_test tests.CheckContent place component state =
     (bytes_of (in_force state.parameters component keys.Content))
 free_test _ place component state = None
 
+-- the free step of a directive, if it is one
 abbrev pub free_act : ActKind → ℕ → ℕ → State → Option FreeStep
 free_act acts.Write place component state =
     option_map (λ content. WriteStep component place)
@@ -52,9 +54,10 @@ free_act acts.Invoke place component state =
     Some (InvokeStep component place (digest_in state.parameters component)
     (size_in state.parameters component))
 
--- ---- what comes of a step
+-- ---- what a step comes to
 
--- recalled, it tells what the list says, touches no content and launches nothing. A directive is done.
+-- a recalled step has the events that the list says, touches no content and launches nothing; a directive counts as
+-- done
 abbrev pub recalled_test : ℕ → FreeStep → State → Bool → Recalling → Outcome Recalling
 recalled_test place step state true after =
     record { events = passed_told step; ending = Done state; cause = None; world = after }
@@ -69,12 +72,13 @@ abbrev pub recalled_act : ℕ → FreeStep → State → Bool → Recalling → 
 recalled_act place step state outcome after =
     record { events = passed_told step; ending = Done state; cause = None; world = after }
 
--- done on the device, its outcome is kept; that of a directive that failed is not
+-- the outcome of a step that is done on the device is kept, unless a directive failed
 abbrev pub kept_after : List Bool → Ending → List Bool
 kept_after kept (Done state) = kept ++ true ∷ []
 kept_after kept (Condition place soft_failure) = kept ++ false ∷ []
 kept_after kept (Directive place) = kept
 
+-- an outcome on the device, with the outcomes that are left and kept
 abbrev pub as_recalling : List Bool → List Bool → Outcome Device → Outcome Recalling
 as_recalling left kept outcome = record {
   events = outcome.events;
@@ -83,7 +87,7 @@ as_recalling left kept outcome = record {
   world = recalling left kept outcome.world;
 }
 
--- a free step is recalled where something is left to recall, and done on the device otherwise
+-- a free step is recalled if an outcome is left to recall, and is done on the device otherwise
 abbrev pub free_comes : (FreeStep → Bool → Recalling → Outcome Recalling) → Outcome Device → FreeStep
     → List Bool → List Bool → Device → Outcome Recalling
 free_comes recalled done step [] kept device =
@@ -91,16 +95,17 @@ free_comes recalled done step [] kept device =
 free_comes recalled done step (outcome ∷ left) kept device =
     recalled step outcome (recalling left (kept ++ outcome ∷ []) device)
 
+-- a step that may be free
 abbrev pub step_comes : (FreeStep → Bool → Recalling → Outcome Recalling) → Outcome Device → Recalling
     → Option FreeStep → Outcome Recalling
 step_comes recalled done world None = as_recalling world.left world.kept done
 step_comes recalled done world (Some step) =
     free_comes recalled done step world.left world.kept world.device
 
--- ---- a loss of power in a free step
+-- ---- a power loss in a free step
 
--- what it leaves of the device: any content of what the step writes, and all else as it was. A swap is as before it:
--- one that began is completed before anything else. A fetch that was lost asks again, and counts once.
+-- what the loss leaves of the device: any content of what the step writes, and all else as it was; a swap is as before
+-- it, since one that began is completed before anything else; a fetch that was lost asks again, and counts once
 abbrev pub LossLeaves : FreeStep → Device → Device → Type 0
 LossLeaves (MatchStep component place digest size) before after = after ≡ before
 LossLeaves (ContentStep component place) before after = after ≡ before
@@ -110,7 +115,7 @@ LossLeaves (SwapStep component source place) before after = after ≡ before
 LossLeaves (InvokeStep component place digest size) before after =
     after.contents ≡ before.contents
 
--- all was recalled; the step tells nothing, and each outcome that was kept stands
+-- all outcomes were recalled; the step has no event, and each outcome that was kept stays
 abbrev pub StepIsLost : Recalling → Outcome Recalling → Option FreeStep → Type 0
 StepIsLost before lost None = ⊥
 StepIsLost before lost (Some step) =
@@ -120,6 +125,7 @@ StepIsLost before lost (Some step) =
 
 -- ---- plays
 
+-- a condition that may be recalled
 abbrev pub recalled_condition : Setting → TestKind → ℕ → ℕ → Play Recalling
 recalled_condition setting kind place component = record {
   comes = λ state world.
@@ -129,6 +135,7 @@ recalled_condition setting kind place component = record {
   IsCut = λ state world lost. StepIsLost world lost (free_test kind place component state);
 }
 
+-- a directive that may be recalled
 abbrev pub recalled_directive : Setting → ActKind → ℕ → ℕ → Play Recalling
 recalled_directive setting kind place component = record {
   comes = λ state world.
@@ -138,11 +145,12 @@ recalled_directive setting kind place component = record {
   IsCut = λ state world lost. StepIsLost world lost (free_act kind place component state);
 }
 
--- one command, where there are so many components
+-- one command, with this number of components
 abbrev pub recalled_command : Setting → ℕ → CommandTree → ℕ → Play Recalling
 recalled_command setting =
     command_play Recalling (recalled_condition setting) (recalled_directive setting)
 
+-- a procedure whose free steps may be recalled
 abbrev pub recalled_play : PlanTree → Setting → Play Recalling
 recalled_play plan setting =
     procedure Recalling (recalled_condition setting) (recalled_directive setting) plan.count plan

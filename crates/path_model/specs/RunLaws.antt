@@ -1,4 +1,4 @@
--- Laws of overrides, sequences, run sequence and try each: how the whole runs, from how its parts do
+-- Laws of overrides, sequences, run sequence and try each: how they run, by how their parts run
 -- (draft-ietf-suit-manifest-25, section 8.4.10, and this project's choices on soft failure).
 use Rattle.std.specs.Prelude.{◌≡◌, ◌≢◌, ◌↔◌, ◌⊎◌, ℕ, Bool, true, false, List, [], ◌∷◌, ◌++◌}
 use Rattle.path_model.specs.declared.identity.Identity.{Identity}
@@ -15,8 +15,9 @@ use Rattle.path_model.specs.Directives.{set_events, after_override}
 use Rattle.path_model.specs.Runs.{Runs, Does}
 use Rattle.path_model.specs.Turns.{Course, InTurn}
 
--- ---- overrides, one parameter after another
+-- ---- overrides, parameter by parameter
 
+-- what one more parameter of an override tells and changes
 pub record OverrideSteps (state : State) (component : ℕ) (list : List Param) (param : Param)
     : Type 0 where
   pub told :
@@ -27,13 +28,13 @@ pub record OverrideSteps (state : State) (component : ℕ) (list : List Param) (
   pub selection :
       (after_override state component (list ++ param ∷ [])).selection
       ≡ (after_override state component list).selection
-  -- soft failure is that of the running sequence, and changes by its own parameter alone
+  -- soft failure is that of the running sequence, and only its own parameter changes it
   pub soft : (value : Bool) → param ≡ params.Soft value
       → (after_override state component (list ++ param ∷ [])).soft_failure ≡ value
   pub other : key_of param ≢ keys.Soft
       → (after_override state component (list ++ param ∷ [])).soft_failure ≡ (after_override state component list).soft_failure
 
--- an empty list tells and changes nothing
+-- an empty list has no event, and changes nothing
 pub record OverridesNothing : Type 0 where
   pub told : (component : ℕ) → set_events component [] ≡ []
   pub state : (state : State) (component : ℕ) → after_override state component [] ≡ state
@@ -41,7 +42,7 @@ pub record OverridesNothing : Type 0 where
 abbrev pub OverridesStep : Type 0
 OverridesStep = (state : State) (component : ℕ) (list : List Param) (param : Param) → OverrideSteps state component list param
 
--- ---- sequences: steps follow one another, and the first that fails ends it
+-- ---- sequences: commands are done in order, and the first that fails ends the sequence
 
 pub record SequenceRules : Type 0 where
   pub none :
@@ -55,16 +56,17 @@ pub record SequenceRules : Type 0 where
       → Runs (StepThen place command rest) identities count state events ending
       ↔ InTurn (Does command identities count place state) (Runs rest identities count) events ending
 
--- ---- run sequence, where one component is selected
+-- ---- run sequence, with one component selected
 
 -- an inner sequence begins with that component selected
 abbrev pub within : State → ℕ → Bool → State
 within state component soft_failure = record { parameters = state.parameters; selection = component ∷ []; soft_failure = soft_failure }
 
--- and where it is done, its parameters are kept
+-- an inner sequence that is done keeps its parameters
 abbrev pub keeping : State → State → State
 keeping state inner = record { parameters = inner.parameters; selection = state.selection; soft_failure = state.soft_failure }
 
+-- the inner sequence is done
 abbrev pub DoneWithin : State → Course → Course
 DoneWithin state inner events ending = (next : State) × inner events (Done next) × (ending ≡ Done (keeping state next))
 
@@ -72,15 +74,16 @@ DoneWithin state inner events ending = (next : State) × inner events (Done next
 abbrev pub PassedOver : State → Course → Course
 PassedOver state inner events ending = (place : ℕ) × inner events (Condition place true) × (ending ≡ Done state)
 
--- another failed condition is passed on, with its place and the outer soft failure
+-- any other failed condition is passed on, with its place and the outer soft failure
 abbrev pub PassedOn : State → Course → Course
 PassedOn state inner events ending =
     (place : ℕ) × inner events (Condition place false) × (ending ≡ Condition place state.soft_failure)
 
+-- a failed directive of the inner sequence ends the outer one
 abbrev pub EndedWithin : Course → Course
 EndedWithin inner events ending = (place : ℕ) × inner events (Directive place) × (ending ≡ Directive place)
 
--- it ends in these ways and in no others
+-- a run sequence ends in these ways and in no others
 abbrev pub RunEnds : State → Course → Course
 RunEnds state inner events ending =
     DoneWithin state inner events ending ⊎ (PassedOver state inner events ending
@@ -93,14 +96,15 @@ RunSequenceRules =
     → Does (RunSequence inner) identities count place state events ending
     ↔ RunEnds state (Runs inner identities count (within state component false)) events ending
 
--- ---- try each, where one component is selected
+-- ---- try each, with one component selected
 
--- after a soft failure the others are tried, with all as it was
+-- after a soft failure the other branches are tried, with all as it was
 abbrev pub TriesOthers : Course → Course → Course
 TriesOthers inner others events ending =
     (place : ℕ) × (before : List Event) × (after : List Event) × (events ≡ before ++ after)
     × inner before (Condition place true) × others after ending
 
+-- a branch ends in these ways and in no others
 abbrev pub BranchEnds : State → Course → Course → Course
 BranchEnds state inner others events ending =
     DoneWithin state inner events ending ⊎ (TriesOthers inner others events ending
@@ -115,7 +119,7 @@ BranchesRules =
     ↔ BranchEnds state (Runs inner identities count (within state component true))
     (Does (TryEach rest) identities count place state) events ending
 
--- a null branch does nothing and is done; after the last one the try each fails as a condition does
+-- a null branch is done at once; after the last branch the try each fails as a condition does
 pub record LastRules (identities : List Identity) (count place component : ℕ) (state : State)
     : Type 0 where
   pub null : (rest : BranchesTree) (events : List Event) (ending : Ending)

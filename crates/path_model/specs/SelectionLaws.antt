@@ -1,5 +1,5 @@
--- Laws of selections, and of a command that is done for each selected component (draft-ietf-suit-manifest-25,
--- section 6.5).
+-- Laws of selections, and of commands that are done at each selected component (draft-ietf-suit-manifest-25, section
+-- 6.5).
 use Rattle.std.specs.Prelude.{◌≡◌, ◌↔◌, ◌<◌, ℕ, List, [], ◌∷◌, length, Some, slice_get}
 use Rattle.path_model.specs.declared.identity.Identity.{Identity}
 use Rattle.suit_params.specs.declared.param.Param.{Param}
@@ -18,8 +18,8 @@ use Rattle.path_model.specs.Turns.{Course, InTurn, with_selected, putting_back}
 
 -- ---- selections
 
--- one is that one, a list is that list, in which an index may stand twice, and all are those below the count in
--- ascending order
+-- one index selects one component, a list selects its components, of which one may be there twice, and `All` selects
+-- those below the count, ascending
 pub record Selections : Type 0 where
   pub one : (component count : ℕ) → selected_by (One component) count ≡ component ∷ []
   pub listed : (components : List ℕ) (count : ℕ)
@@ -28,21 +28,21 @@ pub record Selections : Type 0 where
   pub all_ascend : (count component : ℕ) → component < count
       → slice_get (selected_by All count) component ≡ Some component
 
--- set component index tells nothing, and changes the selection alone
+-- set component index has no event, and changes only the selection
 abbrev pub IndexSelects : Type 0
 IndexSelects =
     (selection : Selection) (identities : List Identity) (count place : ℕ) (state : State) (events : List Event) (ending : Ending)
     → Does (Index selection) identities count place state events ending
     ↔ ((events ≡ []) × (ending ≡ Done (with_selected state (selected_by selection count))))
 
--- afterwards those are selected that the command names, and else those before
+-- after a command, the components that it names are selected, and if it names none, those before
 abbrev pub SelectionKept : Type 0
 SelectionKept =
     (command : CommandTree) (identities : List Identity) (count place : ℕ) (state next : State) (events : List Event)
     → Does command identities count place state events (Done next)
     → next.selection ≡ selected_after command count state.selection
 
--- ---- with one component selected, a command is done at that component, and fails at its own place
+-- ---- with one component selected, a command is done at that component
 
 pub record DoneAtOne (identities : List Identity) (count place component : ℕ) (state : State)
     (events : List Event) (ending : Ending) : Type 0 where
@@ -59,23 +59,26 @@ OneSelected =
     (identities : List Identity) (count place component : ℕ) (state : State) (events : List Event) (ending : Ending)
     → state.selection ≡ component ∷ [] → DoneAtOne identities count place component state events ending
 
--- ---- with none it does nothing, and with several it is done at the first and then at the rest
+-- ---- with none selected a command does nothing, and with several it is done at the first one and then at the others
 
+-- the command is done at each selected component, as all but set component index are
 abbrev pub IsDoneForEach : CommandTree → Type 0
 IsDoneForEach (Index selection) = ⊥
 IsDoneForEach _ = Unit {0}
 
+-- with none selected, such a command does nothing
 abbrev pub NoneSelected : Type 0
 NoneSelected =
     (command : CommandTree) (identities : List Identity) (count place : ℕ) (state : State) (events : List Event) (ending : Ending)
     → IsDoneForEach command → state.selection ≡ []
     → Does command identities count place state events ending ↔ ((events ≡ []) × (ending ≡ Done state))
 
--- with these selected, and then the selection put back
+-- the command with these components selected, after which the selection is restored
 abbrev pub DoneFor : CommandTree → List Identity → ℕ → ℕ → List ℕ → List ℕ → State → Course
 DoneFor command identities count place selection whole state events ending =
     (end : Ending) × Does command identities count place (with_selected state selection) events end × (ending ≡ putting_back whole end)
 
+-- with several selected, such a command is done at the first one and then at the others
 abbrev pub MoreSelected : Type 0
 MoreSelected =
     (command : CommandTree) (identities : List Identity) (count place component : ℕ) (rest : List ℕ) (state : State) (events : List Event) (ending : Ending)

@@ -1,30 +1,31 @@
--- One after another, and endings with another selection: words of the laws of runs.
+-- Runs in order, and endings with another selection, as the laws of runs say them.
 use Rattle.std.specs.Prelude.{◌≡◌, ℕ, ◌⊎◌, Bool, List, ◌++◌}
 use Rattle.path_model.specs.declared.event.Event.{Event}
 use Rattle.path_model.specs.Behaviour.{State, Ending, Done, Condition, Directive}
 
--- the possible events and endings
+-- the events and the endings that are possible
 abbrev pub Course : Type 1
 Course = List Event → Ending → Type 0
 
--- the first fails, and so does the whole: by a condition, whatever soft failure is, or by a directive
+-- the first course fails, by a condition or a directive, and so does the whole, whatever soft failure is
 abbrev pub FirstFails : Course → Course
 FirstFails first events ending =
     ((place : ℕ) × (soft_failure : Bool) × first events (Condition place soft_failure)
     × (ending ≡ Condition place soft_failure))
     ⊎ ((place : ℕ) × first events (Directive place) × (ending ≡ Directive place))
 
--- the first is done, and the second begins with the state that the first left
+-- the first course is done, and the second begins in the state that it left
 abbrev pub BothInTurn : Course → (State → Course) → Course
 BothInTurn first second events ending =
     (middle : State) × (before : List Event) × (after : List Event) × (events ≡ before ++ after)
     × first before (Done middle) × second middle after ending
 
+-- the first course, and then the second from where the first is done
 abbrev pub InTurn : Course → (State → Course) → Course
 InTurn first second events ending =
     FirstFails first events ending ⊎ BothInTurn first second events ending
 
--- a state with another selection, and an ending with one
+-- a state with another selection
 abbrev pub with_selected : State → List ℕ → State
 with_selected state selection =
     record {
@@ -33,6 +34,7 @@ with_selected state selection =
       soft_failure = state.soft_failure;
     }
 
+-- the ending with this selection
 abbrev pub putting_back : List ℕ → Ending → Ending
 putting_back selection (Done state) = Done (with_selected state selection)
 putting_back selection (Condition place soft_failure) = Condition place soft_failure

@@ -1,5 +1,5 @@
--- The runs of one procedure of two components, all of them. Its shared sequence selects both and overrides their
--- digest. Its first member matches an image, its second is absent, and its third invokes component 1.
+-- All runs of one procedure of two components. Its shared sequence selects both and overrides their digest. Its first
+-- member matches an image, its second one is absent, and its third one invokes component 1.
 use Rattle.std.specs.Prelude.{◌≡◌, ◌⊎◌, true, false, List, [], ◌∷◌, ◌++◌, None, Some}
 use Rattle.suit_params.specs.declared.digest.Digest.{Digest}
 use Rattle.suit_params.specs.declared.param.Param.TheVariants as params
@@ -14,13 +14,16 @@ use Rattle.path_model.specs.Behaviour.{Ending, Done, Condition, Directive}
 use Rattle.path_model.specs.Path.{RunsPlan, first_state}
 use Rattle.path_model.specs.Safe.{Safe}
 
+-- the shared sequence selects both components and overrides their digest
 abbrev pub set_both : Digest → SequenceTree
 set_both digest =
     StepThen 10 (Index All) (StepThen 20 (Override (params.Digest digest ∷ [])) NoSteps)
 
+-- the first member matches the image of component 0
 abbrev pub match_first : SequenceTree
 match_first = StepThen 30 (Test tests.ImageMatch 0) NoSteps
 
+-- the third member invokes component 1
 abbrev pub invoke_second : SequenceTree
 invoke_second = StepThen 40 (Index (One 1)) (StepThen 50 (Act acts.Invoke 0) NoSteps)
 
@@ -34,7 +37,7 @@ two_components digest =
       count = 2;
     }
 
--- the events of its shared sequence
+-- the events of the shared sequence
 abbrev pub both_told : Digest → List Event
 both_told digest = Set 0 (params.Digest digest) ∷ Set 1 (params.Digest digest) ∷ []
 
@@ -42,22 +45,25 @@ both_told digest = Set 0 (params.Digest digest) ∷ Set 1 (params.Digest digest)
 abbrev pub missed_run : Digest → List Event
 missed_run digest = both_told digest ++ Missed 0 ∷ Failed 30 ∷ []
 
--- it passed, and the shared sequence ran twice more
+-- the match passed, and the shared sequence ran twice more
 abbrev pub matched_run : Digest → List Event
 matched_run digest =
     both_told digest ++ Matched 0 digest None ∷ (both_told digest ++ both_told digest)
 
+-- the invoke succeeded
 abbrev pub launched_run : Digest → List Event
 launched_run digest = matched_run digest ++ Invoked 1 (Some digest) None true ∷ []
 
+-- the invoke failed
 abbrev pub unlaunched_run : Digest → List Event
 unlaunched_run digest = matched_run digest ++ Invoked 1 (Some digest) None false ∷ Failed 50 ∷ []
 
+-- the procedure is done
 abbrev pub IsDone : Ending → Type 0
 IsDone (Done state) = Unit {0}
 IsDone _ = ⊥
 
--- these three runs, whatever the identities, and no others
+-- these three runs, for all identities, and no others
 pub record RunsExactly (digest : Digest) (identities : List Identity) : Type 0 where
   pub only : (events : List Event) (ending : Ending)
       → RunsPlan (two_components digest) identities first_state events ending
@@ -78,6 +84,6 @@ pub record RunsExactly (digest : Digest) (identities : List Identity) : Type 0 w
 abbrev pub TwoComponentsRun : Type 0
 TwoComponentsRun = (digest : Digest) (identities : List Identity) → RunsExactly digest identities
 
--- it is not safe, since it invokes a component that it did not match
+-- the procedure is not safe, since it invokes a component that it did not match
 abbrev pub TwoComponentsUnsafe : Type 0
 TwoComponentsUnsafe = (digest : Digest) → Safe (two_components digest) → ⊥

@@ -2,7 +2,7 @@
 
 use crate::{Events, Identities};
 
-/// A path whose last event is its first invoke that is not covered, and the identities that it is a path for.
+/// A path whose last event is its first uncovered invoke, and identities for which it is a path.
 #[derive(Debug, Drop)]
 pub struct BadPath {
     pub identities: Identities,

@@ -1,19 +1,19 @@
 //! Why a directive failed.
 
-/// Why a directive failed on a device. The last three are faults of the outside.
+/// Why a directive failed on a device. The last three causes are faults of the outside.
 #[derive(Clone, Copy, Debug, PartialEq, Eq)]
 pub enum Cause {
     /// The directive's parameter is not in force.
     Missing,
-    /// A copy or a swap of a component with itself.
+    /// The directive would copy or swap a component with itself.
     SelfCopy,
-    /// A content would have more bytes than its component has room for.
+    /// The content would have more bytes than its component has room for.
     TooLarge,
-    /// No payload is found under the URI.
+    /// There is no payload or file for the URI in force.
     Absent,
-    /// The keeper of files failed.
+    /// The host, which holds the files, failed.
     HostFault,
-    /// The flash failed. In a condition too this ends the procedure.
+    /// The flash failed. This ends the procedure in a condition too.
     FlashFault,
     /// The launcher failed.
     LaunchFault,

@@ -7,13 +7,13 @@ ghost use Rattle.path_model.specs.FirstUncovered.{IsFirstUncovered, Bears};
 use crate::{Event, Events};
 use suit_params::Digest;
 
-// How an event bears on a match.
+// What an event does to a match of a component under a digest and a size.
 enum Bearing {
-    // It is the match.
+    // It is such a match.
     Matches,
-    // It is a write of the component.
+    // It is a write of the component, which ends the match.
     Ends,
-    // Neither.
+    // It leaves the match as it is.
     Leaves,
 }
 
@@ -43,8 +43,8 @@ fn bearing_of(event: &Event, component: u32, digest: &Digest, size: Option<u64>)
     }
 }
 
-/// Whether a component stands as matched under a digest and a size after these events: it matched, and was not
-/// written since. An absent size equals an absent one alone.
+/// Whether the match of a component under a digest and a size stands after these events: the component matched, and was
+/// not written since. An absent size only equals an absent one.
 pub fn has_matched(events: &[Event], component: u32, digest: &Digest, size: Option<u64>) -> bool
     ensures { IsTrue result ↔ HasMatched events.now component digest.now size }
 {
@@ -59,8 +59,8 @@ pub fn has_matched(events: &[Event], component: u32, digest: &Digest, size: Opti
     false
 }
 
-/// Whether an event that follows these is covered: any event that is no invoke is, and an invoke where its component
-/// stands as matched under the digest and size in force.
+/// Whether an event that follows these is covered. An invoke is covered if the match of its component under the digest
+/// and size in force stands. Any other event is.
 pub fn is_covered(before: &[Event], event: &Event) -> bool
     ensures { IsTrue result ↔ IsCovered before.now event.now }
 {
@@ -76,8 +76,8 @@ pub fn is_covered(before: &[Event], event: &Event) -> bool
     }
 }
 
-/// The index of the first invoke that is not covered, or `None` where each is. For each invoke the events before it are
-/// searched, back to the match or to a write of the component.
+/// Returns the index of the first uncovered invoke, or `None` if all are covered. For each invoke, it searches the
+/// events before it backwards, down to the match or to a write of the component.
 pub fn first_uncovered(events: &Events) -> Option<usize>
     ensures { IsFirstUncovered events.now result }
 {

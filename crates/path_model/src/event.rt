@@ -8,32 +8,32 @@ use suit_params::{Digest, Param};
 /// An event of a path.
 #[derive(Debug, Drop)]
 pub enum Event {
-    /// A parameter of a component was set.
+    /// A parameter of the component was set.
     Set {
         component: u32,
         param: Param,
     },
-    /// A condition was tried.
+    /// A condition other than an image match was tried.
     Tried {
         component: u32,
         kind: TestKind,
         passed: bool,
     },
-    /// The content matched the digest and size in force.
+    /// The component's content matched the digest and size in force.
     Matched {
         component: u32,
         digest: Digest,
         size: Option<u64>,
     },
-    /// The content did not match, or no digest was in force.
+    /// The component's content did not match, or no digest was in force.
     Missed {
         component: u32,
     },
-    /// The content was written, wholly or in part.
+    /// The component's content was written, in whole or in part.
     Wrote {
         component: u32,
     },
-    /// The content was handed to the launcher under the digest and size in force.
+    /// The component was invoked, with the digest and size in force. `passed` says whether that succeeded.
     Invoked {
         component: u32,
         digest: Option<Digest>,

@@ -2,8 +2,8 @@
 
 use det_cbor::List;
 
-/// The values that the identity conditions compare with: the identifiers that there are, and the number of the slot
-/// that the component stands for.
+/// What the identity conditions compare with: the component's identifiers, as far as it has any, and the number of the
+/// slot that it stands for.
 #[derive(Clone, Copy, Debug, PartialEq, Eq)]
 pub struct Identity {
     pub vendor: Option<[u8; 16]>,
@@ -12,5 +12,5 @@ pub struct Identity {
     pub slot: u64,
 }
 
-/// A list of identities, one for each component.
+/// Identities, one for each component.
 pub type Identities = List<Identity>;

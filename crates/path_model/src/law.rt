@@ -1,4 +1,4 @@
-//! The laws of runs and paths. Each call does nothing, and its contract is a law.
+//! Laws of runs and paths. Each call here does nothing: its contract is a law.
 
 ghost use Rattle.path_model.specs.ParameterLaws.{StaysWhole, StartsEmpty, OverrideReplaces, OverrideKeeps, IsCanonical};
 ghost use Rattle.path_model.specs.CommandLaws.{ConditionsEnd, AbortFails, ConditionsNeed, IdentityDecides, IdentityFollowed, IdentityNeeded, MatchIsFree, ContentIsFree, DirectivesWrite, DirectivesNeed, InvokesTell};
@@ -11,8 +11,8 @@ ghost use Rattle.path_model.specs.OneRun.{OneRun};
 ghost use Rattle.path_model.specs.TwoComponents.{TwoComponentsRun, TwoComponentsUnsafe};
 ghost use Rattle.path_model.specs.CoverLaws.{NothingMatched, MatchStands, WriteEnds, OthersLeave, InvokeCovered, AbsentUncovered, MatchByIndices, CoveredByIndices, AllAreCovered, CoveredByStanding, EndsAtFirst, FirstIsOne, SameFollows, PartsCovered, SafetyIs, BadPathIs, BadPathRefutes};
 
-/// The parameters in force (draft-ietf-suit-manifest-25, section 8.4.8): none at first, and after an override those
-/// that it gives, for its component and their keys alone. Where the same is in force, it is the same value.
+/// The parameters in force (draft-ietf-suit-manifest-25, section 8.4.8). None are at first. An override sets those that
+/// it gives, for its component and their keys alone. Parameters that put the same in force are equal.
 pub fn overriding_laws()
     ensures whole { StaysWhole }
     ensures empty { StartsEmpty }
@@ -23,8 +23,9 @@ pub fn overriding_laws()
     ensures steps { OverridesStep }
 {}
 
-/// How a condition ends (section 8.4.9), in these ways and no others: those on the identity follow it, those on the
-/// content end either way where their parameter is in force, without its parameter each fails, and abort fails always.
+/// How a condition ends (section 8.4.9), in these ways and no others. The identity decides a condition on it. A
+/// condition on the content may pass or fail if its parameter is in force. Without its parameter each condition fails,
+/// and abort always fails.
 pub fn condition_laws()
     ensures ends { ConditionsEnd }
     ensures needs { ConditionsNeed }
@@ -36,15 +37,15 @@ pub fn condition_laws()
     ensures content { ContentIsFree }
 {}
 
-/// How a directive that acts on a content ends (section 8.4.10), and what it tells.
+/// How a directive that acts on a content ends (section 8.4.10), and which events it has.
 pub fn directive_laws()
     ensures writes { DirectivesWrite }
     ensures needs { DirectivesNeed }
     ensures invokes { InvokesTell }
 {}
 
-/// Which components are selected (section 6.5), and what that means for a command: with one selected it is done at
-/// that component, with more at the first and then at the rest.
+/// Which components are selected (section 6.5), and what that means for a command: it is done at the only one that is
+/// selected, or at the first one and then at the others.
 pub fn selection_laws()
     ensures selections { Selections }
     ensures index { IndexSelects }
@@ -54,13 +55,13 @@ pub fn selection_laws()
     ensures more { MoreSelected }
 {}
 
-/// Steps follow one another, and the first that fails ends its sequence (section 6.4).
+/// Commands of a sequence are done in order, and the first that fails ends the sequence (section 6.4).
 pub fn sequence_laws()
     ensures { SequenceRules }
 {}
 
-/// How try each and run sequence end, from how their inner sequences do, and in no other way. After them the
-/// selection and soft failure are those before.
+/// How try each and run sequence end, by how their inner sequences end, and in no other way. After them, the selection
+/// and soft failure are as before.
 pub fn inner_sequence_laws()
     ensures run { RunSequenceRules }
     ensures branches { BranchesRules }
@@ -69,22 +70,22 @@ pub fn inner_sequence_laws()
 {}
 
 /// A procedure runs the shared sequence before each of its three members (section 6.3). A path is what a run of it
-/// begins with, so each beginning of a path is a path.
+/// begins with, so that the beginning of a path is a path.
 pub fn procedure_laws()
     ensures runs { PlanRuns }
     ensures paths { PathRules }
     ensures begin { PathsBegin }
 {}
 
-/// The events of a path that are not Set are counted one by one, and they are at most three times the work of the
-/// procedure.
+/// A path has at most three times as many events besides `Set` as the work of the procedure. They are counted one by
+/// one.
 pub fn event_bound_laws()
     ensures counted { CountsEvents }
     ensures bounded { PathsBounded }
 {}
 
-/// A match stands until its component is written, and an invoke is covered where the match of its component
-/// under the digest and size in force stands. The same is said by the indices of the events.
+/// A match stands until its component is written. An invoke is covered if the match of its component under the digest
+/// and size in force stands. The same is said by the indices of events.
 pub fn cover_laws()
     ensures first { NothingMatched }
     ensures stands { MatchStands }
@@ -98,13 +99,13 @@ pub fn cover_laws()
     ensures standing { CoveredByStanding }
 {}
 
-/// Cover in parts, and after other events under which the same matches stand.
+/// Which events are covered, in two parts, and after other events with the same matches standing.
 pub fn following_laws()
     ensures parts { PartsCovered }
     ensures same { SameFollows }
 {}
 
-/// Safety, and the paths that show that a procedure is not safe.
+/// When a procedure is safe, and which paths show that it is not.
 pub fn safety_laws()
     ensures safe { SafetyIs }
     ensures last { EndsAtFirst }
@@ -113,20 +114,20 @@ pub fn safety_laws()
     ensures refutes { BadPathRefutes }
 {}
 
-/// There is one run for one list of identities and one way for each free step to end.
+/// For one list of identities, and one outcome for each free step, there is one run.
 pub fn one_run_laws()
     ensures { OneRun }
 {}
 
-/// All runs of one procedure of two components, whose shared sequence selects both, and which matches one of them and
-/// invokes the other, so that it is not safe.
+/// All runs of one procedure of two components. Its shared sequence selects both, and it matches one and invokes the
+/// other, so that it is not safe.
 pub fn example_laws()
     ensures runs { TwoComponentsRun }
     ensures not_safe { TwoComponentsUnsafe }
 {}
 
-/// The identities that a path is judged for: all lists with one for each component, whose identifiers, if any, have
-/// sixteen bytes, and whose slots have 64 bits.
+/// The identities for which a procedure is judged: all lists with one identity for each component, with identifiers of
+/// sixteen bytes or none, and slots of 64 bits.
 pub fn identity_laws()
     ensures { IdentitiesBounded }
 {}

@@ -1,6 +1,6 @@
-//! Which procedure of a manifest.
+//! The two procedures of a manifest.
 
-/// Which of the two procedures of a manifest.
+/// One of the two procedures of a manifest.
 #[derive(Clone, Copy, Debug, PartialEq, Eq)]
 pub enum Procedure {
     /// Payload-fetch, install and validate.

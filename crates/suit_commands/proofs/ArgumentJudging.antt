@@ -1,4 +1,4 @@
--- The judgement of a reporting policy and of an override is that of the grammar and the refusals.
+-- Judging a reporting policy and judging an override agree with the grammar and the refusals.
 use Rattle.std.proofs.Common.{◌≡◌, ℕ, ◌≤◌, Bool, true, false, ltb, List, Result, Ok, Err, refl, ap, subst, inl, inr, arith}
 use Rattle.std.proofs.lemmas.Bool.{lt-ltb, ltb-true, ltb-false}
 use Rattle.det_cbor.specs.DataItem.{DataItem, UnsignedInteger, NegativeInteger, MapOf, IsValidWithin}

@@ -1,4 +1,4 @@
--- Arguments that hold no sequence, and codes, are read as they are judged.
+-- Reading codes, and arguments that hold no sequence, agrees with judging them.
 use Rattle.std.proofs.Common.{◌≡◌, ℕ, suc, ◌+◌, Bool, true, false, cond, eqb, ltb, List, [], ◌∷◌, ◌++◌, length, Result, Ok, Err, refl, sym, ap, ◌∙◌, append_assoc, arith}
 use Rattle.std.proofs.lemmas.List.{length-append, append-nil}
 use Rattle.det_cbor.specs.Heads.{head_bytes}
@@ -25,7 +25,7 @@ use Rattle.suit_commands.specs.SequenceReading.{code_from, report_from, element_
 
 -- ---- positions
 
--- an item that has no parts behind its head
+-- an item whose head is all of it
 pub head_alone : (x : DataItem) → spell_parts x ≡ [] → spelled (item_head x) ≡ spell x
 head_alone x none = sym (item_spelled x ∙ ap (λ (l : List ℕ). spelled (item_head x) ++ l) none ∙ append-nil (spelled (item_head x)))
 
@@ -35,12 +35,12 @@ after_both p first second between rest =
     let last : (p.place + length first) + length second ≡ p.place + length (first ++ second) = omega (arith, length-append first second) in
     ap (λ (n : ℕ). record { left = rest; place = n }) last
 
--- a test in front of what was found
+-- a test before what was found
 pub tested : {A : Type 0} (t : Bool) (a : A) (e : Refusal) (q : Position) → cond {A = Result (A × Position) Refusal} t (Ok (a, q)) (Err e) ≡ (cond {A = Result A Refusal} t (Ok a) (Err e) >>= with_rest q)
 tested true a e q = refl
 tested false a e q = refl
 
--- a result, made into another
+-- a result that is made into another
 pub made : {A B : Type 0} (r : Result A Refusal) (q : Position) (make : A → B) → ((r >>= with_rest q) >>= λ v. Ok (make v.0, v.1)) ≡ ((r >>= λ a. Ok (make a)) >>= with_rest q)
 made (Ok a) q make = refl
 made (Err e) q make = refl

@@ -31,7 +31,7 @@ one_bit i c e = rw e (bit_at-pow_same i)
 pub one_bit_is : (i c : ℕ) → HasBit (2 ^ i) c → c ≡ i
 one_bit_is i c h = elim (cases_eq c i) [ inl e ↦ e | inr n ↦ absurd (let z : bit_at (2 ^ i) c ≡ 0 = bit_at-pow_other i c n in omega (arith, z, h)) ]
 
--- ---- of selections
+-- ---- selections
 
 pub listed_to : (is : List ℕ) (bits c : ℕ) → HasBit bits c ⊎ Among c is → HasBit (listed_bits is bits) c
 listed_to [] bits c (inl h) = h

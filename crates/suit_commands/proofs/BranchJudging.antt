@@ -1,4 +1,4 @@
--- The judgement of arguments that hold sequences, by that of the sequences inside them.
+-- Judging an argument that holds sequences, given how the sequences inside are judged.
 use Rattle.std.proofs.Common.{◌≡◌, ℕ, ◌+◌, ◌≤◌, Bool, true, false, eqb, ltb, List, Option, Some, Result, Ok, Err, refl, sym, ap, subst, ◌∙◌, inl, inr, arith}
 use Rattle.std.proofs.lemmas.Bool.{ne_eqb, ltb-true, ltb-false}
 use Rattle.det_cbor.specs.DataItem.{DataItem, UnsignedInteger, ByteString, ArrayOf, NullItem, DataItems, NoItems, ItemThen, item_count, IsValidWithin, AreValidWithin}
@@ -13,7 +13,7 @@ use Rattle.suit_commands.specs.SequenceFaults.{IsTryArray, IsBranch, RefusesArgu
 use Rattle.suit_commands.specs.SequenceJudging.{InnerJudge, judge_run, branch_before, judge_branch, judge_branches, judge_try}
 use Rattle.suit_commands.specs.Tree.{TryEach, RunSequence, SequenceTree, BranchesTree, NoBranches, BranchThen, NullThen}
 
--- the judgement of byte strings is that of the grammar and of the refusals, both ways
+-- judging a byte string agrees with the grammar and the refusals, in both directions
 pub record JudgesInner (inner : InnerJudge) (shared : Bool) (count levels : ℕ) : Type 0 where
   pub ok : (place : ℕ) (content : List ℕ) (s : SequenceTree) → IsBytes content → inner place content ≡ Ok s → SaysInner shared count levels place content s
   pub again : (place : ℕ) (content : List ℕ) (s : SequenceTree) → SaysInner shared count levels place content s → inner place content ≡ Ok s

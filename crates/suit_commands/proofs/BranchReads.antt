@@ -1,4 +1,4 @@
--- Arguments that hold sequences are read as they are judged.
+-- Reading arguments that hold sequences agrees with judging them.
 use Rattle.std.proofs.Common.{◌≡◌, ℕ, suc, ◌+◌, Bool, true, false, cond, eqb, ltb, List, [], ◌++◌, length, Option, Some, None, Result, Ok, Err, refl, ap, ◌∙◌, append_assoc, arith}
 use Rattle.det_cbor.specs.Heads.{head_bytes}
 use Rattle.det_cbor.specs.DataItem.{DataItem, UnsignedInteger, ByteString, ArrayOf, NullItem, DataItems, NoItems, ItemThen, item_count, spell, spell_items, IsValidWithin, AreValidWithin}
@@ -16,7 +16,7 @@ use Rattle.suit_commands.specs.SequenceReading.{InnerReader, held_sequence, run_
 use Rattle.suit_commands.specs.Tree.{SequenceTree, BranchesTree, NoBranches}
 use Rattle.suit_commands.proofs.ArgumentReads.{head_alone, after_both, made}
 
--- the content of a byte string at a place is read as it is judged
+-- reading the content of a byte string at a place agrees with judging it
 abbrev pub ReadsInner : InnerReader → InnerJudge → Type 0
 ReadsInner reader judge = (place : ℕ) (content : List ℕ) → IsBytes content → reader place (record { left = content; place = content_place place content }) ≡ judge place content
 

@@ -1,4 +1,4 @@
--- Sums and products of capped numbers, capped, are those of the numbers.
+-- The capped sum or product of capped numbers is the capped sum or product of the numbers.
 use Rattle.std.proofs.Common.{◌≡◌, ℕ, zero, suc, ◌+◌, ◌*◌, ◌-◌, ◌^◌, ◌≤◌, ◌<◌, min, ◌⊎◌, inl, inr, refl, ◌∙◌, arith, mul_comm}
 use Rattle.std.proofs.lemmas.Bool.{cases_lt}
 use Rattle.std.proofs.lemmas.Nat.{mul-le}
@@ -21,12 +21,12 @@ pub capped_plus_right : (a b : ℕ) → capped (a + capped b) ≡ capped (a + b)
 unfolding capped
 capped_plus_right a b = omega arith
 
--- one more of a sum of three
+-- a capped sum of three, of which one is capped before
 pub capped_three : (a b c : ℕ) → capped (capped (a + capped b) + c) ≡ capped (a + (b + c))
 unfolding capped
 capped_three a b c = omega arith
 
--- at a largest number of any size
+-- products that are capped at any largest number
 small_times : (m a b : ℕ) → a ≤ m → min (min a m * b) m ≡ min (a * b) m
 small_times m a b h = let same : min a m ≡ a = omega arith in rw same refl
 
@@ -63,7 +63,7 @@ plus_is x y n a b x_is y_is n_is = rw (n_is, x_is, y_is) (capped_plus a b)
 pub times_is : (x y n a b : ℕ) → x ≡ capped a → y ≡ capped b → n ≡ capped (x * y) → n ≡ capped (a * b)
 times_is x y n a b x_is y_is n_is = rw (n_is, x_is, y_is) (capped_times a b)
 
--- of three members, each after the one that they share
+-- three members, each after the sequence that they share
 pub three_is :
     (op : ℕ → ℕ → ℕ) → ((x y n a b : ℕ) → x ≡ capped a → y ≡ capped b → n ≡ capped (op x y) → n ≡ capped (op a b))
     → (a b c d : ℕ) → {w x y z f g h k n : ℕ} → w ≡ capped a → x ≡ capped b → y ≡ capped c → z ≡ capped d

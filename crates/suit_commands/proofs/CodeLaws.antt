@@ -24,17 +24,17 @@ numbered_again (codes.Act acts.Write) = refl
 numbered_again (codes.Act _) = refl
 numbered_again _ = refl
 
--- the one found has the number
+-- a command that was found has the number
 pub numbered_ok : (n : ℕ) (code : CommandCode) → numbered n ≡ Some code → n ≡ code_number code
 numbered_ok n code e = numbered_has code_number all_codes n code e
 
--- ---- which are allowed
+-- ---- which codes are allowed
 
 abbrev pub Allows : Bool → CommandCode → Type 0
 Allows shared (codes.Act kind) = shared ≡ false
 Allows shared _ = Unit {0}
 
--- some command that is allowed has the number
+-- the number is that of an allowed command
 abbrev pub Numbers : Bool → ℕ → Type 0
 Numbers shared n = (code : CommandCode) × (n ≡ code_number code) × Allows shared code
 

@@ -1,4 +1,4 @@
--- The judgement of a command's argument is that of the grammar and the refusals.
+-- Judging a command's argument agrees with the grammar and the refusals.
 use Rattle.std.proofs.Common.{◌≡◌, ℕ, Bool, false, ltb, Result, Ok, Err, refl, sym, ap, subst, ◌∙◌, inl, inr}
 use Rattle.std.proofs.lemmas.Bool.{le-ltb}
 use Rattle.det_cbor.specs.DataItem.{DataItem, UnsignedInteger, item_count, IsValidWithin}
@@ -38,7 +38,7 @@ argument_ok inner shared count levels deep place codes.Override x command law va
 argument_ok inner shared count levels deep place codes.Run x command law valid allowed e =
     bind_ok (judge_run inner place x) _ command e (λ s is f. subst (Says shared count levels place codes.Run x) (same_ok _ command f) (run_ok inner shared count levels deep place x s law valid is))
 
--- a command that is said is judged so: its code, wherever that stands, and its argument
+-- a command that an item says is judged as that command: its code, wherever it is placed, and its argument
 pub record Judged (inner : InnerJudge) (shared : Bool) (count place number : ℕ) (x : DataItem) (answer : Result CommandTree Refusal) : Type 0 where
   pub code : CommandCode
   pub known : (at : ℕ) → judge_code shared at (UnsignedInteger number) ≡ Ok code

@@ -1,4 +1,4 @@
--- Each element of what is left is indexed where that is, and sequences of the grammar are.
+-- If the rest of a list is indexed, so is each of its elements; and sequences of the grammar are indexed.
 use Rattle.std.proofs.Common.{◌≡◌, ℕ, zero, suc, ◌+◌, ◌<◌, Bool, false, true, List, ◌∷◌, length, get_or, drop, Option, Some, ◌∙◌, ap, subst}
 use Rattle.suit_commands.specs.Tree.{CommandTree, Test, Act, Index, Override, TryEach, RunSequence, SequenceTree, NoSteps, StepThen, BranchesTree, NoBranches, BranchThen, NullThen}
 use Rattle.suit_commands.specs.View.{command_tree, sequence_tree, branches_tree}
@@ -15,7 +15,7 @@ pub branch_indexed : (bs : List (Option SequenceTree)) (i : ℕ) (d b : Option S
 branch_indexed bs i d b inner count lt is some left =
     (subst (BranchesIndexed count) (branch_there bs i d b lt is ∙ ap (λ (x : Option SequenceTree). branches_tree (x ∷ drop (i + 1) bs)) some) left).0
 
--- ---- of the grammar
+-- ---- sequences of the grammar
 
 mutual
   commands_indexed : (shared : Bool) (count levels : ℕ) (s : SequenceTree) → AreCommands shared count levels s → AreIndexed count s

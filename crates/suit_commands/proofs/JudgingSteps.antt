@@ -10,11 +10,11 @@ use Rattle.suit_commands.specs.SequenceJudging.{branch_before}
 use Rattle.suit_commands.specs.SequenceReading.{InnerReader, element_from, indices_from, branch_from, branches_from, step_from, steps_from}
 use Rattle.suit_commands.specs.Tree.{CommandTree, SequenceTree, StepThen, BranchesTree}
 
--- whether a sequence is read, whatever it is
+-- whether a sequence can be read, without the sequence
 abbrev pub judged : {A : Type 0} → Result A Refusal → Result ⊤ Refusal
 judged r = map_ok (λ _. tt) r
 
--- the position behind does not depend on what is made of the parts
+-- the position after reading does not depend on what the parts are made into
 pub same_behind : {A B : Type 0} (f : A → B) (r : Result (A × Position) Refusal) → behind (r >>= λ v. Ok (f v.0, v.1)) ≡ behind r
 same_behind f (Ok v) = refl
 same_behind f (Err e) = refl

@@ -28,7 +28,7 @@ swapped c (inl e) = inr (inr (inr (inr (inr (inr (inl refl))))), inl (inr (inl (
 swapped c (inr (inl e)) = inl (inr (inr (inr (inr (inr (inl (tt, inl e)))))))
 swapped c (inr (inr h)) = absurd h
 
--- what a sequence writes has its bit
+-- the bit of what a sequence writes is set
 unwritten : (s : SequenceTree) (c : ℕ) → c ≢ 0 → bit_at (reach_of s 6 start_reach no_reach).fixed c ≡ 0 → Writes s 6 (0 ∷ []) c → ⊥
 unwritten s c positive clear h = elim (reach_writes s 6 0 c h) [
   | inl w ↦ absurd (let e : 0 ≡ 1 = sym clear ∙ w in cc)

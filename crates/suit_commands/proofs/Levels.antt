@@ -1,4 +1,4 @@
--- Sequences of the grammar are as deep as levels are allowed, and no deeper.
+-- Sequences of the grammar nest as deep as the levels that are allowed, and no deeper.
 use Rattle.std.proofs.Common.{◌≡◌, ℕ, zero, suc, ◌≤◌, Bool, refl, arith}
 use Rattle.suit_commands.specs.declared.selection.Selection.TheVariants.{All}
 use Rattle.suit_commands.specs.Tree.{CommandTree, Index, TryEach, RunSequence, SequenceTree, NoSteps, StepThen, BranchesTree, NoBranches, BranchThen, NullThen}
@@ -26,7 +26,7 @@ mutual
   branches_within shared count levels (NullThen NoBranches) are = omega arith
   branches_within shared count levels (NullThen _) are = absurd are
 
--- so many sequences, each in the one before
+-- n sequences, each inside the one before
 abbrev nested : ℕ → SequenceTree
 nested zero = StepThen 0 (Index All) NoSteps
 nested (suc inside) = StepThen 0 (RunSequence (nested inside)) NoSteps

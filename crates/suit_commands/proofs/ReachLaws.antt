@@ -11,7 +11,7 @@ use Rattle.suit_commands.specs.Targets.{IsWriting, Writes, CommandWrites, Branch
 use Rattle.suit_commands.proofs.BitLaws.{no_bit}
 use Rattle.suit_commands.proofs.ReachParts.{HasOne, Tells, none_reached, or_to, or_from, through_to, through_from, start_tells, after_tells, after_one, each_to, each_from}
 
--- ---- of trees
+-- ---- trees
 
 writing_to : (kind : ActKind) → IsWriting kind → writes_content kind ≡ true
 writing_to acts.Write h = refl
@@ -108,7 +108,7 @@ mutual
       ]
   branches_from (NullThen rest) count total outer c some indexed h = branches_from rest count total outer c some indexed h
 
--- ---- of a sequence that begins with one component selected
+-- ---- a sequence that begins with one component selected
 
 pub reach_writes : (s : SequenceTree) (count outer c : ℕ) → Writes s count (outer ∷ []) c → Reaches (reach_of s count start_reach no_reach) (outer ∷ []) c
 reach_writes s count outer c h = sequence_to s count start_reach no_reach (outer ∷ []) (outer ∷ []) c (start_tells (outer ∷ [])) (inr h)

@@ -11,15 +11,15 @@ use Rattle.suit_commands.specs.Reaches.{no_reach, start_reach, reach_or, reach_t
 use Rattle.suit_commands.specs.Selections.{Among, selected_by, selected_after}
 use Rattle.suit_commands.proofs.BitLaws.{no_bit, or_left, or_right, or_cases, selection_to, selection_from}
 
--- one is in the list
+-- the list has an element
 abbrev pub HasOne : List ℕ → Type 0
 HasOne xs = (i : ℕ) × Among i xs
 
--- the selected components, where these are selected at the beginning
+-- which components are selected, given those selected at the beginning
 abbrev pub Tells : Reach → List ℕ → List ℕ → Type 0
 Tells selected first now = (c : ℕ) → Among c now ↔ Reaches selected first c
 
--- ---- of the parts of a reach
+-- ---- the parts of a reach
 
 pub none_reached : (first : List ℕ) (c : ℕ) → Reaches no_reach first c → ⊥
 none_reached first c (inl h) = no_bit c h
@@ -47,7 +47,7 @@ pub or_from : (a b : Reach) (first : List ℕ) (c : ℕ) → Reaches (reach_or a
 or_from a b first c (inl h) = elim (or_cases a.fixed b.fixed c h) [ inl w ↦ inl (inl w) | inr w ↦ inr (inl w) ]
 or_from a b first c (inr h) = elim (or_true_cases a.start b.start h.0) [ inl w ↦ inl (inr (w, h.1)) | inr w ↦ inr (inr (w, h.1)) ]
 
--- a part, before which others are selected than at the beginning
+-- a part before which other components are selected than at the beginning
 pub through_to : (fixed : ℕ) (start : Bool) (selected : Reach) (first now : List ℕ) (c : ℕ) → Tells selected first now
     → Reaches (record { fixed = fixed; start = start }) now c → Reaches (reach_through (record { fixed = fixed; start = start }) selected) first c
 through_to fixed true selected first now c tells (inl h) = inl (or_left fixed selected.fixed c h)

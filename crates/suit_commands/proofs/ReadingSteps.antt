@@ -10,7 +10,7 @@ use Rattle.suit_commands.specs.View.{step_after, branch_after}
 
 -- ---- indices
 
--- those that were read before, in front of what is read
+-- the indices read before, in front of those that are read
 abbrev pub with_indices : List ℕ → Result (List ℕ × Position) Refusal → Result (List ℕ × Position) Refusal
 with_indices front (Ok x) = Ok (front ++ x.0, x.1)
 with_indices front (Err r) = Err r

@@ -1,4 +1,4 @@
--- The answer of the call that decodes a sequence, by the grammar and the refusals.
+-- The answer of the call that decodes a sequence, in terms of the grammar and the refusals.
 use Rattle.std.proofs.Common.{◌≡◌, ℕ, Bool, List, Result, Ok, Err, refl, sym, ap, ◌∙◌, inl, inr}
 use Rattle.std.specs.Prelude.{IfOk, IfErr}
 use Rattle.det_cbor.specs.DataItem.{DataItem}
@@ -46,7 +46,7 @@ err_refuses shared count place bytes (Err (Refused f)) fits e =
     whole_err (judge_sequence shared count levels_inside) (Says shared count) (Form shared count) (sequence_judges shared count levels_inside) place bytes f fits (sym (read_is shared count place bytes fits) ∙ e)
 err_refuses shared count place bytes (Err NoMemory) fits e = tt
 
--- the answer of the call if no memory were taken
+-- the answer of the call, unless memory ran out
 sequence_is : (shared : Bool) (count place : ℕ) (bytes : List ℕ) (s : SequenceTree) → IsBytes bytes → SaysWhole (SaysSequence shared count levels_allowed) place bytes s → whole_sequence shared count levels_inside (record { left = bytes; place = place }) ≡ Ok s
 sequence_is shared count place bytes s fits so = read_is shared count place bytes fits ∙ whole_read (judge_sequence shared count levels_inside) (Says shared count) (Form shared count) (sequence_judges shared count levels_inside) place bytes s so
 

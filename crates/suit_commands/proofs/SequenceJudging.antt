@@ -1,4 +1,4 @@
--- The judgement of a sequence of commands is that of the grammar and the refusals, at each level.
+-- Judging a sequence of commands agrees with the grammar and the refusals, at each level.
 use Rattle.std.proofs.Common.{◌≡◌, ◌≢◌, ℕ, zero, suc, ◌+◌, ◌%◌, Bool, cond, eqb, List, Result, Ok, Err, refl, sym, ap, subst, inl, inr}
 use Rattle.std.proofs.lemmas.Bool.{eqb-true, eqb-false}
 use Rattle.det_cbor.specs.DataItem.{DataItem, UnsignedInteger, ArrayOf, DataItems, NoItems, item_count, IsValidWithin}
@@ -20,7 +20,7 @@ use Rattle.suit_commands.proofs.StepJudging.{pairs_even, even_pairs, steps_ok, s
 abbrev Judged : Type 0
 Judged = Result SequenceTree Refusal
 
--- which way the tests of an array went
+-- which branches the tests on an array took
 counted : {P : Type 0} (items : DataItems) (bad : Refusal) (steps z : Judged) → cond (eqb (item_count items) 0) (Err bad) (cond (eqb (item_count items % 2) 0) steps (Err bad)) ≡ z
     → (items ≢ NoItems → ArePairs items → steps ≡ z → P) → ((items ≢ NoItems → ArePairs items → ⊥) → Err bad ≡ z → P) → P
 counted items bad steps z e good other =

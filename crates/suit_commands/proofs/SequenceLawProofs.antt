@@ -1,4 +1,5 @@
--- Items say one sequence or have one refusal, and what they say is a sequence of the grammar.
+-- An item says exactly one sequence or has exactly one refusal, and what it says is a sequence of the
+-- grammar.
 use Rattle.std.proofs.Common.{◌≡◌, ◌≢◌, ℕ, zero, suc, ◌+◌, ◌≤◌, Bool, Result, Ok, Err, List, refl, sym, ◌∙◌, arith, inl, inr, ◌⊎◌}
 use Rattle.det_cbor.specs.DataItem.{DataItem, DataItems, NoItems, item_count, IsValid, IsValidWithin, AreValidWithin}
 use Rattle.det_cbor.specs.ResultLaws.{same_ok, same_err, not_both}
@@ -32,7 +33,7 @@ one_reading shared count levels place x valid = by_answer (judge_sequence shared
       empty = λ s said. not_both (judge_sequence shared count levels place x) s r ((sequence_judges shared count levels).again place x s said) is;
     })
 
--- ---- a sequence that is said is one of the grammar, where those in byte strings are
+-- ---- a sequence that is said is one of the grammar, if those in its byte strings are
 
 abbrev Allowed : Bool → ℕ → ℕ → Type 0
 Allowed shared count levels = (place : ℕ) (content : List ℕ) (s : SequenceTree) → SaysInner shared count levels place content s → IsSequence shared count levels s

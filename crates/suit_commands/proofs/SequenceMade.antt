@@ -1,4 +1,5 @@
--- The item that says a sequence is the array that is made of it, and the places of the sequence are those of the array.
+-- The item that says a sequence is the array made from it, and the places of the sequence are those in the
+-- array.
 use Rattle.std.proofs.Common.{◌≡◌, ℕ, Bool, List, refl, sym, ap, ◌∙◌}
 use Rattle.det_cbor.specs.DataItem.{DataItem, UnsignedInteger, ByteString, ArrayOf, NullItem, DataItems, ItemThen, spell}
 use Rattle.suit_params.specs.Refusing.{content_place, SaysWhole}
@@ -87,7 +88,7 @@ mutual
 pub sequence_again : (shared : Bool) (count levels place : ℕ) (bytes : List ℕ) (s : SequenceTree) → SaysWhole (SaysSequence shared count levels) place bytes s → bytes ≡ spell (sequence_item s)
 sequence_again shared count levels place bytes s whole = whole.spells.is ∙ ap spell (sequence_made shared count levels place whole.item s whole.says_so)
 
--- ---- sequences that are equal places apart
+-- ---- sequences that differ only in their places
 
 mutual
   steps_unplaced : (s : SequenceTree) → step_items (unplaced s) ≡ step_items s

@@ -19,7 +19,7 @@ two_items (BranchThen inner NoBranches) two = absurd two
 two_items (BranchThen inner (BranchThen other rest)) two = omega arith
 two_items (BranchThen inner (NullThen rest)) two = omega arith
 
--- where its steps are said, an array says a sequence, and a byte string holds it
+-- an array says a sequence, and a byte string holds it, if the steps are said
 
 array_says : (shared : Bool) (count levels place : ℕ) (s : SequenceTree) → IsSequence shared count levels s
     → ((inside : ℕ) → AreCommands shared count inside s → SaysSteps shared count inside (elements_place place (step_items s)) (step_items s) (placed (elements_place place (step_items s)) s))

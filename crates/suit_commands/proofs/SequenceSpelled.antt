@@ -9,7 +9,7 @@ use Rattle.suit_commands.specs.Tree.{SequenceTree, BranchesTree}
 use Rattle.suit_commands.specs.View.{sequence_tree, branches_tree}
 use Rattle.suit_commands.specs.declared.command.Step.{Step}
 
--- a head and the items were added one after another
+-- a head and then the items were appended
 pub array_written : (out l m : List ℕ) (n : ℕ) (items : DataItems) → n ≡ item_count items → l ≡ out ++ head_bytes 4 n → m ≡ l ++ spell_items items → m ≡ out ++ spell (ArrayOf items)
 array_written out l m n items counted head rest =
     after_two out (head_bytes 4 n) (spell_items items) l m head rest
@@ -31,7 +31,7 @@ branch_count [] = refl
 branch_count (Some s ∷ bs) = omega (arith, branch_count bs)
 branch_count (None ∷ bs) = omega (arith, branch_count bs)
 
--- of the lists that hold them
+-- the counts of the lists that hold sequences and branches
 pub steps_counted : (ss : List Step) (s : SequenceTree) → sequence_tree ss ≡ s → 2 * length ss ≡ item_count (step_items s)
 steps_counted ss s is = step_count ss ∙ ap (λ (k : SequenceTree). item_count (step_items k)) is
 

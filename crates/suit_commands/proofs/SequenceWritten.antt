@@ -1,4 +1,4 @@
--- A written sequence says the sequence that was written, in its places.
+-- A written sequence says the sequence that was written, with its places.
 use Rattle.std.proofs.Common.{◌≡◌, ℕ, List, refl}
 use Rattle.det_cbor.specs.DataItem.{NullItem, spell}
 use Rattle.suit_commands.specs.Tree.{CommandTree, Test, Act, Index, Override, TryEach, RunSequence, SequenceTree, NoSteps, StepThen, BranchesTree, NoBranches, BranchThen, NullThen}
@@ -9,7 +9,7 @@ use Rattle.suit_commands.specs.SequenceWriting.{SequenceFits, IsWrittenSequence}
 use Rattle.suit_commands.proofs.SequenceValid.{written_spells}
 use Rattle.suit_commands.proofs.SequenceSays.{sequence_says}
 
--- places apart it is the same tree
+-- apart from its places it is the same tree
 mutual
   unplaced_same : (place : ℕ) (s : SequenceTree) → unplaced (placed place s) ≡ unplaced s
   unplaced_same place NoSteps = refl

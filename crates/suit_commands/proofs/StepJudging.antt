@@ -1,4 +1,4 @@
--- The judgement of commands in turn is that of the grammar and the refusals.
+-- Judging one command after another agrees with the grammar and the refusals.
 use Rattle.std.proofs.Common.{◌≡◌, ℕ, ◌%◌, Bool, Ok, Err, refl, sym, subst, arith}
 use Rattle.det_cbor.specs.DataItem.{DataItem, UnsignedInteger, DataItems, NoItems, ItemThen, item_count, AreValidWithin}
 use Rattle.det_cbor.specs.ResultLaws.{bind_ok, bind_err, same_ok}
@@ -25,12 +25,12 @@ even_pairs NoItems even = tt
 even_pairs (ItemThen code NoItems) even = absurd (omega (arith, even))
 even_pairs (ItemThen code (ItemThen argument others)) even = even_pairs others (omega (arith, even))
 
--- ---- commands in turn
+-- ---- one command after another
 
 abbrev SaysThese : Bool → ℕ → ℕ → ℕ → DataItems → SequenceTree → Type 0
 SaysThese shared count levels place items s = SaysSteps shared count levels place items s
 
--- a step whose code is judged so
+-- a step, once its code has been judged
 with_code : (shared : Bool) (count levels place : ℕ) (x argument : DataItem) (others : DataItems) (code : CommandCode) (command : CommandTree) (rest : SequenceTree) → x ≡ UnsignedInteger (code_number code)
     → SaysCommand shared count levels (place_after place x) (code_number code) argument command → SaysSteps shared count levels (place_after (place_after place x) argument) others rest
     → SaysSteps shared count levels place (ItemThen x (ItemThen argument others)) (StepThen place command rest)
@@ -59,7 +59,7 @@ steps_again inner shared count levels place items s law (SaysStep l at number ar
     let first = argument_again inner shared count levels (place_after place (UnsignedInteger number)) number argument command law said in
     rw (first.known place, first.judged, steps_again inner shared count levels (place_after (place_after place (UnsignedInteger number)) argument) others rest law more) refl
 
--- the elements of a sequence that is said stand in pairs
+-- the elements of a sequence that is said come in pairs
 pub said_pairs : (shared : Bool) (count levels place : ℕ) (items : DataItems) (s : SequenceTree) → SaysSteps shared count levels place items s → ArePairs items
 said_pairs shared count levels place items s (SaysNoSteps l at) = tt
 said_pairs shared count levels place items s (SaysStep l at number argument others command rest said more) = said_pairs shared count levels _ others rest more

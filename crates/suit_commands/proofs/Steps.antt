@@ -1,4 +1,4 @@
--- The rest of a sequence or a try each is the element there and what follows it.
+-- The rest of a sequence or a try each is the next element and what follows it.
 use Rattle.std.proofs.Common.{◌≡◌, ℕ, ◌+◌, ◌<◌, ◌≤◌, List, ◌∷◌, length, get_or, drop, Option, ap, add-one, drop-cons}
 use Rattle.std.proofs.lemmas.List.{drop_all}
 use Rattle.suit_commands.specs.Tree.{SequenceTree, NoSteps, StepThen, NoBranches}

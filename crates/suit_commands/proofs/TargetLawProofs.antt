@@ -15,7 +15,7 @@ use Rattle.suit_commands.specs.Targets.{Writes, CommandWrites, BranchesWrite, Na
 use Rattle.suit_commands.proofs.BitLaws.{range_from}
 use Rattle.suit_commands.proofs.IndexedSteps.{member_indexed, shared_indexed}
 
--- those of a list are components
+-- all of the list are components
 abbrev pub AreBelow : ℕ → List ℕ → Type 0
 AreBelow count selected = (i : ℕ) → Among i selected → i < count
 
@@ -97,7 +97,7 @@ mutual
   branches_sources_below (BranchThen inner rest) count c indexed (inr h) = branches_sources_below rest count c indexed.1 h
   branches_sources_below (NullThen rest) count c indexed h = branches_sources_below rest count c indexed h
 
--- a property that holds wherever some sequence of the plan has it
+-- what follows from each sequence that has the property follows if some sequence of the procedure has it
 pub in_some : (plan : PlanTree) (has : SequenceTree → Type 0) (A : Type 0) → IsPlan plan → ((s : SequenceTree) → AreIndexed plan.count s → has s → A) → InSome plan has → A
 in_some plan has A allowed each (inl h) = each plan.shared (shared_indexed plan.count plan.shared allowed.shared) h
 in_some plan has A allowed each (inr (inl h)) = each plan.first (member_indexed plan.count plan.first allowed.first) h

@@ -13,7 +13,7 @@ use Rattle.suit_commands.proofs.BitLaws.{or_left, or_right, or_cases, one_bit, o
 use Rattle.suit_commands.proofs.ReachLaws.{reach_writes, writes_reach}
 use Rattle.suit_commands.proofs.SourceLaws.{sources_to, sources_from}
 
--- ---- of one sequence, before which component 0 is selected
+-- ---- one sequence, before which component 0 is selected
 
 start_bits : (r : Reach) (c : ℕ) → r.start ≡ true → HasBit (bit_or r.fixed 1) c ↔ Reaches r (0 ∷ []) c
 start_bits r c start = (
@@ -49,7 +49,7 @@ named_sources o s bits is made c = (
   λ h. subst (λ (x : ℕ). HasBit x c) (sym made) (sources_to s.now c (subst (λ (x : Option (Bor SequenceTree)). Sources (lent_tree x) c) is h)),
 )
 
--- ---- of a procedure
+-- ---- procedures
 
 pub or_two : (x y c : ℕ) {A B : Type 0} → HasBit x c ↔ A → HasBit y c ↔ B → HasBit (bit_or x y) c ↔ (A ⊎ B)
 or_two x y c p q = (

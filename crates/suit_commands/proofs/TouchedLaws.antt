@@ -14,7 +14,7 @@ use Rattle.suit_commands.proofs.BitLaws.{one_bit, one_bit_is}
 use Rattle.suit_commands.proofs.TargetLawProofs.{AreBelow, below_one, after_below, sources_below, in_some}
 use Rattle.suit_commands.proofs.TouchedSteps.{touches_bits, bits_touch}
 
--- ---- of one sequence, before which component 0 is selected
+-- ---- one sequence, before which component 0 is selected
 
 first_to : (c : ℕ) → Among c (0 ∷ []) → HasBit 1 c
 first_to c (inl same) = one_bit 0 c same

@@ -10,7 +10,8 @@ use Rattle.suit_commands.proofs.BitLaws.{no_bit, or_left, or_right, or_cases, se
 use Rattle.suit_commands.proofs.ReachParts.{HasOne, after_one}
 use Rattle.suit_commands.proofs.SourceLaws.{none_left}
 
--- ---- what is touched has its bit, or is known by X already, as the component that a sequence inside begins with
+-- ---- what is touched has its bit set, or is already known by X, as the component selected before an inner
+-- sequence is
 
 after_to : (X : Type 0) (command : CommandTree) (count bits : ℕ) (now : List ℕ) (c : ℕ) → (Among c now → X ⊎ HasBit bits c) → Among c (selected_after command count now) → X ⊎ HasBit (bits_after command count bits) c
 after_to X (Test kind report) count bits now c known h = known h
@@ -26,7 +27,7 @@ left_of X a b c h = elim h [ inl x ↦ inl x | inr w ↦ inr (or_left a b c w) ]
 right_of : (X : Type 0) (a b c : ℕ) → X ⊎ HasBit b c → X ⊎ HasBit (bit_or a b) c
 right_of X a b c h = elim h [ inl x ↦ inl x | inr w ↦ inr (or_right a b c w) ]
 
--- a component that is selected at the outer command, and so is touched there
+-- a component that is selected at the outer command, and so is touched by it
 outer_known : (outer c : ℕ) (now : List ℕ) → Among outer now → c ≡ outer → Among c now
 outer_known outer c now among same = subst (λ (x : ℕ). Among x now) (sym same) among
 
@@ -69,7 +70,7 @@ mutual
   ])
   branches_to X (NullThen rest) count total outer c known h = branches_to X rest count total outer c known h
 
--- ---- each bit is of a component that is touched
+-- ---- each bit that is set belongs to a component that is touched
 
 after_from : (command : CommandTree) (count bits : ℕ) (now : List ℕ) (c : ℕ) → (HasBit bits c → Among c now) → HasBit (bits_after command count bits) c → Among c (selected_after command count now)
 after_from (Test kind report) count bits now c known h = known h
@@ -114,7 +115,7 @@ mutual
       ]
   branches_from (NullThen rest) count total outer c some indexed h = branches_from rest count total outer c some indexed h
 
--- ---- of a sequence before which a component is selected
+-- ---- a sequence before which a component is selected
 
 pub touches_bits : (s : SequenceTree) (count bits : ℕ) (now : List ℕ) (c : ℕ) → (Among c now → HasBit bits c) → Touches s count now c → HasBit (touched_of s count bits 0) c
 touches_bits s count bits now c known h = elim (sequence_to ⊥ s count bits 0 now c (λ w. inr (known w)) (inr h)) [ inl n ↦ absurd n | inr w ↦ w ]

@@ -1,4 +1,4 @@
--- Ways one after another: in any grouping, and with each number capped.
+-- Ways one after another, in any grouping, and with each number capped.
 use Rattle.std.proofs.Common.{◌≡◌, ℕ, zero, suc, ◌+◌, ◌*◌, refl, sym, ◌∙◌, ap, add-zero, add-suc, arith}
 use Rattle.suit_commands.specs.Capped.{capped}
 use Rattle.suit_commands.specs.Numbers.{Ways, start_ways}
@@ -49,7 +49,7 @@ then_capped a b = ways_same _ _ (capped_times a.on b.on) (sum_capped a.off a.on 
 pub else_capped : (a b : Ways) → capped_ways (ways_else (capped_ways a) (capped_ways b)) ≡ capped_ways (ways_else a b)
 else_capped a b = ways_same _ _ (sum_capped a.on a.off b.on) (capped_times a.off b.off)
 
--- each part alone capped
+-- one of the two parts is capped
 pub then_capped_left : (a b : Ways) → capped_ways (ways_then (capped_ways a) b) ≡ capped_ways (ways_then a b)
 then_capped_left a b = sym (then_capped (capped_ways a) b) ∙ ap (λ (x : Ways). capped_ways (ways_then x (capped_ways b))) (capped_ways_twice a) ∙ then_capped a b
 
@@ -72,18 +72,18 @@ pub else_made : (a b : Ways) (on part off : ℕ) → part ≡ capped (a.off * b.
     → ◌≡◌ {A = Ways} (record { on = on; off = off }) (capped_ways (ways_else a b))
 else_made a b on part off part_is on_is off_is = ways_same _ _ (rw (on_is, part_is) (capped_plus_right a.on (a.off * b.on))) off_is
 
--- ---- so many times
+-- ---- repeated
 
 pub repeated_sum : (m n : ℕ) (a : Ways) → ways_repeated (m + n) a ≡ ways_then (ways_repeated m a) (ways_repeated n a)
 repeated_sum m zero a = rw (add-zero m) (sym (then_start (ways_repeated m a)))
 repeated_sum m (suc n) a = rw (add-suc m n) (ap (λ (x : Ways). ways_then x a) (repeated_sum m n a) ∙ then_assoc (ways_repeated m a) (ways_repeated n a) a)
 
--- twice the half
+-- twice as often
 pub repeated_even : (n half : ℕ) (a h whole : Ways) → n ≡ half + half → h ≡ capped_ways (ways_repeated half a) → whole ≡ capped_ways (ways_then h h) → whole ≡ capped_ways (ways_repeated n a)
 repeated_even n half a h whole n_is h_is whole_is =
     rw (whole_is, h_is, n_is, repeated_sum half half a) (then_capped (ways_repeated half a) (ways_repeated half a))
 
--- and once more
+-- twice as often, and once more
 pub repeated_odd : (n half : ℕ) (a h even whole : Ways) → n ≡ suc (half + half) → h ≡ capped_ways (ways_repeated half a) → even ≡ capped_ways (ways_then h h) → whole ≡ capped_ways (ways_then even a) → whole ≡ capped_ways (ways_repeated n a)
 repeated_odd n half a h even whole n_is h_is even_is whole_is =
     let e : even ≡ capped_ways (ways_repeated (half + half) a) = repeated_even (half + half) half a h even refl h_is even_is in

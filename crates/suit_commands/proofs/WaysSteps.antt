@@ -1,4 +1,5 @@
--- One more command or branch counted: the ways that are counted and the ways of what is left are the whole.
+-- One more command or branch is counted: the ways counted so far, followed by those that are left, are the
+-- whole.
 use Rattle.std.proofs.Common.{◌≡◌, ℕ, zero, suc, ◌+◌, ◌<◌, ◌≤◌, List, ◌∷◌, length, get_or, drop, Option, Some, None, refl, sym, ◌∙◌, ap, subst, arith}
 use Rattle.suit_commands.specs.Tree.{CommandTree, Test, Act, Index, Override, TryEach, RunSequence, SequenceTree, NoSteps, StepThen, BranchesTree}
 use Rattle.suit_commands.specs.Capped.{capped}
@@ -20,7 +21,7 @@ IsWalked whole ways left all = record {
   ways : capped_ways left ≡ capped_ways all;
 }
 
--- ---- a command so many times comes after the ways so far
+-- ---- a command that is repeated, after the ways so far
 
 times_then : (n : ℕ) (step : Ways → Ways) (a w : Ways) → ((x : Ways) → step x ≡ ways_then x a) → times n step w ≡ ways_then w (ways_repeated n a)
 times_then zero step a w each = sym (then_start w)
@@ -44,7 +45,7 @@ ways_once (Override list) count selected w = nothing_after selected w
 ways_once (TryEach branches) count selected w = times_then selected (after_tries (branches_done branches count) (branches_failed branches count)) (tried_ways branches count) w (λ x. refl)
 ways_once (RunSequence inner) count selected w = times_then selected (after_inner (ways_of inner count 1 start_ways)) (inner_ways (ways_of inner count 1 start_ways)) w (λ x. refl)
 
--- so do the ways of a sequence
+-- the ways of a sequence come after the ways so far too
 pub ways_from : (s : SequenceTree) (count selected : ℕ) (w : Ways) → ways_of s count selected w ≡ ways_then w (ways_of s count selected start_ways)
 ways_from NoSteps count selected w = sym (then_start w)
 ways_from (StepThen place command rest) count selected w =
@@ -96,7 +97,7 @@ steps_ways ss i count selected ways whole past fits held =
     let all : capped_ways (ways_then ways start_ways) ≡ whole = subst (λ (x : SequenceTree). capped_ways (ways_then ways (ways_of x count selected start_ways)) ≡ whole) (no_step ss i past) held in
     sym fits ∙ ap capped_ways (sym (then_start ways)) ∙ all
 
--- ---- of branches
+-- ---- branches
 
 abbrev pub there_ways : Option SequenceTree → ℕ → Ways
 there_ways (Some inner) count = ways_of inner count 1 start_ways
@@ -124,7 +125,7 @@ branches_ways bs i count tried whole past fits held =
     let all : capped_ways (ways_else tried no_branch) ≡ whole = subst (λ (x : BranchesTree). capped_ways (ways_else tried (tried_ways x count)) ≡ whole) (no_branch_left bs i past) held in
     sym fits ∙ ap capped_ways (sym (else_none tried)) ∙ all
 
--- ---- of a command
+-- ---- commands
 
 pub start_capped : capped_ways start_ways ≡ start_ways
 start_capped = ways_same _ _ (capped_small 1 (omega arith)) (capped_small 0 (omega arith))

@@ -1,4 +1,4 @@
--- One more command or branch counted: the work that is counted and the work that is left are the whole.
+-- One more command or branch is counted: the work counted so far and the work that is left are the whole.
 use Rattle.std.proofs.Common.{◌≡◌, ℕ, ◌+◌, ◌*◌, ◌<◌, ◌≤◌, ◌^◌, List, ◌∷◌, length, get_or, drop, Option, Some, None, refl, sym, ◌∙◌, ap, subst, add-zero}
 use Rattle.suit_commands.specs.Tree.{SequenceTree, BranchesTree}
 use Rattle.suit_commands.specs.Capped.{capped}
@@ -11,7 +11,7 @@ use Rattle.suit_commands.specs.declared.selection.Selection.{Selection}
 use Rattle.suit_commands.proofs.Capping.{capped_small, capped_three, capped_plus_right, capped_times_right}
 use Rattle.suit_commands.proofs.Steps.{step_there, branch_there, no_step, no_branch_left}
 
--- a sequence inside, once for each selected component
+-- an inner sequence, once for each selected component
 pub inner_work : (selected work w more : ℕ) → w ≡ capped work → more ≡ capped (1 + w) → capped (selected * more) ≡ capped (selected * (1 + work))
 inner_work selected work w more w_is more_is = rw (more_is, w_is) (capped_times_right selected (1 + capped work) ∙ capped_inside selected work)
   where
@@ -47,7 +47,7 @@ null_counted bs i d b count total next whole lt is none next_is sum =
     let e : branches_tree (drop i bs) ≡ branches_tree (None ∷ drop (i + 1) bs) = branch_there bs i d b lt is ∙ ap (λ (x : Option SequenceTree). branches_tree (x ∷ drop (i + 1) bs)) none in
     rw next_is (subst (λ (x : BranchesTree). capped (total + branches_work x count) ≡ whole) e sum)
 
--- at the end the count is the whole
+-- at the end, the count is the whole
 pub steps_counted : (ss : List Step) (i count selected total whole : ℕ) → length ss ≤ i → total < 2 ^ 64
     → capped (total + work_of (sequence_tree (drop i ss)) count selected) ≡ whole → total ≡ whole
 steps_counted ss i count selected total whole past fits sum =
@@ -60,7 +60,7 @@ branches_counted bs i count total whole past fits sum =
     let all : capped (total + 0) ≡ whole = subst (λ (x : BranchesTree). capped (total + branches_work x count) ≡ whole) (no_branch_left bs i past) sum in
     sym (capped_small total fits) ∙ ap capped (sym (add-zero total)) ∙ all
 
--- each other command is done once for each selected component
+-- any other command is executed once for each selected component
 pub plain_work : (command : Command) (count selected : ℕ) → selected < 2 ^ 64
     → ((s : Selection) → command ≡ commands.Index s → ⊥) → ((b : BranchesTree) → command ≡ commands.TryEach b → ⊥) → ((s : SequenceTree) → command ≡ commands.Run s → ⊥)
     → selected ≡ capped (command_work (command_tree command) count selected)

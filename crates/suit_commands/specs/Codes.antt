@@ -1,4 +1,4 @@
--- A code for each tree, by which trees are told apart.
+-- A one-to-one code of trees.
 use Rattle.std.specs.Prelude.{◌≡◌, ℕ, List, refl}
 use Rattle.std.proofs.Common.{ap, arith}
 use Rattle.std.specs.Coded.{Coded, coded_list}
@@ -43,7 +43,7 @@ abbrev mutual
   branches_code (BranchThen inner rest) =
       gcons (gcons gnil (sequence_code inner)) (branches_code rest)
 
--- ---- a code is that of one tree
+-- ---- the code is one-to-one
 
 mutual
   pub sequence_inj : (x y : SequenceTree) → sequence_code x ≡ sequence_code y → x ≡ y

@@ -7,7 +7,7 @@ use Rattle.suit_commands.specs.declared.command_code.CommandCode.{CommandCode}
 use Rattle.suit_commands.specs.declared.command_code.CommandCode.TheVariants as codes
 use Rattle.suit_commands.specs.Kinds.{test_code, act_code}
 
--- its number in a command sequence
+-- the number of a command in a command sequence
 abbrev pub code_number : CommandCode → ℕ
 code_number (codes.Test kind) = test_code kind
 code_number (codes.Act kind) = act_code kind
@@ -16,7 +16,7 @@ code_number codes.TryEach = 15
 code_number codes.Override = 20
 code_number codes.Run = 32
 
--- all, in the order of their numbers
+-- all commands, in the order of their numbers
 abbrev pub all_codes : List CommandCode
 all_codes =
     codes.Test tests.Vendor ∷ codes.Test tests.Class ∷ codes.Test tests.ImageMatch
@@ -25,6 +25,6 @@ all_codes =
     ∷ codes.Act acts.Copy ∷ codes.Act acts.Invoke ∷ codes.Test tests.Device ∷ codes.Act acts.Swap
     ∷ codes.Run ∷ []
 
--- the command that has a number
+-- the command with this number, if there is one
 abbrev pub numbered : ℕ → Option CommandCode
 numbered n = numbered_in code_number all_codes n

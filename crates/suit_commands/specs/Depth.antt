@@ -1,8 +1,8 @@
--- How deep sequences stand in one another.
+-- How deep sequences nest.
 use Rattle.std.specs.Prelude.{ℕ, ◌+◌, max}
 use Rattle.suit_commands.specs.Tree.{CommandTree, TryEach, RunSequence, SequenceTree, NoSteps, StepThen, BranchesTree, NoBranches, BranchThen, NullThen}
 
--- the levels of a sequence, itself among them; a command or a branch counts the sequence that it stands in
+-- the levels of a sequence, counting itself; for a command or a branch, those of the sequence that it is in
 abbrev mutual
   pub sequence_depth : SequenceTree → ℕ
   sequence_depth NoSteps = 1

@@ -1,4 +1,4 @@
--- Each inner sequence is smaller than the one that holds it.
+-- An inner sequence is smaller than the one that holds it.
 use Rattle.std.specs.Prelude.{ℕ, ◌+◌, ◌≤◌, max, List, [], ◌∷◌, Option, Some, None}
 use Rattle.std.proofs.Common.{arith}
 use denote.Param.Weighed.{most}

@@ -1,4 +1,4 @@
--- Sequences whose selections and sources are components of the manifest.
+-- Sequences all of whose selections and sources are components of the manifest.
 use Rattle.std.specs.Prelude.{ℕ}
 use Rattle.std.specs.List.{AllByRecursion}
 use Rattle.suit_params.specs.ParamMaking.{IsBelow}

@@ -5,6 +5,7 @@ use Rattle.suit_commands.specs.declared.kinds.TestKind.TheVariants as tests
 use Rattle.suit_commands.specs.declared.kinds.ActKind.{ActKind}
 use Rattle.suit_commands.specs.declared.kinds.ActKind.TheVariants as acts
 
+-- the code of a condition
 abbrev pub test_code : TestKind → ℕ
 test_code tests.Vendor = 1
 test_code tests.Class = 2
@@ -14,6 +15,7 @@ test_code tests.ImageMatch = 3
 test_code tests.CheckContent = 6
 test_code tests.Abort = 14
 
+-- the code of a directive that acts on contents
 abbrev pub act_code : ActKind → ℕ
 act_code acts.Write = 18
 act_code acts.Fetch = 21

@@ -12,17 +12,19 @@ use Rattle.suit_commands.specs.Selections.{Among}
 use Rattle.suit_commands.specs.Targets.{InSome, IsTarget}
 use Rattle.suit_commands.specs.Touches.{IsTouched, HasAct}
 
+-- a sequence of one condition
 abbrev pub tested_alone : TestKind → SequenceTree
 tested_alone kind = StepThen 10 (Test kind 0) NoSteps
 
--- 16 commands, in two ways: an override and a condition at all six components, and a sequence inside at one
+-- 16 commands, in two ways: an override and a condition at all six components, and an inner sequence at one
 abbrev pub known_shared : SequenceTree
 known_shared =
     StepThen 20 (Index All) (StepThen 21 (Override (params.Source 1 ∷ []))
     (StepThen 22 (Test tests.Vendor 0) (StepThen 23 (Index (One 2))
     (StepThen 24 (RunSequence (tested_alone tests.Class)) NoSteps))))
 
--- 24 commands, in 125 ways: two at component 0, and at each of three listed ones a try each of two sequences
+-- 24 commands, in 125 ways: two at component 0, and at each of three listed components a try each of two
+-- sequences
 abbrev pub known_first : SequenceTree
 known_first =
     StepThen 30 (Test tests.Slot 0) (StepThen 31 (Act acts.Write 0)
@@ -34,7 +36,8 @@ known_first =
     (StepThen 37 (RunSequence (tested_alone tests.Slot)) (tested_alone tests.Device))
     NoBranches))) NoSteps)))
 
--- 25 commands, in 254 ways: a try each that ends with null, and a sequence with a try each at all six components inside
+-- 25 commands, in 254 ways: a try each that ends with null, and an inner sequence with a try each at all six
+-- components
 abbrev pub known_second : SequenceTree
 known_second =
     StepThen 40 (Index (One 1))
@@ -61,7 +64,8 @@ known_plan kind =
       count = 6;
     }
 
--- components 0 and 1 are selected at no command but a set component index, and each other one at one
+-- components 0 and 1 are selected only at set component indices, and each other component at one other
+-- command
 abbrev pub passing_plan : PlanTree
 passing_plan =
     record {
@@ -83,7 +87,7 @@ pub record KnownNumbers : Type 0 where
   pub spread : (kind : ActKind) → spread_number (known_plan kind) ≡ 254000
   pub width : (kind : ActKind) → width_number (known_plan kind) ≡ 25400000
 
--- components 2, 3 and 4 are written inside a sequence inside; 5 is where a swap stands last, and so is 1, the source
+-- components 2, 3 and 4 are written in an inner sequence; 5 is where the last swap is, and 1 is the source
 pub record KnownTargets : Type 0 where
   pub written : (kind : ActKind) (component : ℕ) → Among component (0 ∷ 2 ∷ 3 ∷ 4 ∷ [])
       → IsTarget (known_plan kind) component

@@ -18,6 +18,7 @@ pub record HasWays (plan : PlanTree) : Type 0 where
 abbrev pub NumberLaws : Type 0
 NumberLaws = (plan : PlanTree) → IsPlan plan → HasWays plan
 
+-- a component that a procedure of the grammar may write is one of the manifest
 abbrev pub TargetLaws : Type 0
 TargetLaws =
     (plan : PlanTree) → IsPlan plan → (component : ℕ) → IsTarget plan component

@@ -1,10 +1,10 @@
--- Procedures, as trees of what they lend.
+-- Procedures as trees.
 use Rattle.std.specs.Prelude.{Option, Some, None}
 use Rattle.std.specs.Borrow.{Bor}
 use Rattle.suit_commands.specs.Tree.{SequenceTree, NoSteps, PlanTree}
 use Rattle.suit_commands.specs.declared.plan.Plan.{Plan}
 
--- an absent sequence is an empty one
+-- an absent sequence counts as empty
 abbrev pub lent_tree : Option (Bor SequenceTree) → SequenceTree
 lent_tree None = NoSteps
 lent_tree (Some s) = s.now

@@ -1,4 +1,5 @@
--- The components that a sequence writes, whichever are selected at its beginning: certain ones, and perhaps those.
+-- The components that a sequence writes, whichever are selected at its beginning: some fixed ones, and
+-- perhaps those.
 use Rattle.std.specs.Prelude.{◌≡◌, ◌⊎◌, ℕ, Bool, true, false, ◌||◌, cond, List, bit_or}
 use Rattle.suit_commands.specs.declared.reach.Reach.{Reach}
 use Rattle.suit_commands.specs.declared.kinds.ActKind.{ActKind}
@@ -10,14 +11,14 @@ use Rattle.suit_commands.specs.Selections.{Among}
 abbrev pub no_reach : Reach
 no_reach = record { fixed = 0; start = false }
 
--- those that are selected at the beginning
+-- the components selected at the beginning
 abbrev pub start_reach : Reach
 start_reach = record { fixed = 0; start = true }
 
 abbrev pub reach_or : Reach → Reach → Reach
 reach_or a b = record { fixed = bit_or a.fixed b.fixed; start = a.start || b.start }
 
--- of a part before which these are selected
+-- the set of a part, given which components are selected before it
 abbrev pub reach_through : Reach → Reach → Reach
 reach_through part selected =
     cond part.start (record { fixed = bit_or part.fixed selected.fixed; start = selected.start })
@@ -30,14 +31,14 @@ writes_content acts.Copy = true
 writes_content acts.Swap = true
 writes_content acts.Invoke = false
 
--- which are selected after a command
+-- the components selected after a command
 abbrev pub reach_after : CommandTree → ℕ → Reach → Reach
 reach_after (Index selection) count selected =
     record { fixed = selection_bits selection count; start = false }
 reach_after _ count selected = selected
 
 abbrev mutual
-  -- beside what was written before, where these are selected
+  -- what was written before, and what the sequence writes with these selected
   pub reach_of : SequenceTree → ℕ → Reach → Reach → Reach
   reach_of NoSteps count selected total = total
   reach_of (StepThen place command rest) count selected total =
@@ -58,7 +59,7 @@ abbrev mutual
       branches_reach rest count (reach_or total (reach_of inner count start_reach no_reach))
   branches_reach (NullThen rest) count total = branches_reach rest count total
 
--- where these are selected at the beginning
+-- the component is in the set, given those selected at the beginning
 abbrev pub Reaches : Reach → List ℕ → ℕ → Type 0
 Reaches reach selected component =
     HasBit reach.fixed component ⊎ ((reach.start ≡ true) × Among component selected)

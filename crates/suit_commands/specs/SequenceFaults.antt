@@ -1,4 +1,4 @@
--- Refusals of an item that is to be a sequence of commands (draft-ietf-suit-manifest-25, section 8.4.6).
+-- Refusals of an item that must be a sequence of commands (draft-ietf-suit-manifest-25, section 8.4.6).
 use Rattle.std.specs.Prelude.{◌≡◌, ◌≢◌, ◌<◌, ◌≤◌, ◌+◌, ◌⊎◌, ℕ, zero, suc, Bool, true, false, List, [], ◌++◌, length}
 use Rattle.det_cbor.specs.DataItem.{DataItem, UnsignedInteger, ByteString, ArrayOf, Boolean, NullItem, DataItems, NoItems, ItemThen, item_count, spell, Spells, IsValid}
 use Rattle.det_cbor.specs.Faults.{Faulty}
@@ -16,31 +16,35 @@ use Rattle.suit_commands.specs.Sequences.{elements_place, place_after, SaysComma
 
 -- ---- kinds of items
 
--- an even number of elements, and not none
+-- the number of elements is even, and not zero
 abbrev pub ArePairs : DataItems → Type 0
 ArePairs NoItems = Unit {0}
 ArePairs (ItemThen code NoItems) = ⊥
 ArePairs (ItemThen code (ItemThen argument others)) = ArePairs others
 
+-- an array that is not empty and whose elements are in pairs
 abbrev pub IsSequenceArray : DataItem → Type 0
 IsSequenceArray (ArrayOf items) = (items ≢ NoItems) × ArePairs items
 IsSequenceArray _ = ⊥
 
+-- a reporting policy: a number of four bits
 abbrev pub IsPolicy : DataItem → Type 0
 IsPolicy (UnsignedInteger n) = n ≤ 15
 IsPolicy _ = ⊥
 
+-- an index, true, or an array that is not empty
 abbrev pub IsSelection : DataItem → Type 0
 IsSelection (UnsignedInteger i) = Unit {0}
 IsSelection (Boolean b) = b ≡ true
 IsSelection (ArrayOf items) = items ≢ NoItems
 IsSelection _ = ⊥
 
+-- an array of at least two elements
 abbrev pub IsTryArray : DataItem → Type 0
 IsTryArray (ArrayOf items) = 2 ≤ item_count items
 IsTryArray _ = ⊥
 
--- a byte string, or null where no other follows
+-- a byte string, or null if no other branch follows
 abbrev pub IsBranch : DataItem → DataItems → Type 0
 IsBranch (ByteString content) others = Unit {0}
 IsBranch NullItem NoItems = Unit {0}
@@ -54,14 +58,16 @@ IsTestCode n = (kind : TestKind) × (n ≡ test_code kind)
 abbrev pub IsActCode : ℕ → Type 0
 IsActCode n = (kind : ActKind) × (n ≡ act_code kind)
 
--- whose argument is a reporting policy
+-- the codes whose argument is a reporting policy
 abbrev pub IsPolicyCode : Bool → ℕ → Type 0
 IsPolicyCode shared n = IsTestCode n ⊎ ((shared ≡ false) × IsActCode n)
 
+-- those codes, and set component index (12), try each (15), override parameters (20) and run sequence (32)
 abbrev pub IsCode : Bool → ℕ → Type 0
 IsCode shared n = IsPolicyCode shared n ⊎ (n ≡ 12) ⊎ (n ≡ 15) ⊎ (n ≡ 20) ⊎ (n ≡ 32)
 
--- ---- index lists: their elements are judged in order; one of another kind makes the list a bad argument
+-- ---- index lists: their elements are judged in order; one of another kind makes the whole list a bad
+-- argument
 
 pub data RefusesIndices (count list : ℕ) : ℕ → DataItems → Refusal → Type 0 where
   NoIndex : (place : ℕ) (x : DataItem) (others : DataItems) → (IsUnsigned x → ⊥)
@@ -84,6 +90,7 @@ mutual
         → RefusesSteps shared count levels (elements_place place items) items r
         → RefusesSequence shared count (suc levels) place (ArrayOf items) r
 
+  -- refusals of codes and arguments
   pub data RefusesSteps (shared : Bool) (count : ℕ) : ℕ → ℕ → DataItems → Refusal → Type 0 where
     OtherCode : (levels place : ℕ) (code argument : DataItem) (others : DataItems)
         → ((n : ℕ) → code ≡ UnsignedInteger n → IsCode shared n → ⊥)
@@ -102,6 +109,7 @@ mutual
         → RefusesSteps shared count levels place
         (ItemThen (UnsignedInteger n) (ItemThen argument others)) r
 
+  -- refusals of the argument after this code
   pub data RefusesArgument (shared : Bool) (count : ℕ)
       : ℕ → ℕ → ℕ → DataItem → Refusal → Type 0 where
     NoPolicy : (levels place n : ℕ) (x : DataItem) → IsPolicyCode shared n → (IsPolicy x → ⊥)
@@ -129,6 +137,7 @@ mutual
         → RefusesInner shared count levels place content r
         → RefusesArgument shared count levels place 32 (ByteString content) r
 
+  -- refusals of the branches of a try each
   pub data RefusesBranches (shared : Bool) (count : ℕ) : ℕ → ℕ → DataItems → Refusal → Type 0 where
     NoBranch : (levels place : ℕ) (x : DataItem) (others : DataItems) → (IsBranch x others → ⊥)
         → RefusesBranches shared count levels place (ItemThen x others) (refused place BadArgument)
@@ -141,7 +150,7 @@ mutual
         → RefusesBranches shared count levels (place_after place (ByteString content)) others r
         → RefusesBranches shared count levels place (ItemThen (ByteString content) others) r
 
-  -- a byte string that is to hold a sequence, whose content is judged as one item first
+  -- refusals of a byte string that must hold a sequence, whose content is judged as one item first
   pub data RefusesInner (shared : Bool) (count : ℕ) : ℕ → ℕ → List ℕ → Refusal → Type 0 where
     TooNested : (place : ℕ) (content : List ℕ)
         → RefusesInner shared count zero place content (refused place Nested)

@@ -1,4 +1,4 @@
--- How a sequence of commands is judged, by cases: the tree that it says, or the first refusal.
+-- How a sequence of commands is judged, case by case: the tree that it says, or the first refusal.
 use Rattle.std.specs.Prelude.{ℕ, zero, suc, ◌%◌, ◌==◌, nat_lt, if◌then◌else◌, Bool, List, [], ◌∷◌, Option, Some, None, Result, Ok, Err}
 use Rattle.det_cbor.specs.DataItem.{DataItem, UnsignedInteger, ByteString, ArrayOf, MapOf, Boolean, NullItem, DataItems, NoItems, ItemThen, item_count}
 use Rattle.det_cbor.specs.HeadReading.{◌>>=◌}
@@ -16,13 +16,13 @@ use Rattle.suit_commands.specs.CommandCodes.{numbered}
 use Rattle.suit_commands.specs.Sequences.{elements_place, place_after}
 use Rattle.suit_commands.specs.Tree.{CommandTree, Test, Act, Index, Override, TryEach, RunSequence, SequenceTree, NoSteps, StepThen, BranchesTree, NoBranches, BranchThen, NullThen}
 
--- how a byte string at a place, with this content, is judged as a sequence
+-- judges a byte string with this content, at this place, as a sequence
 abbrev pub InnerJudge : Type 0
 InnerJudge = ℕ → List ℕ → Result SequenceTree Refusal
 
 -- ---- codes
 
--- where the code stands, and whether in the shared sequence
+-- a code is judged at its place; some are refused in the shared sequence
 abbrev pub known_code : ℕ → Bool → Option CommandCode → Result CommandCode Refusal
 known_code place shared (Some (codes.Act kind)) =
     if shared then Err (refused place Unsupported) else Ok (codes.Act kind)
@@ -40,7 +40,7 @@ judge_report place (UnsignedInteger n) =
     if nat_lt n 16 then Ok n else Err (refused place BadArgument)
 judge_report place _ = Err (refused place BadArgument)
 
--- an element of the list that stands at another place
+-- an element of the list whose place is `list`
 abbrev pub judge_element : ℕ → ℕ → ℕ → DataItem → Result ℕ Refusal
 judge_element count list place (UnsignedInteger i) = judge_index count place i
 judge_element count list place _ = Err (refused list BadArgument)
@@ -73,7 +73,7 @@ abbrev pub branch_before : Option SequenceTree → BranchesTree → BranchesTree
 branch_before (Some s) branches = BranchThen s branches
 branch_before None branches = NullThen branches
 
--- null stands where no other follows
+-- null is allowed only if no other branch follows
 abbrev pub judge_branch : InnerJudge → ℕ → DataItem → DataItems
     → Result (Option SequenceTree) Refusal
 judge_branch inner place (ByteString content) others = inner place content >>= λ s. Ok (Some s)
@@ -112,7 +112,7 @@ judge_step inner shared count place code argument =
     judge_code shared place code
     >>= λ c. judge_argument inner count c (place_after place code) argument
 
--- codes and arguments in turn, of which there are as many
+-- codes and arguments alternate, and there are as many of either
 abbrev pub judge_steps : InnerJudge → Bool → ℕ → ℕ → DataItems → Result SequenceTree Refusal
 judge_steps inner shared count place NoItems = Ok NoSteps
 judge_steps inner shared count place (ItemThen code NoItems) = Ok NoSteps
@@ -130,7 +130,7 @@ judge_array inner shared count place (ArrayOf items) =
     else Err (refused place Shape)
 judge_array inner shared count place _ = Err (refused place Shape)
 
--- ---- sequences in sequences, of so many levels
+-- ---- sequences in sequences, up to a number of levels
 
 unfoldable pub judge_inner : Bool → ℕ → ℕ → InnerJudge
 judge_inner shared count zero place content = Err (refused place Nested)
@@ -138,6 +138,6 @@ judge_inner shared count (suc levels) place content =
     whole_judged (judge_array (judge_inner shared count levels) shared count)
     (content_place place content) content
 
--- an item with so many levels inside it
+-- an item, with at most `levels` levels inside it
 abbrev pub judge_sequence : Bool → ℕ → ℕ → ℕ → DataItem → Result SequenceTree Refusal
 judge_sequence shared count levels = judge_array (judge_inner shared count levels) shared count

@@ -11,24 +11,25 @@ use Rattle.suit_commands.specs.SequenceMaking.{step_items, sequence_item, placed
 use Rattle.suit_commands.specs.SequenceFaults.{RefusesSequence}
 use Rattle.suit_commands.specs.Tree.{SequenceTree}
 
--- just one sequence is said, and nothing is refused
+-- the item says exactly one sequence, and has no refusal
 pub record HasOneSequence (shared : Bool) (count levels place : ℕ) (x : DataItem) : Type 0 where
   pub sequence : SequenceTree
   pub says : SaysSequence shared count levels place x sequence
   pub only : (s : SequenceTree) → SaysSequence shared count levels place x s → s ≡ sequence
   pub sound : (r : Refusal) → RefusesSequence shared count levels place x r → ⊥
 
--- there is just one refusal, and no sequence is said
+-- the item has exactly one refusal, and says no sequence
 pub record HasOneRefusal (shared : Bool) (count levels place : ℕ) (x : DataItem) : Type 0 where
   pub refusal : Refusal
   pub refuses : RefusesSequence shared count levels place x refusal
   pub only : (r : Refusal) → RefusesSequence shared count levels place x r → r ≡ refusal
   pub empty : (s : SequenceTree) → SaysSequence shared count levels place x s → ⊥
 
--- the laws: where at least one level is allowed, each item says one sequence or has one refusal, and never both, and so
--- all bytes do; what is said is a sequence of the grammar, which has at most eight levels, and may have eight; the item
--- that says it is the one that is made of it, its places are those of that item's spelling, and bytes that say it are
--- that spelling; and what is equal places apart is made into one item
+-- With at least one level allowed, each item says exactly one sequence or has exactly one refusal, and never
+-- both; so do any bytes. What is said is a sequence of the grammar, which has at most eight levels and may
+-- have eight. The item that says a sequence is the one made from it, the sequence's places are those in that
+-- item's spelling, and bytes that say it are that spelling. Sequences that differ only in their places are
+-- made into the same item.
 pub record SequenceLaws : Type 0 where
   pub one_reading : (shared : Bool) (count levels place : ℕ) (x : DataItem) → IsValid x
       → HasOneSequence shared count (suc levels) place x

@@ -1,4 +1,5 @@
--- The item that a sequence is written as, and where its codes then stand (draft-ietf-suit-manifest-25, section 8.4.6).
+-- The item that a sequence is written as, and the places of its codes (draft-ietf-suit-manifest-25, section
+-- 8.4.6).
 use Rattle.std.specs.Prelude.{ℕ, true}
 use Rattle.det_cbor.specs.DataItem.{DataItem, UnsignedInteger, ByteString, ArrayOf, Boolean, NullItem, DataItems, NoItems, ItemThen, spell}
 use Rattle.suit_params.specs.Refusing.{content_place}
@@ -22,7 +23,7 @@ selection_item (One component) = UnsignedInteger component
 selection_item All = Boolean true
 selection_item (Listed components) = ArrayOf (index_items components)
 
--- a code and an argument in turn. A sequence inside is an item of its own in a byte string.
+-- codes and arguments alternate; an inner sequence is an item of its own in a byte string
 abbrev mutual
   pub step_items : SequenceTree → DataItems
   step_items NoSteps = NoItems
@@ -44,6 +45,7 @@ abbrev mutual
       ItemThen (ByteString (spell (ArrayOf (step_items inner)))) (branch_items rest)
   branch_items (NullThen rest) = ItemThen NullItem (branch_items rest)
 
+-- the array that a sequence is written as
 abbrev pub sequence_item : SequenceTree → DataItem
 sequence_item s = ArrayOf (step_items s)
 
@@ -51,21 +53,21 @@ sequence_item s = ArrayOf (step_items s)
 abbrev pub inner_item : SequenceTree → DataItem
 inner_item inner = ByteString (spell (sequence_item inner))
 
--- ---- places, where the code, the byte string or the first element is spelled from a place on
+-- ---- places, for a code, a byte string or a first element at a given place
 
 abbrev pub argument_place : ℕ → CommandTree → ℕ
 argument_place place command = place_after place (UnsignedInteger (code_of command))
 
--- of the code after a command
+-- the place of the code after a command
 abbrev pub next_code : ℕ → CommandTree → ℕ
 next_code place command = place_after (argument_place place command) (argument_item command)
 
--- of the first code of a sequence inside
+-- the place of the first code of an inner sequence
 abbrev pub first_code : ℕ → SequenceTree → ℕ
 first_code place inner =
     elements_place (content_place place (spell (sequence_item inner))) (step_items inner)
 
--- the same tree with the places of its spelling, from its first code on
+-- the same tree with the places of its spelling, whose first code is at this place
 abbrev mutual
   pub placed : ℕ → SequenceTree → SequenceTree
   placed place NoSteps = NoSteps
@@ -73,7 +75,7 @@ abbrev mutual
       StepThen place (placed_command (argument_place place command) command)
       (placed (next_code place command) rest)
 
-  -- from its argument on
+  -- the same for a command, whose argument is at this place
   pub placed_command : ℕ → CommandTree → CommandTree
   placed_command place (Test kind report) = Test kind report
   placed_command place (Act kind report) = Act kind report
@@ -83,7 +85,7 @@ abbrev mutual
       TryEach (placed_branches (elements_place place (branch_items tries)) tries)
   placed_command place (RunSequence inner) = RunSequence (placed (first_code place inner) inner)
 
-  -- from the first of them on
+  -- the same for branches, the first of which is at this place
   pub placed_branches : ℕ → BranchesTree → BranchesTree
   placed_branches place NoBranches = NoBranches
   placed_branches place (BranchThen inner rest) =
@@ -92,7 +94,7 @@ abbrev mutual
   placed_branches place (NullThen rest) =
       NullThen (placed_branches (place_after place NullItem) rest)
 
--- the same tree without its places: each is 0
+-- the same tree with all places set to 0
 abbrev mutual
   pub unplaced : SequenceTree → SequenceTree
   unplaced NoSteps = NoSteps

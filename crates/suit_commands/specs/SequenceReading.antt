@@ -1,4 +1,4 @@
--- How a sequence of commands is read, of an item that was judged before.
+-- How a sequence of commands is read, from an item that was judged before.
 use Rattle.std.specs.Prelude.{ℕ, zero, suc, ◌/◌, ◌%◌, ◌==◌, nat_lt, if◌then◌else◌, Bool, List, [], ◌∷◌, Option, Some, None, Result, Ok, Err}
 use Rattle.det_cbor.specs.declared.head.HeadKind.{HeadKind}
 use Rattle.det_cbor.specs.declared.head.HeadKind.TheVariants as kinds
@@ -20,7 +20,7 @@ use Rattle.suit_commands.specs.CommandCodes.{numbered}
 use Rattle.suit_commands.specs.SequenceJudging.{known_code, branch_before}
 use Rattle.suit_commands.specs.Tree.{CommandTree, Test, Act, Index, Override, TryEach, RunSequence, SequenceTree, NoSteps, StepThen, BranchesTree, NoBranches}
 
--- how the content of a byte string at a place is read as a sequence
+-- reads the content of a byte string at a place as a sequence
 abbrev pub InnerReader : Type 0
 InnerReader = ℕ → Position → Result SequenceTree Refusal
 
@@ -42,12 +42,12 @@ abbrev pub element_after : ℕ → ℕ → ℕ → ℕ → Position → HeadKind
 element_after count list place n p kinds.Unsigned = judge_index count place n >>= λ i. Ok (i, p)
 element_after count list place n p _ = Err (refused list BadArgument)
 
--- an element of the list that stands at another place
+-- an element of the list whose place is `list`
 unfoldable pub element_from : ℕ → ℕ → Position → Result (ℕ × Position) Refusal
 element_from count list p =
     head_from p >>= λ h. element_after count list p.place h.0.value h.1 h.0.kind
 
--- so many elements
+-- the next n elements
 abbrev pub indices_from : ℕ → ℕ → ℕ → Position → Result (List ℕ × Position) Refusal
 indices_from count list zero p = Ok ([], p)
 indices_from count list (suc n) p =
@@ -65,7 +65,7 @@ selection_after count place n p _ = Err (refused place BadArgument)
 unfoldable pub selection_from : ℕ → Position → Result (Selection × Position) Refusal
 selection_from count p = head_from p >>= λ h. selection_after count p.place h.0.value h.1 h.0.kind
 
--- the head is looked at first, and then the whole item is read
+-- the head is checked first, and then the whole item is read
 unfoldable pub override_from : ℕ → Position → Result (List Param × Position) Refusal
 override_from count p = kind_from kinds.Map BadArgument p >>= λ n. next_params count p
 
@@ -90,7 +90,7 @@ unfoldable pub branch_from : InnerReader → Bool → Position
     → Result (Option SequenceTree × Position) Refusal
 branch_from inner last p = head_from p >>= λ h. branch_by inner last p.place h.0.value h.1 h.0.kind
 
--- so many branches
+-- the next n branches
 abbrev pub branches_from : InnerReader → ℕ → Position → Result (BranchesTree × Position) Refusal
 branches_from inner zero p = Ok (NoBranches, p)
 branches_from inner (suc n) p =
@@ -116,37 +116,37 @@ argument_from inner count codes.Run p = run_from inner p >>= λ v. Ok (RunSequen
 abbrev pub step_from : InnerReader → Bool → ℕ → Position → Result (CommandTree × Position) Refusal
 step_from inner shared count p = code_from shared p >>= λ c. argument_from inner count c.0 c.1
 
--- so many commands
+-- the next n commands
 abbrev pub steps_from : InnerReader → Bool → ℕ → ℕ → Position → Result SequenceTree Refusal
 steps_from inner shared count zero p = Ok NoSteps
 steps_from inner shared count (suc n) p =
     step_from inner shared count p >>= λ c. steps_from inner shared count n c.1
     >>= λ rest. Ok (StepThen p.place c.0 rest)
 
--- so many codes and arguments, where they are in pairs
+-- n codes and arguments, if they are in pairs
 abbrev pub paired_from : InnerReader → Bool → ℕ → ℕ → ℕ → Position → Result SequenceTree Refusal
 paired_from inner shared count place n p =
     if n == 0 then Err (refused place Shape)
     else if n % 2 == 0 then steps_from inner shared count (n / 2) p
     else Err (refused place Shape)
 
--- a whole item, as a sequence
+-- a whole item, read as a sequence
 unfoldable pub sequence_at : InnerReader → Bool → ℕ → Position → Result SequenceTree Refusal
 sequence_at inner shared count p =
     kind_from kinds.Array Shape p >>= λ n. paired_from inner shared count p.place n.0 n.1
 
--- ---- sequences in sequences, of so many levels
+-- ---- sequences in sequences, up to a number of levels
 
 unfoldable pub nested_from : Bool → ℕ → ℕ → InnerReader
 nested_from shared count zero place p = Err (refused place Nested)
 nested_from shared count (suc levels) place p =
     only_from p >>= sequence_at (nested_from shared count levels) shared count
 
--- where so many levels may stand inside, in the shared sequence or another one
+-- the reader of inner sequences in this scope
 abbrev pub inner_reader : Scope → InnerReader
 inner_reader scope = nested_from scope.shared scope.count scope.levels
 
--- bytes that are to hold one sequence, with so many levels inside it
+-- bytes that must hold one sequence, with at most `levels` levels inside it
 abbrev pub whole_sequence : Bool → ℕ → ℕ → Position → Result SequenceTree Refusal
 whole_sequence shared count levels p =
     only_from p >>= sequence_at (nested_from shared count levels) shared count

@@ -1,4 +1,4 @@
--- A sequence that is written is read as that sequence (draft-ietf-suit-manifest-25, section 8.4.6).
+-- A sequence that is written reads back as that sequence (draft-ietf-suit-manifest-25, section 8.4.6).
 use Rattle.std.specs.Prelude.{◌≡◌, ◌<◌, ◌^◌, ℕ, Bool, List, length}
 use Rattle.std.specs.List.{AllByRecursion}
 use Rattle.det_cbor.specs.DataItem.{item_count, spell, IsString}
@@ -11,8 +11,8 @@ use Rattle.suit_commands.specs.Sequences.{SaysSequence, elements_place}
 use Rattle.suit_commands.specs.SequenceMaking.{step_items, branch_items, sequence_item, placed, unplaced}
 use Rattle.suit_commands.specs.Tree.{CommandTree, Test, Act, Index, Override, TryEach, RunSequence, SequenceTree, NoSteps, StepThen, BranchesTree, NoBranches, BranchThen, NullThen}
 
--- ---- the bounds of a tree by the types of the code: counts and lengths are below 2 ^ 64, and parameters have the
--- lengths of their types
+-- ---- the bounds that the types of the code set a tree: counts and lengths are below 2 ^ 64, and parameters
+-- have the lengths of their types
 
 abbrev pub IsU64 : ℕ → Type 0
 IsU64 n = n < 2 ^ 64
@@ -45,16 +45,16 @@ abbrev mutual
       × BranchesFit rest
   BranchesFit (NullThen rest) = BranchesFit rest
 
--- the array's count and what it holds
+-- the bounds of the array's count and of its elements
 abbrev pub SequenceFits : SequenceTree → Type 0
 SequenceFits s = IsU64 (item_count (step_items s)) × StepsFit s
 
--- of a sequence in a byte string
+-- the bounds of a sequence in a byte string
 abbrev pub InnerFits : SequenceTree → Type 0
 InnerFits s = IsString (spell (sequence_item s)) × SequenceFits s
 
--- ---- wherever the bytes stand, they say the tree with the places that it has there, where the grammar allows it.
--- Places apart it is the same tree.
+-- Wherever they are placed, the bytes say the tree with the places that it has there, if the grammar allows it.
+-- Apart from its places it is the same tree.
 pub record IsWrittenSequence (s : SequenceTree) (bytes : List ℕ) : Type 0 where
   pub says : (shared : Bool) (count place : ℕ) → IsSequence shared count levels_allowed s
       → SaysWhole (SaysSequence shared count levels_allowed) place bytes

@@ -12,11 +12,13 @@ use Rattle.suit_commands.specs.declared.selection.Selection.TheVariants.{One, Al
 use Rattle.suit_commands.specs.Kinds.{test_code, act_code}
 use Rattle.suit_commands.specs.Tree.{CommandTree, Test, Act, Index, Override, TryEach, RunSequence, SequenceTree, NoSteps, StepThen, BranchesTree, NoBranches, BranchThen, NullThen}
 
--- ---- places, where an array, a code or an element is spelled from a place on
+-- ---- places, for an array, a code or an element at a given place
 
+-- the place of an array's first element
 abbrev pub elements_place : ℕ → DataItems → ℕ
 elements_place place items = place + length (head_bytes 4 (item_count items))
 
+-- the place after an item
 abbrev pub place_after : ℕ → DataItem → ℕ
 place_after place item = place + length (spell item)
 
@@ -25,16 +27,17 @@ abbrev pub index_items : List ℕ → DataItems
 index_items [] = NoItems
 index_items (i ∷ is) = ItemThen (UnsignedInteger i) (index_items is)
 
--- Commands are listed for a number of components, and for the shared sequence or another one. Directives that act on
--- contents do not stand in the shared sequence, or in a sequence inside it. So many levels of sequences may stand in
--- one another; a sequence takes one. Places are those of sequences, of elements, of arguments and of branches.
+-- An item says a sequence, for a number of components, in the shared sequence or not. Directives that act on
+-- contents are not allowed in the shared sequence, nor in a sequence inside it. Only a given number of levels
+-- of sequences may nest; each sequence takes one. The places are those of the sequences, elements, arguments
+-- and branches.
 mutual
   pub data SaysSequence (shared : Bool) (count : ℕ) : ℕ → ℕ → DataItem → SequenceTree → Type 0 where
     SaysArray : (levels place : ℕ) (items : DataItems) (s : SequenceTree) → items ≢ NoItems
         → SaysSteps shared count levels (elements_place place items) items s
         → SaysSequence shared count (suc levels) place (ArrayOf items) s
 
-  -- a code and an argument in turn
+  -- codes and arguments alternate
   pub data SaysSteps (shared : Bool) (count : ℕ) : ℕ → ℕ → DataItems → SequenceTree → Type 0 where
     SaysNoSteps : (levels place : ℕ) → SaysSteps shared count levels place NoItems NoSteps
     SaysStep :
@@ -48,6 +51,7 @@ mutual
         (ItemThen (UnsignedInteger code) (ItemThen argument others))
         (StepThen place command rest)
 
+  -- a code and its argument say a command
   pub data SaysCommand (shared : Bool) (count : ℕ)
       : ℕ → ℕ → ℕ → DataItem → CommandTree → Type 0 where
     SaysTest : (levels place : ℕ) (kind : TestKind) (report : ℕ) → report ≤ 15
@@ -72,7 +76,7 @@ mutual
         → SaysInner shared count levels place content s
         → SaysCommand shared count levels place 32 (ByteString content) (RunSequence s)
 
-  -- the last branch may be null
+  -- only the last branch may be null
   pub data SaysBranches (shared : Bool) (count : ℕ)
       : ℕ → ℕ → DataItems → BranchesTree → Type 0 where
     SaysNoBranches : (levels place : ℕ) → SaysBranches shared count levels place NoItems NoBranches
@@ -86,7 +90,7 @@ mutual
         → SaysBranches shared count levels place (ItemThen (ByteString content) others)
         (BranchThen s rest)
 
-  -- a byte string with this content holds a sequence
+  -- the content of a byte string spells a sequence
   pub data SaysInner (shared : Bool) (count : ℕ) : ℕ → ℕ → List ℕ → SequenceTree → Type 0 where
     SaysHeldSequence : (levels place : ℕ) (content : List ℕ) (x : DataItem) (s : SequenceTree)
         → Spells x content

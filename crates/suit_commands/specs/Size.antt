@@ -1,4 +1,4 @@
--- How large a tree is: more than each part of it.
+-- The size of a tree, which is greater than that of each part.
 use Rattle.std.specs.Prelude.{ℕ, ◌+◌}
 use Rattle.suit_commands.specs.Tree.{CommandTree, Test, Act, Index, Override, TryEach, RunSequence, SequenceTree, NoSteps, StepThen, BranchesTree, NoBranches, BranchThen, NullThen}
 

@@ -1,4 +1,4 @@
--- All parts of a sequence or a try each are smaller than it.
+-- The parts of a sequence or a try each are smaller than the whole.
 use Rattle.std.proofs.Common.{◌≡◌, ℕ, zero, suc, ◌+◌, ◌≤◌, ◌<◌, max, List, [], ◌∷◌, length, get_or, Option, Some, None, arith, ap, sym, ◌∙◌}
 use denote.Param.Weighed.{most, at_most}
 use Rattle.suit_commands.specs.Tree.{SequenceTree, BranchesTree}

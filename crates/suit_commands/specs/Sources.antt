@@ -1,4 +1,4 @@
--- The sources that a sequence names, as bits beside those that are there.
+-- The bits, with those of the sources that a sequence names set too.
 use Rattle.std.specs.Prelude.{ℕ, ◌^◌, List, [], ◌∷◌, bit_or}
 use Rattle.suit_params.specs.declared.param.Param.{Param}
 use Rattle.suit_params.specs.declared.param.Param.TheVariants as params

@@ -1,4 +1,4 @@
--- Which components a procedure may write (this project's own choice of slots rests on it).
+-- Which components a procedure may write. This project's choice of slots relies on it.
 use Rattle.std.specs.Prelude.{◌≡◌, ◌⊎◌, ℕ, List, [], ◌∷◌}
 use Rattle.suit_params.specs.declared.param.Param.{Param}
 use Rattle.suit_params.specs.declared.param.Param.TheVariants as params
@@ -7,6 +7,7 @@ use Rattle.suit_commands.specs.declared.kinds.ActKind.TheVariants as acts
 use Rattle.suit_commands.specs.Tree.{CommandTree, Test, Act, Index, Override, TryEach, RunSequence, SequenceTree, NoSteps, StepThen, BranchesTree, NoBranches, BranchThen, NullThen, PlanTree}
 use Rattle.suit_commands.specs.Selections.{Among, selected_after}
 
+-- the directives that write the content of a selected component
 abbrev pub IsWriting : ActKind → Type 0
 IsWriting acts.Write = Unit {0}
 IsWriting acts.Fetch = Unit {0}
@@ -14,8 +15,8 @@ IsWriting acts.Copy = Unit {0}
 IsWriting acts.Swap = Unit {0}
 IsWriting acts.Invoke = ⊥
 
--- ---- components that are selected at a write, a fetch, a copy or a swap. A sequence inside is taken once for each
--- component that is selected at its command.
+-- ---- components selected at a write, a fetch, a copy or a swap; an inner sequence counts once for each
+-- component selected at its command
 
 abbrev mutual
   pub Writes : SequenceTree → ℕ → List ℕ → ℕ → Type 0
@@ -43,6 +44,7 @@ abbrev mutual
 
 -- ---- swaps, and the sources that overrides name
 
+-- a parameter of the list names the component as a source
 abbrev pub NamesSource : List Param → ℕ → Type 0
 NamesSource [] component = ⊥
 NamesSource (params.Source source ∷ list) component =
@@ -87,12 +89,14 @@ abbrev mutual
       Sources inner component ⊎ BranchesSource rest component
   BranchesSource (NullThen rest) component = BranchesSource rest component
 
--- ---- of a procedure. Each sequence begins with component 0 selected.
+-- ---- procedures; each sequence begins with component 0 selected
 
--- some sequence of the plan has it
+-- this holds of some sequence of the procedure
 abbrev pub InSome : PlanTree → (SequenceTree → Type 0) → Type 0
 InSome plan has = has plan.shared ⊎ has plan.first ⊎ has plan.second ⊎ has plan.third
 
+-- the procedure may write the component: at one of those directives, or, if it has a swap at all, as a source
+-- that an override names
 abbrev pub IsTarget : PlanTree → ℕ → Type 0
 IsTarget plan component =
     InSome plan (λ s. Writes s plan.count (0 ∷ []) component)

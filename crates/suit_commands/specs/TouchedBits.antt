@@ -1,14 +1,14 @@
--- The components that a sequence touches, as bits beside those that are there.
+-- The bits, with those of the components that a sequence touches set too.
 use Rattle.std.specs.Prelude.{ℕ, bit_or}
 use Rattle.suit_commands.specs.Tree.{CommandTree, Test, Act, Index, Override, TryEach, RunSequence, SequenceTree, NoSteps, StepThen, BranchesTree, NoBranches, BranchThen, NullThen}
 use Rattle.suit_commands.specs.Bits.{selection_bits}
 
--- which are selected after a command
+-- the components selected after a command, as bits
 abbrev pub bits_after : CommandTree → ℕ → ℕ → ℕ
 bits_after (Index selection) count selected = selection_bits selection count
 bits_after _ count selected = selected
 
--- a sequence inside begins with none: what is selected there is touched by its command already
+-- an inner sequence begins with none selected, since its command touches those already
 abbrev mutual
   pub touched_of : SequenceTree → ℕ → ℕ → ℕ → ℕ
   touched_of NoSteps count selected total = total

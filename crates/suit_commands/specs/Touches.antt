@@ -1,4 +1,4 @@
--- Which components a procedure touches, and which directives stand in it (this project's own choices).
+-- Which components a procedure touches, and which directives it has (this project's own choices).
 use Rattle.std.specs.Prelude.{◌≡◌, ◌<◌, ◌⊎◌, ℕ, List, [], ◌∷◌}
 use Rattle.suit_commands.specs.declared.kinds.ActKind.{ActKind}
 use Rattle.suit_commands.specs.Tree.{CommandTree, Test, Act, Index, Override, TryEach, RunSequence, SequenceTree, NoSteps, StepThen, BranchesTree, NoBranches, BranchThen, NullThen, PlanTree}
@@ -6,8 +6,8 @@ use Rattle.suit_commands.specs.Allowed.{IsPlan}
 use Rattle.suit_commands.specs.Selections.{Among, selected_after}
 use Rattle.suit_commands.specs.Targets.{Sources, InSome, IsTarget}
 
--- ---- components that are selected at some command but a set component index. A sequence inside is taken once for each
--- component that is selected at its command.
+-- ---- components selected at a command other than a set component index; an inner sequence counts once for
+-- each component selected at its command
 
 abbrev mutual
   pub Touches : SequenceTree → ℕ → List ℕ → ℕ → Type 0
@@ -34,7 +34,7 @@ abbrev mutual
       Touches inner count (outer ∷ []) component ⊎ BranchesTouch rest count outer component
   BranchesTouch (NullThen rest) count outer component = BranchesTouch rest count outer component
 
--- each sequence begins with component 0 selected; and the sources that overrides name
+-- each sequence begins with component 0 selected; the sources that overrides name count too
 abbrev pub IsTouched : PlanTree → ℕ → Type 0
 IsTouched plan component =
     InSome plan (λ s. Touches s plan.count (0 ∷ []) component)
@@ -61,7 +61,8 @@ abbrev mutual
       HasAct wanted inner ⊎ BranchesHaveAct wanted rest
   BranchesHaveAct wanted (NullThen rest) = BranchesHaveAct wanted rest
 
--- ---- laws of procedures: what one of the grammar touches is a component of the manifest, and each target is touched
+-- ---- laws of procedures: what a procedure of the grammar touches is a component of the manifest, and each
+-- target is touched
 
 pub record TouchedLaws : Type 0 where
   pub inside : (plan : PlanTree) → IsPlan plan → (component : ℕ) → IsTouched plan component

@@ -6,7 +6,7 @@ use Rattle.suit_commands.specs.declared.kinds.ActKind.{ActKind}
 use Rattle.suit_commands.specs.declared.selection.Selection.{Selection}
 
 mutual
-  -- a condition and a directive that acts have a reporting policy
+  -- a command; a condition, or a directive that acts on contents, has a reporting policy
   pub data CommandTree : Type 0 where
     Test : (kind : TestKind) (report : ℕ) → CommandTree
     Act : (kind : ActKind) (report : ℕ) → CommandTree
@@ -15,7 +15,7 @@ mutual
     TryEach : (branches : BranchesTree) → CommandTree
     RunSequence : (inner : SequenceTree) → CommandTree
 
-  -- steps in order, each with the place of its command's code in the envelope
+  -- the steps in order, each with the place of its command's code in the envelope
   pub data SequenceTree : Type 0 where
     NoSteps : SequenceTree
     StepThen : (place : ℕ) (command : CommandTree) (rest : SequenceTree) → SequenceTree
@@ -26,8 +26,8 @@ mutual
     NullThen : (rest : BranchesTree) → BranchesTree
     BranchThen : (inner : SequenceTree) (rest : BranchesTree) → BranchesTree
 
--- a procedure: the shared sequence, its three members, and the number of components. An absent sequence is an
--- empty one.
+-- A procedure: the shared sequence, its three members, and the number of components. An absent sequence
+-- counts as empty.
 pub record PlanTree : Type 0 where
   pub shared : SequenceTree
   pub first : SequenceTree

@@ -1,4 +1,4 @@
--- Sequences as trees: of the lists that hold them.
+-- The sequences of the code as trees.
 use Rattle.std.specs.Prelude.{ℕ, List, [], ◌∷◌, Option, Some, None}
 use Rattle.suit_commands.specs.Tree.{CommandTree, Test, Act, Index, Override, TryEach, RunSequence, SequenceTree, NoSteps, StepThen, BranchesTree, NoBranches, BranchThen, NullThen}
 use Rattle.suit_commands.specs.declared.command.Command.{Command}

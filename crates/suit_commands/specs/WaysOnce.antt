@@ -1,4 +1,4 @@
--- Ways of parts: one after another, one in place of another, and one so many times.
+-- The ways of parts: one after another, one in place of another, and one repeated.
 use Rattle.std.specs.Prelude.{ℕ, zero, suc, ◌+◌, ◌*◌}
 use Rattle.suit_commands.specs.declared.ways.Ways as kept
 use Rattle.suit_commands.specs.Tree.{CommandTree, Test, Act, Index, Override, TryEach, RunSequence, BranchesTree}
@@ -11,11 +11,11 @@ counted ways = record { on = ways.on; off = ways.off }
 abbrev pub capped_ways : Ways → Ways
 capped_ways ways = record { on = capped ways.on; off = capped ways.off }
 
--- a part and then the next
+-- a part followed by the next
 abbrev pub ways_then : Ways → Ways → Ways
 ways_then ways next = record { on = ways.on * next.on; off = ways.off + ways.on * next.off }
 
--- a part, and the next where it ends by a condition
+-- a part, with the next in its place if a condition ends it
 abbrev pub ways_else : Ways → Ways → Ways
 ways_else ways next = record { on = ways.on + ways.off * next.on; off = ways.off * next.off }
 
@@ -30,11 +30,11 @@ abbrev pub tried_ways : BranchesTree → ℕ → Ways
 tried_ways branches count =
     record { on = branches_done branches count; off = branches_failed branches count }
 
--- a sequence inside, after which the next command may follow also where it ended by a condition
+-- an inner sequence; if a condition ends it, the next command may still follow
 abbrev pub inner_ways : Ways → Ways
 inner_ways ways = record { on = ways.on + ways.off; off = ways.off }
 
--- a command for one of the components that are selected
+-- a command, for one of the selected components
 abbrev pub once_ways : CommandTree → ℕ → Ways
 once_ways (Test kind report) count = record { on = 1; off = 1 }
 once_ways (Act kind report) count = start_ways

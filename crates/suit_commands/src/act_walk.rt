@@ -1,4 +1,4 @@
-//! Whether a directive of some kind stands in a sequence.
+//! Whether a sequence has a directive of some kind.
 
 ghost use Rattle.std.specs.Prelude.{◌↔◌, IsTrue};
 ghost use Rattle.suit_commands.specs.Touches.{HasAct, CommandHasAct, BranchesHaveAct};
@@ -6,7 +6,7 @@ ghost use Rattle.suit_commands.specs.View.{command_tree};
 
 use crate::{ActKind, Branches, Command, Sequence};
 
-/// Whether a directive of this kind stands in the sequence, or in one inside it.
+/// Whether the sequence, or one inside it, has a directive of this kind.
 #[cycle(act)]
 pub(crate) fn has_act(sequence: &Sequence, wanted: ActKind) -> bool
     ensures { IsTrue result ↔ HasAct wanted sequence.now }

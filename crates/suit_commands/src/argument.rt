@@ -1,4 +1,4 @@
-//! Arguments of commands that hold no sequence, read from items judged before.
+//! Reading the arguments of commands that hold no sequence, from items that were judged before.
 
 ghost use Rattle.std.specs.Prelude.{◌≡◌};
 ghost use Rattle.det_cbor.specs.HeadReading.{map_ok};
@@ -16,7 +16,8 @@ use suit_params::{
     refused, same_place,
 };
 
-/// Reads a reporting policy (draft-ietf-suit-manifest-25, section 8.4.7), of an item that was judged before.
+/// Reads a reporting policy (draft-ietf-suit-manifest-25, section 8.4.7), from an item that was
+/// judged before.
 #[tactic(auto, unfolding(crate::specs::SequenceReading::report_from))]
 pub fn read_report(cursor: &mut Cursor<'_>) -> Result<u8, Refusal>
     ensures { map_ok (λ n. (n, cursor.new)) result ≡ report_from cursor.old }
@@ -30,7 +31,8 @@ pub fn read_report(cursor: &mut Cursor<'_>) -> Result<u8, Refusal>
     }
 }
 
-/// Reads an element of the list of indices at another place, for so many components.
+/// Reads an element of a list of component indices, which must be below `count`. `list` is the
+/// place of the list.
 #[tactic(auto, unfolding(crate::specs::SequenceReading::element_from))]
 pub fn read_element(cursor: &mut Cursor<'_>, list: u64, count: u32) -> Result<u32, Refusal>
     ensures { map_ok (λ i. (i, cursor.new)) result ≡ element_from count list cursor.old }
@@ -43,7 +45,7 @@ pub fn read_element(cursor: &mut Cursor<'_>, list: u64, count: u32) -> Result<u3
     }
 }
 
-// Reads so many elements of the list at a place.
+// Reads `elements` elements of the list whose place is `list`.
 fn read_indices(
     cursor: &mut Cursor<'_>,
     list: u64,
@@ -61,7 +63,7 @@ fn read_indices(
     Ok(indices)
 }
 
-/// Reads the selection of a set component index, for so many components.
+/// Reads the argument of a set component index.
 #[tactic(auto, unfolding(crate::specs::SequenceReading::selection_from))]
 pub(crate) fn read_selection(cursor: &mut Cursor<'_>, scope: Scope) -> Result<Selection, Fault>
     ensures { Gives (λ s. (s, cursor.new)) result (selection_from scope.count cursor.old) }
@@ -89,7 +91,7 @@ pub(crate) fn read_selection(cursor: &mut Cursor<'_>, scope: Scope) -> Result<Se
     }
 }
 
-// Reads the next item, which is a map.
+// Reads the next item, which is a map, as parameters.
 fn read_map(alloc: Global, cursor: &mut Cursor<'_>, count: u32) -> Result<ParamList, Fault>
     ensures { Gives (λ list. (list, cursor.new)) result (next_params count cursor.old) }
 {
@@ -97,7 +99,7 @@ fn read_map(alloc: Global, cursor: &mut Cursor<'_>, count: u32) -> Result<ParamL
     params_of(alloc, item, count)
 }
 
-/// Reads the parameters of an override, for so many components.
+/// Reads the parameters of an override.
 #[tactic(auto, unfolding(crate::specs::SequenceReading::override_from))]
 pub(crate) fn read_override(cursor: &mut Cursor<'_>, scope: Scope) -> Result<ParamList, Fault>
     ensures { Gives (λ list. (list, cursor.new)) result (override_from scope.count cursor.old) }

@@ -3,7 +3,7 @@
 ghost use Rattle.std.specs.Prelude.{◌≡◌, ◌+◌, ◌*◌};
 ghost use Rattle.suit_commands.specs.Capped.{capped};
 
-/// A saturating sum.
+/// Adds, saturating at 64 bits.
 #[tactic(auto, unfolding(crate::specs::Capped::capped))]
 pub(crate) fn plus(left: u64, right: u64) -> u64
     ensures { result ≡ capped (left + right) }
@@ -11,7 +11,7 @@ pub(crate) fn plus(left: u64, right: u64) -> u64
     left.saturating_add(right)
 }
 
-/// A saturating product.
+/// Multiplies, saturating at 64 bits.
 #[tactic(auto, unfolding(crate::specs::Capped::capped))]
 pub(crate) fn product(left: u64, right: u64) -> u64
     ensures { result ≡ capped (left * right) }

@@ -9,7 +9,7 @@ use std::alloc::{AllocError, Global};
 use std::marker::Model;
 use suit_params::ParamList;
 
-/// A command, and the place of its code in bytes from the envelope's first.
+/// A command, and the place of its code in bytes from the start of the envelope.
 #[cycle(tree)]
 #[derive(Debug, Drop)]
 pub struct Step {
@@ -21,27 +21,27 @@ pub struct Step {
 #[cycle(tree)]
 #[derive(Debug, Drop)]
 pub enum Command {
-    /// A condition, and its reporting policy.
+    /// A condition and its reporting policy.
     Test { kind: TestKind, report: u8 },
     /// A directive that acts on contents, and its reporting policy.
     Act { kind: ActKind, report: u8 },
-    /// Set component index.
+    /// Sets the component index.
     Index(Selection),
-    /// Override parameters.
+    /// Overrides parameters.
     Override(ParamList),
     TryEach(Branches),
-    /// Run sequence.
+    /// Runs a sequence.
     Run(Sequence),
 }
 
-/// Commands in their order.
+/// A sequence of commands.
 #[cycle(tree)]
 #[derive(Debug, Drop)]
 pub struct Sequence {
     pub(crate) held: Vec<Step>,
 }
 
-/// The sequences of a try each in their order. `None` stands for null, which does nothing.
+/// The sequences of a try each, in their order. `None` stands for null, which does nothing.
 #[cycle(tree)]
 #[derive(Debug, Drop)]
 pub struct Branches {
@@ -93,7 +93,7 @@ impl Model for Branches {
 }
 
 impl Sequence {
-    /// A sequence of no commands, which grows by this allocator. Takes no memory.
+    /// An empty sequence; allocates nothing until it grows.
     pub fn new(alloc: Global) -> Sequence
         ensures { result ≡ NoSteps }
     {
@@ -102,7 +102,7 @@ impl Sequence {
         }
     }
 
-    /// A sequence of no commands with room for so many.
+    /// An empty sequence with room for `steps` commands.
     pub fn with_room(alloc: Global, steps: usize) -> Result<Sequence, AllocError>
         ensures { IfOk result (λ sequence. sequence ≡ NoSteps) }
     {
@@ -111,21 +111,21 @@ impl Sequence {
         })
     }
 
-    /// The list that a vector holds. Takes no memory and copies nothing.
+    /// Wraps a vector. Allocates and copies nothing.
     pub fn from_vec(steps: Vec<Step>) -> Sequence
         ensures { result ≡ sequence_tree steps.items }
     {
         Sequence { held: steps }
     }
 
-    /// The vector that the list was made of. Takes no memory and copies nothing.
+    /// Unwraps the vector. Allocates and copies nothing.
     pub fn into_vec(self) -> Vec<Step>
         ensures { sequence_tree result.items ≡ self }
     {
         self.held
     }
 
-    /// Adds a command at the end. A command for which there is no memory is dropped.
+    /// Appends a command. If memory runs out, the command is dropped.
     #[tactic(auto, using(crate::proofs::Pushing::step_pushed))]
     pub fn push(&mut self, step: Step) -> Result<(), AllocError>
         ensures ok { OnOk result
@@ -135,7 +135,7 @@ impl Sequence {
         Ok(self.held.push(step)?)
     }
 
-    /// The commands, lent.
+    /// Borrows the commands.
     pub fn as_slice(&self) -> &[Step]
         ensures { sequence_tree result.now ≡ self.now }
     {
@@ -144,7 +144,7 @@ impl Sequence {
 }
 
 impl Branches {
-    /// No sequences. The list grows by this allocator. Takes no memory.
+    /// An empty list; allocates nothing until it grows.
     pub fn new(alloc: Global) -> Branches
         ensures { result ≡ NoBranches }
     {
@@ -153,7 +153,7 @@ impl Branches {
         }
     }
 
-    /// No sequences, with room for so many.
+    /// An empty list with room for `branches` sequences.
     pub fn with_room(alloc: Global, branches: usize) -> Result<Branches, AllocError>
         ensures { IfOk result (λ list. list ≡ NoBranches) }
     {
@@ -162,21 +162,21 @@ impl Branches {
         })
     }
 
-    /// The list that a vector holds. Takes no memory and copies nothing.
+    /// Wraps a vector. Allocates and copies nothing.
     pub fn from_vec(branches: Vec<Option<Sequence>>) -> Branches
         ensures { result ≡ branches_tree branches.items }
     {
         Branches { held: branches }
     }
 
-    /// The vector that the list was made of. Takes no memory and copies nothing.
+    /// Unwraps the vector. Allocates and copies nothing.
     pub fn into_vec(self) -> Vec<Option<Sequence>>
         ensures { branches_tree result.items ≡ self }
     {
         self.held
     }
 
-    /// Adds a sequence at the end. A sequence for which there is no memory is dropped.
+    /// Appends a sequence. If memory runs out, the sequence is dropped.
     #[tactic(auto, using(crate::proofs::Pushing::branch_pushed))]
     pub fn push(&mut self, branch: Option<Sequence>) -> Result<(), AllocError>
         ensures ok { OnOk result (self.new ≡ branch_after self.old branch) }
@@ -185,7 +185,7 @@ impl Branches {
         Ok(self.held.push(branch)?)
     }
 
-    /// The sequences, lent.
+    /// Borrows the sequences.
     pub fn as_slice(&self) -> &[Option<Sequence>]
         ensures { branches_tree result.now ≡ self.now }
     {

@@ -1,4 +1,4 @@
-//! Codes of commands in a command sequence.
+//! The codes of commands.
 
 ghost use Rattle.std.specs.Prelude.{◌≡◌};
 ghost use Rattle.det_cbor.specs.HeadReading.{map_ok};
@@ -10,7 +10,7 @@ use crate::{ActKind, TestKind};
 use det_cbor::{Cursor, HeadKind};
 use suit_params::{Refusal, Why, read_kind, refused};
 
-/// Which command a code stands for (draft-ietf-suit-manifest-25, sections 8.4.9 and 8.4.10).
+/// The command that a code stands for (draft-ietf-suit-manifest-25, sections 8.4.9 and 8.4.10).
 #[derive(Clone, Copy, Debug, PartialEq, Eq)]
 pub enum CommandCode {
     Test(TestKind),
@@ -21,7 +21,7 @@ pub enum CommandCode {
     Run,
 }
 
-// The command that has a number.
+// The command with this number.
 fn numbered(number: u64) -> Option<CommandCode>
     ensures { result ≡ numbered number }
 {
@@ -46,8 +46,8 @@ fn numbered(number: u64) -> Option<CommandCode>
     }
 }
 
-// The command with this number, which stands at a place. A directive that acts on contents may not
-// be in the shared sequence.
+// The command with this number, whose place is `place`. A directive that acts on contents is
+// refused in the shared sequence.
 fn known_code(place: u64, shared: bool, number: u64) -> Result<CommandCode, Refusal>
     ensures { result ≡ known_code place shared (numbered number) }
 {
@@ -58,7 +58,7 @@ fn known_code(place: u64, shared: bool, number: u64) -> Result<CommandCode, Refu
     }
 }
 
-/// Reads the code of a command, in the shared sequence or another one.
+/// Reads the code of a command. `shared` says whether the command is in the shared sequence.
 #[tactic(auto, unfolding(crate::specs::SequenceReading::code_from))]
 pub fn read_code(cursor: &mut Cursor<'_>, shared: bool) -> Result<CommandCode, Refusal>
     ensures { map_ok (λ code. (code, cursor.new)) result ≡ code_from shared cursor.old }

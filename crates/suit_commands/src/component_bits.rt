@@ -1,6 +1,7 @@
 //! Sets of components.
 
-/// Components of a manifest: the bit with a component's index is set where it is one of them, and no other bit is.
+/// A set of a manifest's components, each of which has its bit set at its index. No other bit is
+/// set.
 #[derive(Clone, Copy, Debug, PartialEq, Eq)]
 pub struct Targets {
     pub bits: u32,

@@ -17,10 +17,10 @@ use det_cbor::Cursor;
 use std::alloc::Global;
 use suit_params::{Fault, only_item};
 
-/// How many levels of sequences a member or the shared sequence may have, itself included.
+/// How many levels of sequences a member or the shared sequence may have, counting itself.
 pub const MAX_LEVELS: u8 = 8;
 
-// Reads the one item that is to be a sequence.
+// Reads the one item that the bytes must hold as a sequence.
 fn whole_sequence(bytes: &[u8], place: u64, scope: Scope) -> Result<Sequence, Fault>
     requires { place + length bytes.now < 2 ^ 64 }
     ensures { Gives (λ s. s) result
@@ -31,13 +31,13 @@ fn whole_sequence(bytes: &[u8], place: u64, scope: Scope) -> Result<Sequence, Fa
     read_array(item, scope)
 }
 
-/// Decodes the sequence of commands that the bytes spell (draft-ietf-suit-manifest-25, section
-/// 8.4.6), for so many components. The bytes start at this place in the envelope, from which the
-/// places of commands and refusals count.
+/// Decodes a sequence of commands (draft-ietf-suit-manifest-25, section 8.4.6). Component indices
+/// must be below `count`. `place` is where the bytes begin in the envelope; the places of commands
+/// and refusals are counted from the envelope's start.
 ///
-/// The bytes are judged as one item first, and so is each byte string that holds a sequence when it
-/// is entered. Directives that act on contents are refused in the shared sequence, and in the
-/// sequences inside it. Sequences nest at most eight levels deep. Allocates only for the tree.
+/// The bytes are judged as one CBOR item first, and so is each byte string that holds a sequence
+/// when it is entered. Directives that act on contents are refused in the shared sequence and in
+/// the sequences inside it. Sequences nest at most eight levels deep. Allocates only for the tree.
 pub fn decode_sequence(
     alloc: Global,
     bytes: &[u8],

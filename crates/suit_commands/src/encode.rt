@@ -13,11 +13,12 @@ use det_cbor::{Bytes, push_count, push_null, push_number, push_string};
 use std::alloc::{AllocError, Global};
 use suit_params::write_params;
 
-/// Encodes a sequence's array in its one spelling (draft-ietf-suit-manifest-25, section 8.4.6). Each sequence inside is
-/// written to bytes of its own, which stand in a byte string.
+/// Encodes a sequence's array in its one spelling (draft-ietf-suit-manifest-25, section 8.4.6).
+/// Each inner sequence is encoded on its own and put into a byte string.
 ///
-/// Any tree is written, even one that the grammar refuses: an empty one, or a null before a branch. The places of the
-/// steps are ignored. The call recurses as deep as the sequences nest.
+/// Any tree is written, even one that the grammar refuses, such as an empty sequence or a null
+/// before another branch. The places of the steps are ignored. Recurses as deep as the sequences
+/// nest.
 pub fn encode_sequence(alloc: Global, sequence: &Sequence) -> Result<Bytes, AllocError>
     ensures spelling { IfOk result (λ bytes. bytes ≡ spell (sequence_item sequence.now)) }
     ensures written { IfOk result (IsWrittenSequence sequence.now) }
@@ -80,7 +81,7 @@ fn push_argument(alloc: Global, out: &mut Bytes, command: &Command) -> Result<()
     }
 }
 
-// Adds a sequence in a byte string.
+// Appends a byte string that holds a sequence.
 #[cycle(push)]
 fn push_inner(alloc: Global, out: &mut Bytes, inner: &Sequence) -> Result<(), AllocError>
     ensures ok { OnOk result (out.new ≡ out.old ++ spell (inner_item inner.now)) }

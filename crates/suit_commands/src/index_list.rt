@@ -2,5 +2,5 @@
 
 use det_cbor::List;
 
-/// Indices of components, in the order in which they are selected.
+/// Component indices, in the order in which they are selected.
 pub type IndexList = List<u32>;

@@ -1,4 +1,4 @@
-//! Sequences of commands, and the sequences in them, judged without being kept.
+//! Judging sequences of commands, and the sequences inside them, without keeping them.
 
 ghost use Rattle.std.specs.Prelude.{◌≡◌, ◌+◌, ◌<◌, ◌^◌, length};
 ghost use Rattle.det_cbor.specs.HeadReading.{map_ok};
@@ -17,7 +17,7 @@ use suit_params::{
     read_kind, refused, same_place,
 };
 
-// So many elements of the list at a place.
+// Judges `elements` elements of the list whose place is `list`.
 fn judge_indices(
     cursor: &mut Cursor<'_>,
     list: u64,
@@ -33,7 +33,7 @@ fn judge_indices(
     Ok(())
 }
 
-// The selection of a set component index.
+// Judges the argument of a set component index.
 #[tactic(auto, unfolding(crate::specs::SequenceReading::selection_from))]
 fn judge_selection(cursor: &mut Cursor<'_>, count: u32) -> Result<(), Refusal>
     ensures { map_ok (λ _. cursor.new) result ≡ behind (selection_from count cursor.old) }
@@ -63,7 +63,7 @@ fn judge_selection(cursor: &mut Cursor<'_>, count: u32) -> Result<(), Refusal>
     }
 }
 
-// The next item, which is a map.
+// Judges the next item, which is a map, as parameters.
 fn judge_map(cursor: &mut Cursor<'_>, count: u32) -> Result<(), Refusal>
     ensures { map_ok (λ _. cursor.new) result ≡ behind (next_params count cursor.old) }
 {
@@ -71,7 +71,7 @@ fn judge_map(cursor: &mut Cursor<'_>, count: u32) -> Result<(), Refusal>
     judge_params(item, count)
 }
 
-// The parameters of an override.
+// Judges the parameters of an override.
 #[tactic(auto, unfolding(crate::specs::SequenceReading::override_from))]
 fn judge_override(cursor: &mut Cursor<'_>, count: u32) -> Result<(), Refusal>
     ensures { map_ok (λ _. cursor.new) result ≡ behind (override_from count cursor.old) }
@@ -81,7 +81,7 @@ fn judge_override(cursor: &mut Cursor<'_>, count: u32) -> Result<(), Refusal>
     judge_map(cursor, count)
 }
 
-// The content of a byte string at a place.
+// Judges the content of a byte string as a sequence. `place` is that of the byte string.
 #[cycle(judge)]
 #[tactic(auto, using(crate::proofs::Nesting::nested_above, crate::proofs::Nesting::nested_none))]
 fn judge_nested(place: u64, content: Cursor<'_>, rules: Rules) -> Result<(), Refusal>
@@ -99,7 +99,7 @@ fn judge_nested(place: u64, content: Cursor<'_>, rules: Rules) -> Result<(), Ref
     judge_array(item, inside)
 }
 
-// A whole item.
+// Judges a whole item as a sequence.
 #[cycle(judge)]
 #[tactic(auto, unfolding(crate::specs::SequenceReading::sequence_at))]
 fn judge_array(mut item: Cursor<'_>, rules: Rules) -> Result<(), Refusal>
@@ -117,7 +117,7 @@ fn judge_array(mut item: Cursor<'_>, rules: Rules) -> Result<(), Refusal>
     }
 }
 
-// So many commands.
+// Judges the next `steps` commands.
 #[cycle(judge)]
 fn judge_steps(mut cursor: Cursor<'_>, steps: u64, rules: Rules) -> Result<(), Refusal>
     ensures { result ≡ map_ok (λ _. tt)
@@ -129,7 +129,7 @@ fn judge_steps(mut cursor: Cursor<'_>, steps: u64, rules: Rules) -> Result<(), R
     Ok(())
 }
 
-// A code and its argument.
+// Judges a command's code and its argument.
 #[cycle(judge)]
 fn judge_step(cursor: &mut Cursor<'_>, rules: Rules) -> Result<(), Refusal>
     ensures { map_ok (λ _. cursor.new) result
@@ -156,7 +156,7 @@ fn judge_argument(cursor: &mut Cursor<'_>, code: CommandCode, rules: Rules) -> R
     }
 }
 
-// The sequence that a byte string holds.
+// Judges the sequence that a byte string holds.
 #[cycle(judge)]
 #[tactic(auto, unfolding(crate::specs::SequenceReading::run_from))]
 fn judge_run(cursor: &mut Cursor<'_>, rules: Rules) -> Result<(), Refusal>
@@ -182,7 +182,7 @@ fn judge_try(cursor: &mut Cursor<'_>, rules: Rules) -> Result<(), Refusal>
     }
 }
 
-// So many branches.
+// Judges the next `number` branches.
 #[cycle(judge)]
 fn judge_branches(cursor: &mut Cursor<'_>, number: u64, rules: Rules) -> Result<(), Refusal>
     ensures { map_ok (λ _. cursor.new) result
@@ -195,7 +195,7 @@ fn judge_branches(cursor: &mut Cursor<'_>, number: u64, rules: Rules) -> Result<
     Ok(())
 }
 
-// A branch: a sequence, or null where no other follows.
+// Judges a branch: a sequence, or null if it is the last.
 #[cycle(judge)]
 #[tactic(auto, unfolding(crate::specs::SequenceReading::branch_from))]
 fn judge_branch(cursor: &mut Cursor<'_>, last: bool, rules: Rules) -> Result<(), Refusal>
@@ -220,8 +220,9 @@ fn judge_branch(cursor: &mut Cursor<'_>, last: bool, rules: Rules) -> Result<(),
     }
 }
 
-/// Judges the bytes as `decode_sequence` does (draft-ietf-suit-manifest-25, section 8.4.6): it answers `Ok` exactly where
-/// they decode, and else with the same refusal. Builds no tree and takes no memory.
+/// Judges the bytes as `decode_sequence` does (draft-ietf-suit-manifest-25, section 8.4.6): the
+/// answer is `Ok` if and only if they can be decoded, and otherwise the same refusal. Builds no
+/// tree and allocates nothing.
 pub fn judge_sequence(bytes: &[u8], place: u64, shared: bool, count: u32) -> Result<(), Refusal>
     requires { place + length bytes.now < 2 ^ 64 }
     ensures { result ≡ map_ok (λ _. tt)

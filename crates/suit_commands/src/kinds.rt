@@ -6,19 +6,19 @@ ghost use Rattle.suit_commands.specs.Kinds.{test_code, act_code};
 /// A condition (draft-ietf-suit-manifest-25, section 8.4.9).
 #[derive(Clone, Copy, Debug, PartialEq, Eq)]
 pub enum TestKind {
-    /// The vendor identifier is that of the component.
+    /// The vendor identifier in force is the component's.
     Vendor,
-    /// The class identifier is that of the component.
+    /// The class identifier in force is the component's.
     Class,
-    /// The device identifier is that of the component.
+    /// The device identifier in force is the component's.
     Device,
-    /// The slot number is that of the component.
+    /// The slot number in force is the component's.
     Slot,
-    /// The content has the digest, and the size where one is in force.
+    /// The content has the digest in force, and the size if one is in force.
     ImageMatch,
-    /// The content equals a parameter.
+    /// The content equals the parameter in force.
     CheckContent,
-    /// It never succeeds.
+    /// Never succeeds.
     Abort,
 }
 
@@ -42,15 +42,15 @@ impl TestKind {
 /// A directive that acts on a component's content (draft-ietf-suit-manifest-25, section 8.4.10).
 #[derive(Clone, Copy, Debug, PartialEq, Eq)]
 pub enum ActKind {
-    /// The content becomes a parameter.
+    /// Sets the content to a parameter.
     Write,
-    /// The content becomes what a URI names.
+    /// Sets the content to what a URI names.
     Fetch,
-    /// The content becomes that of another component.
+    /// Sets the content to that of another component.
     Copy,
-    /// The content is handed to the launcher.
+    /// Hands the content to the launcher.
     Invoke,
-    /// The content is exchanged with that of another component.
+    /// Exchanges the content with that of another component.
     Swap,
 }
 

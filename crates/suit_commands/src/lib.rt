@@ -1,5 +1,5 @@
-//! Command sequences of SUIT manifests: their trees, how they are read, how much there is to judge of them, and which
-//! components they may write.
+//! The command sequences of SUIT manifests: their trees, how they are read, how much work it is to
+//! judge them, and which components they may write.
 #![tactic(auto)]
 
 mod act_walk;

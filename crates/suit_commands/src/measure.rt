@@ -1,4 +1,4 @@
-//! Two counts of a part of a procedure: its work and its ways.
+//! The two counts of a part of a procedure: its work, and the ways in which it may complete.
 
 ghost use Rattle.std.specs.Prelude.{◌≡◌, ◌+◌, ◌*◌};
 ghost use Rattle.suit_commands.specs.Capped.{capped};
@@ -10,7 +10,7 @@ use crate::capped::{plus, product};
 use crate::ways_walk::sequence_ways;
 use crate::work_walk::sequence_work;
 
-/// How many commands a part does, and in how many ways it may complete.
+/// How many commands a part executes, and in how many ways it may complete.
 #[derive(Clone, Copy)]
 pub(crate) struct Measure {
     pub work: u64,
@@ -18,7 +18,8 @@ pub(crate) struct Measure {
 }
 
 impl Measure {
-    /// The measure of a sequence, which begins with one component selected. An absent one is an empty one.
+    /// The measure of a sequence that begins with one component selected. An absent sequence counts
+    /// as empty.
     pub(crate) fn of(sequence: Option<&Sequence>, count: u32) -> Measure
         ensures work { result.work ≡ capped (work_of (lent_tree sequence.entry) count 1) }
         ensures on { result.on
@@ -33,7 +34,7 @@ impl Measure {
         }
     }
 
-    /// The measure of this part and then the next.
+    /// The measure of this part followed by the next.
     pub(crate) fn then(self, next: Measure) -> Measure
         ensures work { result.work ≡ capped (self.work + next.work) }
         ensures on { result.on ≡ capped (self.on * next.on) }

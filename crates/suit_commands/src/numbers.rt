@@ -1,4 +1,5 @@
-//! How much there is to judge in a procedure: this project's own measures, by which it bounds its work.
+//! How much work it is to judge a procedure: this project's own measures, by which it bounds that
+//! work.
 
 ghost use Rattle.std.specs.Prelude.{◌≡◌};
 ghost use Rattle.suit_commands.specs.Capped.{capped};
@@ -22,18 +23,19 @@ fn measured(plan: &Plan<'_>) -> Measure
     first.then(second).then(third)
 }
 
-/// The work of a procedure: the most commands that it does, where each is done once for each selected component and a
-/// set component index once. A run sequence or a try each counts itself and what is inside, a try each all its
-/// sequences. The shared sequence counts before each member. Saturates at 64 bits.
+/// The work of a procedure: the most commands that it executes. A command counts once for each
+/// selected component, but a set component index only once. A run sequence or a try each counts
+/// itself and everything inside; a try each counts all of its sequences. The shared sequence counts
+/// before each member. Saturates at 64 bits.
 pub fn work(plan: &Plan<'_>) -> u64
     ensures { result ≡ capped (work_number (plan_tree plan.now)) }
 {
     measured(plan).work
 }
 
-/// The spread of a procedure: the most ways in which it completes, since a condition may succeed or fail and a sequence
-/// inside may end early. It is the product over the shared sequence before each member and the member. Saturates at 64
-/// bits.
+/// The spread of a procedure: the most ways in which it completes, given that a condition may
+/// succeed or fail, and that an inner sequence may end early. It is the product over the members,
+/// each with the shared sequence before it. Saturates at 64 bits.
 pub fn spread(plan: &Plan<'_>) -> u64
     ensures { result ≡ capped (spread_number (plan_tree plan.now)) }
 {
@@ -48,8 +50,9 @@ pub fn width(plan: &Plan<'_>) -> u64
     product(measure.work, measure.on)
 }
 
-/// Does nothing. Its contract has the laws. Each sequence of a procedure completes in at least one way, so the spread
-/// is never below 1 and the width never below the work; and the width is the work times the spread.
+/// Does nothing. Its contract has the laws. Each sequence of a procedure completes in at least one
+/// way, so the spread is at least 1 and the width is at least the work. The width is the work times
+/// the spread.
 pub fn number_laws()
     ensures { NumberLaws }
 {}

@@ -1,9 +1,9 @@
-//! Procedures of a manifest.
+//! The procedures of a manifest.
 
 use crate::Sequence;
 
-/// A procedure: its three members in their order, the shared sequence that is run before each of them, and the
-/// number of components. An absent sequence is an empty one.
+/// A procedure: its three members in their order, the shared sequence that is run before each of
+/// them, and the number of components. An absent sequence counts as empty.
 #[derive(Clone, Copy, Debug)]
 pub struct Plan<'a> {
     pub shared: Option<&'a Sequence>,

@@ -13,10 +13,10 @@ use crate::source_walk::sequence_sources;
 use crate::swap_walk::has_swap;
 use crate::{Plan, Sequence, Targets};
 
-/// The components that a procedure of one to eight components may write: those that are selected at some write, fetch,
-/// copy or swap of it, where a sequence inside is taken once for each component that is selected at its command; and
-/// where a swap stands in the procedure, those that some override of it names as source. Each of them is one of the
-/// procedure's components.
+/// The components that a procedure of one to eight components may write: those selected at one of
+/// its writes, fetches, copies or swaps and, if the procedure has a swap, those that one of its
+/// overrides names as source. An inner sequence counts once for each component selected at its
+/// command. Each target is one of the procedure's components.
 pub fn targets(plan: &Plan<'_>) -> Targets
     requires { IsPlan (plan_tree plan.now) }
     ensures { (component : ℕ)
@@ -67,7 +67,7 @@ pub(crate) fn sources_in(plan: &Plan<'_>) -> u32
     shared | (first | (second | third))
 }
 
-/// The components written by a sequence that begins with component 0 selected.
+/// The components that a sequence writes if it begins with component 0 selected.
 fn lent_written(sequence: Option<&Sequence>, count: u32) -> u32
     requires indexed { AreIndexed count (lent_tree sequence) }
     requires some { 1 ≤ count }
@@ -109,7 +109,8 @@ fn lent_sources(sequence: Option<&Sequence>, count: u32) -> u32
     }
 }
 
-/// Does nothing. Its contract has the law: each target of a procedure is a component of the manifest.
+/// Does nothing. Its contract has the law: each target of a procedure is a component of the
+/// manifest.
 pub fn target_laws()
     ensures { TargetLaws }
 {}

@@ -1,4 +1,4 @@
-//! Which components a procedure touches, and whether it invokes one.
+//! Which components a procedure touches, and whether it has an invoke.
 
 ghost use Rattle.std.specs.Prelude.{◌≡◌, ◌≤◌, ◌∷◌, [], ℕ, ◌↔◌, IsTrue};
 ghost use Rattle.suit_commands.specs.Allowed.{IsPlan};
@@ -14,9 +14,9 @@ use crate::plan_targets::sources_in;
 use crate::touched_walk::sequence_touched;
 use crate::{ActKind, Plan, Sequence, Targets};
 
-/// The components that a procedure of one to eight components touches: those that are selected at some command of it
-/// but a set component index, where a sequence inside is taken once for each component that is selected at its command,
-/// and those that some override of it names as source.
+/// The components that a procedure of one to eight components touches: those selected at one of its
+/// commands other than a set component index, and those that one of its overrides names as source.
+/// An inner sequence counts once for each component selected at its command.
 pub fn touched(plan: &Plan<'_>) -> Targets
     requires { IsPlan (plan_tree plan.now) }
     ensures { (component : ℕ)
@@ -41,7 +41,7 @@ fn selected_in(plan: &Plan<'_>) -> u32
     shared | (first | (second | third))
 }
 
-/// The components touched by a sequence that begins with component 0 selected.
+/// The components that a sequence touches if it begins with component 0 selected.
 fn lent_touched(sequence: Option<&Sequence>, count: u32) -> u32
     requires indexed { AreIndexed count (lent_tree sequence) }
     requires some { 1 ≤ count }
@@ -55,7 +55,7 @@ fn lent_touched(sequence: Option<&Sequence>, count: u32) -> u32
     }
 }
 
-/// Whether an invoke stands in one of the sequences of a procedure, or in a sequence inside them.
+/// Whether one of the procedure's sequences, or a sequence inside them, has an invoke.
 pub fn invokes(plan: &Plan<'_>) -> bool
     ensures { IsTrue result ↔ InSome (plan_tree plan.now) (HasAct Invoke) }
 {
@@ -74,8 +74,8 @@ fn lent_invokes(sequence: Option<&Sequence>) -> bool
     }
 }
 
-/// Does nothing. Its contract has the laws: what a procedure touches is a component of the manifest, and each of its
-/// targets is touched.
+/// Does nothing. Its contract has the laws: what a procedure touches is a component of the
+/// manifest, and each of its targets is touched.
 pub fn touched_laws()
     ensures { TouchedLaws }
 {}

@@ -8,7 +8,8 @@ ghost use Rattle.suit_commands.specs.Reaches.{no_reach, start_reach, reach_or, r
 
 use crate::{IndexList, Selection};
 
-/// Components as bits, and whether those that are selected before the part belong to them.
+/// A set of components: those in `fixed`, as bits, and with `start` also those selected before the
+/// part.
 #[derive(Clone, Copy)]
 pub(crate) struct Reach {
     pub fixed: u32,
@@ -26,7 +27,7 @@ impl Reach {
         }
     }
 
-    /// Those selected before the part.
+    /// The components selected before the part.
     pub(crate) fn at_start() -> Reach
         ensures { result ≡ start_reach }
     {
@@ -36,7 +37,7 @@ impl Reach {
         }
     }
 
-    /// These and the others.
+    /// The union of both.
     pub(crate) fn or(self, other: Reach) -> Reach
         ensures { result ≡ reach_or self other }
     {
@@ -46,7 +47,7 @@ impl Reach {
         }
     }
 
-    /// These, if `selected` are selected before the part.
+    /// This set, given that the components in `selected` are selected before the part.
     pub(crate) fn through(self, selected: Reach) -> Reach
         ensures { result ≡ reach_through self selected }
     {
@@ -68,7 +69,7 @@ pub(crate) fn bit(component: u32) -> u32
     1 << component
 }
 
-/// The bits of the components that a selection names.
+/// The components that a selection names, as bits.
 pub(crate) fn selection_bits(selection: &Selection, count: u32) -> u32
     requires selected { IsSelectionOf count selection.now }
     requires few { count ≤ 8 }

@@ -1,4 +1,5 @@
-//! The components that a sequence writes. Each sequence inside is walked once, whichever components are selected there.
+//! The components that a sequence writes. Each inner sequence is walked once, whichever components
+//! are selected there.
 
 ghost use Rattle.std.specs.Prelude.{◌≡◌, ◌≤◌};
 ghost use Rattle.suit_commands.specs.Indexed.{AreIndexed, IsIndexed, BranchesIndexed};
@@ -8,7 +9,7 @@ ghost use Rattle.suit_commands.specs.View.{command_tree};
 use crate::reach::{Reach, selection_bits};
 use crate::{ActKind, Branches, Command, Sequence};
 
-/// Which components are selected after a command.
+/// The components selected after a command.
 fn reach_after(command: &Command, count: u32, selected: Reach) -> Reach
     requires indexed { IsIndexed count (command_tree command.now) }
     requires few { count ≤ 8 }
@@ -58,7 +59,7 @@ fn command_reach(command: &Command, count: u32) -> Reach
     }
 }
 
-/// The components that the sequences of a try each write together.
+/// The components that all sequences of a try each write.
 #[cycle(reach)]
 fn branches_reach(branches: &Branches, count: u32) -> Reach
     requires indexed { BranchesIndexed count branches.now }

@@ -1,7 +1,7 @@
-//! The rules that a sequence of commands is judged by.
+//! The rules by which a sequence of commands is judged.
 
-/// By which rules a sequence is judged: how many levels of sequences may stand inside it, whether it is the shared one,
-/// and the number of components.
+/// The rules by which a sequence is judged: how many levels of sequences may be inside it, whether
+/// it is the shared one, and the number of components.
 #[derive(Clone, Copy, Debug)]
 pub struct Rules {
     pub levels: u8,

@@ -1,9 +1,9 @@
-//! The scope of a sequence: its allocator, its levels, its components.
+//! What reading a sequence needs to know.
 
 use std::alloc::Global;
 
-/// The allocator of a sequence, how many levels of sequences may stand inside it, whether it is the shared one, and the
-/// number of components.
+/// The allocator of a sequence, how many levels of sequences may be inside it, whether it is the
+/// shared one, and the number of components.
 #[derive(Clone, Copy)]
 pub(crate) struct Scope {
     pub(crate) alloc: Global,

@@ -1,4 +1,5 @@
-//! Sequences of commands, and the sequences in them, read from items judged before.
+//! Reading sequences of commands, and the sequences inside them, from items that were judged
+//! before.
 
 ghost use Rattle.std.specs.Prelude.{◌≡◌};
 ghost use Rattle.det_cbor.specs.HeadReading.{map_ok};
@@ -14,7 +15,7 @@ use crate::{Branches, Command, Sequence, Step};
 use det_cbor::{Cursor, HeadKind};
 use suit_params::{Fault, Why, next_content, only_item, read_head, read_kind, refused};
 
-// Reads the content of a byte string at a place as a sequence, nested at most so many levels deep.
+// Reads the content of a byte string as a sequence. `place` is that of the byte string.
 #[cycle(read)]
 #[tactic(auto, using(crate::proofs::Nesting::nested_above, crate::proofs::Nesting::nested_none))]
 fn read_nested(place: u64, content: Cursor<'_>, scope: Scope) -> Result<Sequence, Fault>
@@ -33,7 +34,7 @@ fn read_nested(place: u64, content: Cursor<'_>, scope: Scope) -> Result<Sequence
     read_array(item, inside)
 }
 
-/// Reads a whole item as a sequence, nested at most so many levels deep.
+/// Reads a whole item as a sequence.
 #[cycle(read)]
 #[tactic(auto, unfolding(crate::specs::SequenceReading::sequence_at))]
 pub(crate) fn read_array(mut item: Cursor<'_>, scope: Scope) -> Result<Sequence, Fault>
@@ -51,7 +52,7 @@ pub(crate) fn read_array(mut item: Cursor<'_>, scope: Scope) -> Result<Sequence,
     }
 }
 
-// Reads so many commands.
+// Reads the next `steps` commands.
 #[cycle(read)]
 fn read_steps(mut cursor: Cursor<'_>, steps: u64, scope: Scope) -> Result<Sequence, Fault>
     ensures { Gives (λ s. s) result
@@ -66,7 +67,7 @@ fn read_steps(mut cursor: Cursor<'_>, steps: u64, scope: Scope) -> Result<Sequen
     Ok(sequence)
 }
 
-// Reads a code and its argument.
+// Reads a command's code and its argument.
 #[cycle(read)]
 fn read_step(cursor: &mut Cursor<'_>, scope: Scope) -> Result<Command, Fault>
     ensures { Gives (λ c. (command_tree c, cursor.new)) result
@@ -131,7 +132,7 @@ fn read_try(cursor: &mut Cursor<'_>, scope: Scope) -> Result<Branches, Fault>
     }
 }
 
-// Reads so many branches.
+// Reads the next `number` branches.
 #[cycle(read)]
 fn read_branches(cursor: &mut Cursor<'_>, number: u64, scope: Scope) -> Result<Branches, Fault>
     ensures { Gives (λ bs. (bs, cursor.new)) result
@@ -146,7 +147,7 @@ fn read_branches(cursor: &mut Cursor<'_>, number: u64, scope: Scope) -> Result<B
     Ok(branches)
 }
 
-// Reads a branch: a sequence, or null where no other follows.
+// Reads a branch: a sequence, or null if it is the last.
 #[cycle(read)]
 #[tactic(auto, unfolding(crate::specs::SequenceReading::branch_from))]
 fn read_branch(cursor: &mut Cursor<'_>, last: bool, scope: Scope) -> Result<Option<Sequence>, Fault>

@@ -1,4 +1,4 @@
-//! Which components the overrides of a sequence name as source.
+//! The components that the overrides of a sequence name as source.
 
 ghost use Rattle.std.specs.Prelude.{◌≡◌, ◌≤◌};
 ghost use Rattle.std.specs.List.{AllByRecursion};
@@ -11,7 +11,7 @@ use crate::reach::bit;
 use crate::{Branches, Command, Sequence};
 use suit_params::{Param, ParamList};
 
-/// The bits of the sources that a sequence and those inside it name.
+/// The sources that a sequence and those inside it name, as bits.
 #[cycle(source)]
 pub(crate) fn sequence_sources(sequence: &Sequence, count: u32) -> u32
     requires indexed { AreIndexed count sequence.now }

@@ -1,4 +1,4 @@
-//! Whether a swap stands in a sequence.
+//! Whether a sequence has a swap.
 
 ghost use Rattle.std.specs.Prelude.{◌↔◌, IsTrue};
 ghost use Rattle.suit_commands.specs.Targets.{Swaps, CommandSwaps, BranchesSwap};
@@ -6,7 +6,7 @@ ghost use Rattle.suit_commands.specs.View.{command_tree};
 
 use crate::{ActKind, Branches, Command, Sequence};
 
-/// Whether a swap stands in the sequence, or in one inside it.
+/// Whether the sequence, or one inside it, has a swap.
 #[cycle(swap)]
 pub(crate) fn has_swap(sequence: &Sequence) -> bool
     ensures { IsTrue result ↔ Swaps sequence.now }

@@ -1,4 +1,5 @@
-//! The components that a sequence touches. Each sequence inside is walked once, whichever components are selected there.
+//! The components that a sequence touches. Each inner sequence is walked once, whichever components
+//! are selected there.
 
 ghost use Rattle.std.specs.Prelude.{◌≡◌, ◌≤◌};
 ghost use Rattle.suit_commands.specs.Indexed.{AreIndexed, IsIndexed, BranchesIndexed};
@@ -8,7 +9,7 @@ ghost use Rattle.suit_commands.specs.View.{command_tree};
 use crate::reach::selection_bits;
 use crate::{Branches, Command, Sequence};
 
-/// The bits of the components that are selected after a command.
+/// The components selected after a command, as bits.
 fn bits_after(command: &Command, count: u32, selected: u32) -> u32
     requires indexed { IsIndexed count (command_tree command.now) }
     requires few { count ≤ 8 }
@@ -20,7 +21,7 @@ fn bits_after(command: &Command, count: u32, selected: u32) -> u32
     }
 }
 
-/// The bits of the components that a sequence touches, before which these are selected.
+/// The components that a sequence touches, as bits, if it begins with those in `start` selected.
 #[cycle(touched)]
 pub(crate) fn sequence_touched(sequence: &Sequence, count: u32, start: u32) -> u32
     requires indexed { AreIndexed count sequence.now }
@@ -36,7 +37,8 @@ pub(crate) fn sequence_touched(sequence: &Sequence, count: u32, start: u32) -> u
     total
 }
 
-/// A sequence inside begins with none selected: those of its command are touched by it already.
+/// The components that a command touches, as bits. An inner sequence begins with none selected,
+/// since the command itself touches those.
 #[cycle(touched)]
 fn command_touched(command: &Command, count: u32, selected: u32) -> u32
     requires indexed { IsIndexed count (command_tree command.now) }

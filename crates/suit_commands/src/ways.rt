@@ -14,21 +14,21 @@ pub(crate) struct Ways {
 }
 
 impl Ways {
-    /// The ways of doing nothing: it completes.
+    /// The ways of doing nothing: it completes in one way.
     pub(crate) fn start() -> Ways
         ensures { counted result ≡ start_ways }
     {
         Ways { on: 1, off: 0 }
     }
 
-    /// The ways of a try each before its first sequence: none is done.
+    /// The ways of a try each before its first sequence: nothing has completed.
     pub(crate) fn none_done() -> Ways
         ensures { counted result ≡ no_branch }
     {
         Ways { on: 0, off: 1 }
     }
 
-    /// The ways of this part and then the next.
+    /// The ways of this part followed by the next.
     pub(crate) fn then(self, next: Ways) -> Ways
         ensures { counted result ≡ capped_ways (ways_then (counted self) (counted next)) }
     {
@@ -38,7 +38,7 @@ impl Ways {
         }
     }
 
-    /// The ways of this part, and of the next one where a condition ends this one.
+    /// The ways of this part, with the next one in its place if a condition ends it.
     pub(crate) fn or_else(self, next: Ways) -> Ways
         ensures { counted result ≡ capped_ways (ways_else (counted self) (counted next)) }
     {
@@ -48,7 +48,7 @@ impl Ways {
         }
     }
 
-    /// The ways of this part so many times, by repeated squaring.
+    /// The ways of this part repeated `times` times, by repeated squaring.
     pub(crate) fn repeated(self, times: u64) -> Ways
         ensures { counted result ≡ capped_ways (ways_repeated times (counted self)) }
     {

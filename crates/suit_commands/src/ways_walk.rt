@@ -1,4 +1,5 @@
-//! Ways of a sequence. Each sequence inside is walked once, not once for each selected component.
+//! The ways of a sequence. Each inner sequence is walked once, not once for each selected
+//! component.
 
 ghost use Rattle.std.specs.Prelude.{◌≡◌};
 ghost use Rattle.suit_commands.specs.Numbers.{ways_of, start_ways};
@@ -10,7 +11,7 @@ use crate::ways::Ways;
 use crate::work_walk::count_after;
 use crate::{Branches, Command, Sequence};
 
-/// The ways of a sequence, which begins with one component selected.
+/// The ways of a sequence that begins with one component selected.
 #[cycle(ways)]
 pub(crate) fn sequence_ways(sequence: &Sequence, count: u32) -> Ways
     ensures { counted result ≡ capped_ways (ways_of sequence.now count 1 start_ways) }
@@ -25,7 +26,7 @@ pub(crate) fn sequence_ways(sequence: &Sequence, count: u32) -> Ways
     ways
 }
 
-/// The ways of a command for one of the components that are selected.
+/// The ways of a command for one of the selected components.
 #[cycle(ways)]
 fn command_ways(command: &Command, count: u32) -> Ways
     ensures { counted result ≡ capped_ways (once_ways (command_tree command.now) count) }
@@ -44,8 +45,8 @@ fn command_ways(command: &Command, count: u32) -> Ways
     }
 }
 
-/// The ways of a try each: those in which some sequence is done after all before it ended by a condition, and those
-/// in which all do.
+/// The ways of a try each. It completes if one of its sequences completes after a condition ended
+/// each one before, and a condition ends it if one ends each of its sequences.
 #[cycle(ways)]
 fn branches_ways(branches: &Branches, count: u32) -> Ways
     ensures { counted result ≡ capped_ways (tried_ways branches.now count) }

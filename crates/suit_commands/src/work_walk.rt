@@ -1,4 +1,4 @@
-//! How many commands a sequence does, each once for each selected component.
+//! How many commands a sequence executes, counting each once for each selected component.
 
 ghost use Rattle.std.specs.Prelude.{◌≡◌, ◌<◌, ◌^◌};
 ghost use Rattle.suit_commands.specs.Capped.{capped};
@@ -8,7 +8,7 @@ ghost use Rattle.suit_commands.specs.View.{command_tree};
 use crate::capped::{plus, product};
 use crate::{Branches, Command, Selection, Sequence};
 
-/// How many indices a selection has, where there are `count` components.
+/// How many indices a selection has.
 pub(crate) fn index_count(selection: &Selection, count: u32) -> u64
     ensures { result ≡ selected_count selection.now count }
 {
@@ -29,7 +29,7 @@ pub(crate) fn count_after(command: &Command, count: u32, selected: u64) -> u64
     }
 }
 
-/// The work of a sequence, which begins with one component selected.
+/// The work of a sequence that begins with one component selected.
 #[cycle(work)]
 pub(crate) fn sequence_work(sequence: &Sequence, count: u32) -> u64
     ensures { result ≡ capped (work_of sequence.now count 1) }
@@ -43,7 +43,7 @@ pub(crate) fn sequence_work(sequence: &Sequence, count: u32) -> u64
     total
 }
 
-/// The work of a command where so many indices are selected.
+/// The work of a command, given how many indices are selected.
 #[cycle(work)]
 fn command_work(command: &Command, count: u32, selected: u64) -> u64
     ensures { result ≡ capped (command_work (command_tree command.now) count selected) }
@@ -56,7 +56,7 @@ fn command_work(command: &Command, count: u32, selected: u64) -> u64
     }
 }
 
-/// The work of the sequences of a try each together.
+/// The work of all sequences of a try each.
 #[cycle(work)]
 fn branches_work(branches: &Branches, count: u32) -> u64
     ensures { result ≡ capped (branches_work branches.now count) }

@@ -1,4 +1,4 @@
-//! Writing the pieces of a sequence of commands.
+//! Writing the parts of a sequence of commands.
 
 ghost use Rattle.std.specs.Prelude.{◌≡◌, ◌++◌, true, length, OnOk};
 ghost use Rattle.std.specs.List.{AllByRecursion};
@@ -33,7 +33,7 @@ fn push_list(out: &mut Bytes, indices: &IndexList) -> Result<(), AllocError>
     Ok(())
 }
 
-/// Adds the argument of set component index (draft-ietf-suit-manifest-25, section 8.4.10.1).
+/// Appends the argument of a set component index (draft-ietf-suit-manifest-25, section 8.4.10.1).
 pub(crate) fn push_selection(out: &mut Bytes, selection: &Selection) -> Result<(), AllocError>
     ensures ok { OnOk result (out.new ≡ out.old ++ spell (selection_item selection.now)) }
     ensures fits { OnOk result (SelectionFits selection.now) }

@@ -1,4 +1,4 @@
--- At most eight levels stand in one another, wherever a walk stands.
+-- At most eight levels nest, wherever a walk is.
 use Rattle.std.proofs.Common.{◌≡◌, ℕ, zero, suc, ◌+◌, ◌≤◌, ◌<◌, ◌^◌, Bool, List, [], ◌∷◌, ◌++◌, length, Option, Some, None, refl, sym, ap, subst, arith}
 use Rattle.suit_params.specs.Refusing.{SaysWhole}
 use Rattle.suit_commands.specs.Allowed.{levels_allowed}
@@ -42,7 +42,7 @@ first around s deep short = record {
   branches_short = omega arith;
 }
 
--- in bytes that were judged
+-- sequences in bytes that were judged
 pub started : (shared : Bool) (count place : ℕ) (bytes : List ℕ) (s : SequenceTree) → SaysWhole (SaysSequence shared count levels_allowed) place bytes s → length bytes < 2 ^ 32
     → IsLevel 0 (at_first s)
 started shared count place bytes s said short =

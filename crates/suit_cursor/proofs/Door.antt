@@ -1,4 +1,4 @@
--- The answer of the call that lends a sequence, by the grammar and the refusals.
+-- The answer of the call that borrows a sequence, in terms of the grammar and the refusals.
 use Rattle.std.proofs.Common.{◌≡◌, ℕ, Bool, List, Result, Ok, Err, sym, ap, inl, inr}
 use Rattle.std.specs.Prelude.{IfOk, IfErr}
 use Rattle.det_cbor.specs.ArgumentLaws.{IsBytes}

@@ -1,4 +1,4 @@
--- Entering a sequence in bytes that were judged, by its array's head alone.
+-- Entering a sequence in bytes that were judged, by reading only its array's head.
 use Rattle.std.proofs.Common.{◌≡◌, ◌∙◌, ℕ, zero, suc, ◌+◌, ◌-◌, ◌/◌, ◌%◌, ◌≤◌, ◌==◌, Bool, true, false, List, [], ◌∷◌, ◌++◌, length, Result, Ok, Err, refl, sym, ap, subst, arith, inl, inr}
 use Rattle.std.specs.Prelude.{IsOk, if◌then◌else◌}
 use Rattle.std.proofs.lemmas.List.{append-nil}
@@ -18,7 +18,7 @@ use Rattle.suit_commands.specs.SequenceReading.{InnerReader, nested_from, overri
 use Rattle.suit_commands.specs.Tree.{SequenceTree}
 use Rattle.suit_cursor.proofs.Known.{ok_is, first_ok, then_ok, skipped, not_refused, allowed}
 
--- the one item of bytes is all of them
+-- if bytes must hold one item, it is all of them
 pub all_of_it : (p q : Position) → IsBytes p.left → only_from p ≡ Ok q → q ≡ p
 all_of_it p q bytes e =
     bind_ok (inner_from p) _ q e (λ x x-is f.
@@ -37,7 +37,7 @@ all_of_it p q bytes e =
     empty [] e = refl
     empty (a ∷ l) e = grind (arith, e)
 
--- so a sequence that was judged is what its array is read as
+-- so a sequence that was judged is what its array reads as
 pub entered : (shared : Bool) (count levels : ℕ) (p : Position) → IsBytes p.left → IsOk (whole_sequence shared count levels p)
     → whole_sequence shared count levels p ≡ sequence_at (nested_from shared count levels) shared count p
 entered shared count levels p bytes ok =
@@ -45,7 +45,7 @@ entered shared count levels p bytes ok =
     let item = ok_is (only_from p) (first_ok (only_from p) at ok) in
     ap (λ (r : Result Position Refusal). r >>= at) item.1 ∙ ap at (all_of_it p item.0 bytes item.1)
 
--- its steps are half of its elements
+-- the number of its steps is half that of its elements
 pub paired : (inner : InnerReader) (shared : Bool) (count place n : ℕ) (p : Position) → IsOk (paired_from inner shared count place n p)
     → paired_from inner shared count place n p ≡ steps_from inner shared count (n / 2) p
 paired inner shared count place n p ok =
@@ -63,7 +63,7 @@ at_steps inner shared count p n q ok e =
     let read = ap (λ (r : Result (ℕ × Position) Refusal). r >>= λ m. paired_from inner shared count p.place m.0 m.1) e in
     read ∙ paired inner shared count p.place n q (then_ok (kind_from kinds.Array Shape p) (λ m. paired_from inner shared count p.place m.0 m.1) (n, q) e ok)
 
--- ---- the whole, as the code goes: by a second cursor at the same place
+-- ---- the whole, as the code does it: with a second cursor at the same place
 
 module _ (shared : Bool) (count levels : ℕ) (p item : Position) (copied : item ≡ p) (bytes : IsBytes p.left) (ok : IsOk (whole_sequence shared count levels p)) where
   whole_is : whole_sequence shared count levels p ≡ sequence_at (nested_from shared count levels) shared count item
@@ -78,7 +78,7 @@ module _ (shared : Bool) (count levels : ℕ) (p item : Position) (copied : item
   pub steps_behind : (n : ℕ) (q : Position) → kind_from kinds.Array Shape item ≡ Ok (n, q) → whole_sequence shared count levels p ≡ steps_from (nested_from shared count levels) shared count (n / 2) q
   steps_behind n q e = whole_is ∙ at_steps (nested_from shared count levels) shared count item n q item_goes e
 
--- ---- where so many levels may stand inside
+-- ---- with a number of levels allowed inside
 
 pub below : (shared : Bool) (count levels place : ℕ) (p : Position) → IsOk (nested_from shared count levels place p) → 1 ≤ levels
 unfolding nested_from
@@ -91,7 +91,7 @@ unfolding nested_from
 nested_is shared count zero place p ok = absurd cc
 nested_is shared count (suc levels) place p ok = let e : suc levels - 1 ≡ levels = omega arith in rw e refl
 
--- ---- the map of an override, whose head is looked at first where it is judged
+-- ---- the map of an override, whose head is read first when it is judged
 
 pub override_is : (count : ℕ) (p : Position) → IsOk (override_from count p) → override_from count p ≡ next_params count p
 unfolding override_from

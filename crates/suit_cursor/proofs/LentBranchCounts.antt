@@ -1,4 +1,4 @@
--- So many branches are lent as are read, and passing one leaves the others.
+-- As many branches are borrowed as are read, and passing one leaves the others.
 use Rattle.std.proofs.Common.{◌≡◌, ◌∙◌, ℕ, zero, suc, ◌==◌, Bool, Option, Some, None, Result, Ok, Err, refl, sym, ap}
 use Rattle.std.specs.Prelude.{IsOk}
 use Rattle.det_cbor.specs.HeadReading.{◌>>=◌}

@@ -1,4 +1,4 @@
--- So many indices are listed as are read.
+-- As many indices are listed as are read.
 use Rattle.std.proofs.Common.{◌≡◌, ◌∙◌, ℕ, zero, suc, List, [], ◌∷◌, length, Result, Ok, Err, refl, ap}
 use Rattle.std.specs.Prelude.{IsOk}
 use Rattle.det_cbor.specs.HeadReading.{◌>>=◌}

@@ -1,4 +1,4 @@
--- A map of parameters that was judged is passed by its heads.
+-- A map of parameters that was judged is skipped by reading only heads.
 use Rattle.std.proofs.Common.{◌≡◌, ℕ, suc, ◌+◌, ◌-◌, ◌<◌, ◌≤◌, List, [], ◌++◌, length, take, drop, Option, Some, None, Result, Ok, refl, sym, ap, subst, ◌∙◌, append_assoc, arith}
 use Rattle.std.specs.Prelude.{IsOk}
 use Rattle.std.proofs.lemmas.List.{length-append, append-nil, take_at, drop_at}
@@ -126,7 +126,7 @@ pairs_passed count levels place p before (PairThen (UnsignedInteger n) value oth
     rw (one, key_read, value_read) (others_read ∙ ap (λ (n : ℕ). Ok (record { left = rest; place = n })) last)
 pairs_passed count levels place p before (PairThen key value others) rest valid ok is = absurd cc
 
--- passing them one by one
+-- skipping the pairs one by one
 
 pub pair_ok : (pairs i : ℕ) (at : Position) (total : Result Position Refusal) → i < pairs → behind_pairs (pairs - i) at ≡ total → IsOk total → IsOk (behind_pair at)
 pair_ok pairs i at total lt so_far ok =
@@ -175,7 +175,7 @@ passed count p bytes ok =
     let read : IsOk (params_at count (inside p x.0.0)) = first_ok (params_at count (inside p x.0.0)) _ (then_ok (inner_from p) _ (inside p x.0.0, x.0.1) inner ok) in
     by_item count p x.0.0 x.0.1 taken inner (subst IsOk (params_read count 0 p.place x.0.0 taken.valid) read)
 
--- ---- the whole, as the code goes: by the head of the map, and then by its pairs
+-- ---- the whole, as the code does it: the head of the map, and then its pairs
 
 module _ (count : ℕ) (p map : Position) (same : map ≡ p) (bytes : IsBytes p.left) (ok : IsOk (next_params count p)) where
   whole : Passed p

@@ -1,4 +1,4 @@
--- A lent parameter in its cell.
+-- A borrowed parameter in its cell.
 use Rattle.std.proofs.Common.{◌≡◌, ℕ, List, Option, Some}
 use Rattle.std.specs.Prelude.{slice_set, option_map}
 use Rattle.std.proofs.lemmas.List.{map-set}

@@ -20,12 +20,12 @@ use Rattle.suit_params.specs.ParamReading.{id_from, held_from, digest_from}
 use Rattle.suit_cursor.proofs.Known.{ok_is, first_ok, then_ok}
 use Rattle.suit_cursor.proofs.ItsHead.{all_of_it}
 
--- a test that went well
+-- a test that passed
 tested : {A : Type 0} (b : Bool) (r : Result A Refusal) (bad : Refusal) → IsOk (cond b r (Err bad)) → b ≡ true
 tested true r bad ok = refl
 tested false r bad ok = absurd cc
 
--- ---- bytes behind a head that says how many they are
+-- ---- as many bytes as the head before them says
 
 module _ {A : Type 0} (take : ℕ → Position → Result A Refusal) where
   abbrev sized_from : ℕ → Refusal → Result (ℕ × Position) Refusal → Result A Refusal
@@ -61,7 +61,7 @@ after_ok : (array place n : ℕ) (q : Position) (kind : HeadKind) → IsOk (algo
 after_ok array place n q kinds.Negative ok = (by_ok array q (kind_of n) ok, refl)
 after_ok array place n q kind ok = absurd cc
 
--- an algorithm's head is all of it
+-- the item of an algorithm is its head
 
 pub head_ok : (array : ℕ) (p : Position) → IsOk (algorithm_at array p) → IsOk (head_from p)
 unfolding algorithm_at
@@ -97,7 +97,7 @@ pub array_ok : (p : Position) → IsOk (digest_at p) → IsOk (kind_from kinds.A
 unfolding digest_at array_from
 array_ok p ok = first_ok (kind_from kinds.Array Shape p) _ ok
 
--- the heads of a digest, as the code goes
+-- the heads of a digest, as the code reads them
 
 module _ (p : Position) (array n : ℕ) (q : Position) (place : array ≡ p.place) (e : kind_from kinds.Array Shape p ≡ Ok (n, q)) (ok : IsOk (digest_at p)) where
   goes : digest_at p ≡ both_at array q

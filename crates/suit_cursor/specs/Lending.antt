@@ -1,4 +1,4 @@
--- Lent parts as the trees that they read, and what lending the next one leaves.
+-- Borrowed parts as the trees that they read, and what is left after the next part was borrowed.
 use Rattle.std.specs.Prelude.{◌≡◌, ℕ, List, [], ◌∷◌, map, Option, Some, None, option_map}
 use Rattle.suit_params.specs.declared.param.Param.{Param}
 use Rattle.suit_params.specs.declared.param_slice.ParamSlice.{ParamSlice}
@@ -30,28 +30,31 @@ command_of (commands.Override list) = Override list
 command_of (commands.TryEach tries) = TryEach tries
 command_of (commands.Run inner) = RunSequence inner
 
--- the step that is lent, and the steps that are left
+-- the step that is borrowed, and the steps that are left
 abbrev pub LendsStep : SequenceTree → SequenceTree → Option Lent → Type 0
 LendsStep before after None = (before ≡ NoSteps) × (after ≡ NoSteps)
 LendsStep before after (Some step) = before ≡ StepThen step.place (command_of step.command) after
 
 -- ---- branches
 
--- null is no sequence
+-- a null branch has no sequence
 abbrev pub branch_of : LentBranch → Option SequenceTree
 branch_of branches.Null = None
 branch_of (branches.Inner inner) = Some inner
 
+-- the branch that is borrowed, and the branches that are left
 abbrev pub LendsBranch : BranchesTree → BranchesTree → Option LentBranch → Type 0
 LendsBranch before after None = (before ≡ NoBranches) × (after ≡ NoBranches)
 LendsBranch before after (Some branch) = before ≡ branch_before (branch_of branch) after
 
 -- ---- lists
 
+-- the index that is borrowed, and the indices that are left
 abbrev pub LendsIndex : List ℕ → List ℕ → Option ℕ → Type 0
 LendsIndex before after None = (before ≡ []) × (after ≡ [])
 LendsIndex before after (Some index) = before ≡ index ∷ after
 
+-- the parameter that is borrowed, and the parameters that are left
 abbrev pub LendsParam : List Param → List Param → Option ParamSlice → Type 0
 LendsParam before after None = (before ≡ []) × (after ≡ [])
 LendsParam before after (Some param) = before ≡ param_of param ∷ after

@@ -1,4 +1,4 @@
--- Commands as a walk shows them, and what lending the next one leaves.
+-- Commands as a walk shows them, and what is left after the next one was borrowed.
 use Rattle.std.specs.Prelude.{◌≡◌, ℕ, Option, Some, None}
 use Rattle.suit_commands.specs.Selections.{selected_by}
 use Rattle.suit_commands.specs.Tree.{CommandTree, Test, Act, Index, Override, TryEach, RunSequence, SequenceTree, NoSteps, StepThen, NoBranches}
@@ -9,7 +9,7 @@ use Rattle.suit_cursor.specs.declared.walk.Entered.{Entered}
 use Rattle.suit_cursor.specs.declared.walk.Entered.TheVariants.{Inside, Nothing}
 use Rattle.suit_cursor.specs.Walking.{Standing, branches_of, branch_count, branch_at, moved_on, inside_of}
 
--- where there are so many components
+-- what a walk shows of a command, for this number of components
 abbrev pub shown : ℕ → CommandTree → ViewAct
 shown count (Test kind report) = acts.Test kind report
 shown count (Act kind report) = acts.Act kind report
@@ -18,7 +18,7 @@ shown count (Override list) = acts.Override list
 shown count (TryEach branches) = acts.TryEach (branch_count branches)
 shown count (RunSequence inner) = acts.Run
 
--- the first command that is left is lent, and the others are left then
+-- the first command that is left is returned, and the walk moves past it
 abbrev pub LendsView : Standing → Standing → Option View → Type 0
 LendsView before after None =
     (before.here.left ≡ NoSteps) × (after ≡ moved_on before NoSteps NoBranches)
@@ -28,7 +28,8 @@ LendsView before after (Some view) =
     × (view.act ≡ shown before.count command)
     × (after ≡ moved_on before rest (branches_of command))
 
--- the branch with a number of the command that was lent last is entered, if there is one that is no null
+-- the branch with this number of the command that was returned last is entered, if there is one and it is not
+-- null
 abbrev pub EntersBranch : Standing → Standing → Option SequenceTree → Entered → Type 0
 EntersBranch before after None entered = (entered ≡ Nothing) × (after ≡ before)
 EntersBranch before after (Some inner) entered =

@@ -1,21 +1,22 @@
--- Where a walk through a sequence of commands stands, and what it lends there, enters and leaves.
+-- Where a walk through a sequence of commands is, and how it moves on, enters and leaves.
 use Rattle.std.specs.Prelude.{◌≡◌, ◌⊎◌, ℕ, zero, suc, List, [], ◌∷◌, ◌++◌, Option, Some, None, refl}
 use Rattle.std.specs.Coded.{Coded, code_by, coded×, coded_list, coded_ℕ}
 use Rattle.suit_commands.specs.Codes.{coded_sequence, coded_branches}
 use Rattle.suit_commands.specs.Tree.{CommandTree, TryEach, RunSequence, SequenceTree, NoSteps, BranchesTree, NoBranches, BranchThen, NullThen}
 
--- a sequence that was entered: its steps that are left, and the branches of the command that was lent last
+-- a sequence that was entered: its steps that are left, and the branches of the command that was returned
+-- last
 pub record Level : Type 0 where
   pub left : SequenceTree
   pub branches : BranchesTree
 
--- in the sequence that was entered last, and in those around it, the outermost first; and the number of components
+-- the sequence that was entered last, those around it with the outermost first, and the number of components
 pub record Standing : Type 0 where
   pub here : Level
   pub outer : List Level
   pub count : ℕ
 
--- ---- codes, by which they are told apart
+-- ---- one-to-one codes
 
 abbrev pub coded_level : Coded Level
 coded_level =
@@ -31,7 +32,7 @@ coded_standing =
 
 -- ---- branches
 
--- those of a try each; a run sequence has one; and no other command has any
+-- the branches of a try each; a run sequence has one branch, and other commands have none
 abbrev pub branches_of : CommandTree → BranchesTree
 branches_of (TryEach branches) = branches
 branches_of (RunSequence inner) = BranchThen inner NoBranches
@@ -42,7 +43,7 @@ branch_count NoBranches = 0
 branch_count (BranchThen inner rest) = suc (branch_count rest)
 branch_count (NullThen rest) = suc (branch_count rest)
 
--- the sequence of the branch with a number; null is no sequence
+-- the sequence of the branch with this number; a null branch has none
 abbrev pub branch_at : BranchesTree → ℕ → Option SequenceTree
 branch_at NoBranches n = None
 branch_at (BranchThen inner rest) zero = Some inner
@@ -50,16 +51,17 @@ branch_at (BranchThen inner rest) (suc n) = branch_at rest n
 branch_at (NullThen rest) zero = None
 branch_at (NullThen rest) (suc n) = branch_at rest n
 
--- ---- standings
+-- ---- where a walk is
 
 -- before the first command of a sequence
 abbrev pub at_first : SequenceTree → Level
 at_first s = record { left = s; branches = NoBranches }
 
+-- at the beginning of the outermost sequence
 abbrev pub starting : ℕ → SequenceTree → Standing
 starting count s = record { here = at_first s; outer = []; count = count }
 
--- in the same sequence, farther on
+-- further on in the same sequence
 abbrev pub moved_on : Standing → SequenceTree → BranchesTree → Standing
 moved_on before left branches = record {
   here = record { left = left; branches = branches };
@@ -67,6 +69,7 @@ moved_on before left branches = record {
   count = before.count;
 }
 
+-- at the beginning of a sequence inside the present one
 abbrev pub inside_of : Standing → SequenceTree → Standing
 inside_of before inner = record {
   here = at_first inner;
@@ -74,7 +77,7 @@ inside_of before inner = record {
   count = before.count;
 }
 
--- the sequence around is the one that was left by entering; around the outermost there is none
+-- the walk is back in the sequence around the one it was in; in the outermost one nothing changes
 abbrev pub Leaves : Standing → Standing → Type 0
 Leaves before after =
     ((before.outer ≡ []) × (after ≡ before))

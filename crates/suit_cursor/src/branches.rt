@@ -13,8 +13,8 @@ use std::marker::Model;
 use suit_commands::Rules;
 use suit_params::{Why, read_head, read_kind, same_place};
 
-/// The branches of a try each that are left (draft-ietf-suit-manifest-25, section 8.4.10.2), lent by bytes that were
-/// judged.
+/// The branches of a try each that are left (draft-ietf-suit-manifest-25, section 8.4.10.2),
+/// borrowed from bytes that were judged.
 #[derive(Drop)]
 pub struct LentBranches<'a> {
     cursor: Cursor<'a>,
@@ -41,12 +41,12 @@ impl<'a> Model for LentBranches<'a> {
 /// A branch of a try each.
 #[derive(Drop)]
 pub enum LentBranch<'a> {
-    /// Null, which does nothing.
+    /// A null, which does nothing.
     Null,
     Inner(LentSequence<'a>),
 }
 
-// The branch that stands at the cursor.
+// Borrows the branch at the cursor.
 #[tactic(auto, unfolding(suit_commands::specs::SequenceReading::branch_from))]
 fn lend_branch<'a>(cursor: &mut Cursor<'a>, last: bool, rules: Rules) -> LentBranch<'a>
     requires { IsOk (branch_from (inner_by rules) last cursor.old) }
@@ -61,7 +61,7 @@ fn lend_branch<'a>(cursor: &mut Cursor<'a>, last: bool, rules: Rules) -> LentBra
     }
 }
 
-// So many branches, which the cursor passes by their heads.
+// Borrows the next `number` branches. The cursor moves past them, reading only their heads.
 fn lend_branches<'a>(cursor: &mut Cursor<'a>, number: u64, rules: Rules) -> LentBranches<'a>
     requires { IsOk (branches_from (inner_by rules) number cursor.old) }
     ensures { branches_from (inner_by rules) number cursor.old ≡ Ok (result, cursor.new) }
@@ -78,7 +78,7 @@ fn lend_branches<'a>(cursor: &mut Cursor<'a>, number: u64, rules: Rules) -> Lent
     branches
 }
 
-/// The branches of the try each whose array stands at the cursor.
+/// Borrows the branches of the try each whose array is at the cursor.
 #[tactic(auto, unfolding(suit_commands::specs::SequenceReading::try_from))]
 pub(crate) fn lend_try<'a>(cursor: &mut Cursor<'a>, rules: Rules) -> LentBranches<'a>
     requires { IsOk (try_from (inner_by rules) cursor.old) }
@@ -89,7 +89,7 @@ pub(crate) fn lend_try<'a>(cursor: &mut Cursor<'a>, rules: Rules) -> LentBranche
 }
 
 impl<'a> LentBranches<'a> {
-    /// The same branches, lent again.
+    /// A copy, which borrows the same branches.
     pub fn copy(&mut self) -> LentBranches<'a>
         ensures copied { result ≡ self.old }
         ensures same { self.new ≡ self.old }
@@ -101,7 +101,7 @@ impl<'a> LentBranches<'a> {
         }
     }
 
-    /// The next branch, lent. `None` stands exactly at the end.
+    /// The next branch, or `None` at the end.
     pub fn next(&mut self) -> Option<LentBranch<'a>>
         ensures { LendsBranch self.old self.new result }
     {
@@ -119,7 +119,7 @@ impl<'a> LentBranches<'a> {
         self.left
     }
 
-    /// The sequence of the branch with this number, if it is there and not null.
+    /// The sequence of the branch with this number, if there is one and it is not null.
     pub fn branch(mut self, number: u32) -> Option<LentSequence<'a>>
         ensures { result ≡ branch_at self.entry number }
     {

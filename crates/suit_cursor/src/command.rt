@@ -1,4 +1,4 @@
-//! Commands.
+//! Borrowed commands.
 
 ghost use Rattle.std.specs.Prelude.{◌≡◌, IsOk, Ok};
 ghost use Rattle.suit_commands.specs.Judged.{inner_by};
@@ -14,41 +14,42 @@ use det_cbor::{Cursor, HeadKind};
 use suit_commands::{ActKind, CommandCode, Rules, TestKind, read_report};
 use suit_params::{Why, component_index, read_head, read_kind};
 
-/// A command, lent, and the place of its code in bytes from the envelope's first.
+/// A borrowed command, and the place of its code in bytes from the start of the envelope.
 #[derive(Drop)]
 pub struct Lent<'a> {
     pub place: u64,
     pub command: LentCommand<'a>,
 }
 
-/// A condition or a directive with its argument, lent (draft-ietf-suit-manifest-25, sections 8.4.9 and 8.4.10).
+/// A borrowed condition or directive with its argument (draft-ietf-suit-manifest-25, sections 8.4.9
+/// and 8.4.10).
 #[derive(Drop)]
 pub enum LentCommand<'a> {
-    /// A condition, and its reporting policy.
+    /// A condition and its reporting policy.
     Test { kind: TestKind, report: u8 },
     /// A directive that acts on contents, and its reporting policy.
     Act { kind: ActKind, report: u8 },
-    /// Set component index.
+    /// Sets the component index.
     Index(LentSelection<'a>),
-    /// Override parameters.
+    /// Overrides parameters.
     Override(ParamView<'a>),
     TryEach(LentBranches<'a>),
-    /// Run sequence.
+    /// Runs a sequence.
     Run(LentSequence<'a>),
 }
 
-/// The selection of a set component index, lent (draft-ietf-suit-manifest-25, section 8.4.10.1).
+/// The borrowed argument of a set component index (draft-ietf-suit-manifest-25, section 8.4.10.1).
 #[derive(Drop)]
 pub enum LentSelection<'a> {
     /// The component with this index.
     One(u32),
-    /// Every component of the manifest, ascending.
+    /// Every component of the manifest, in ascending order.
     All,
-    /// These components in this order; one may repeat.
+    /// These components, in this order. An index may occur more than once.
     Listed(LentIndices<'a>),
 }
 
-// The selection that stands at the cursor.
+// Borrows the argument of the set component index at the cursor.
 #[tactic(auto, unfolding(suit_commands::specs::SequenceReading::selection_from))]
 fn lend_selection<'a>(cursor: &mut Cursor<'a>, count: u32) -> LentSelection<'a>
     requires { IsOk (selection_from count cursor.old) }
@@ -65,7 +66,7 @@ fn lend_selection<'a>(cursor: &mut Cursor<'a>, count: u32) -> LentSelection<'a>
     }
 }
 
-// The sequence that a byte string holds.
+// Borrows the sequence that a byte string holds.
 #[tactic(auto, unfolding(suit_commands::specs::SequenceReading::run_from))]
 fn lend_run<'a>(cursor: &mut Cursor<'a>, rules: Rules) -> LentSequence<'a>
     requires { IsOk (run_from (inner_by rules) cursor.old) }
@@ -76,7 +77,7 @@ fn lend_run<'a>(cursor: &mut Cursor<'a>, rules: Rules) -> LentSequence<'a>
     enter_held(cursor, place, length, rules)
 }
 
-/// The command with this code, whose argument stands at the cursor.
+/// Borrows the command with this code, whose argument is at the cursor.
 pub(crate) fn lend_command<'a>(
     cursor: &mut Cursor<'a>,
     code: CommandCode,

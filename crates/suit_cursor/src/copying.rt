@@ -1,4 +1,4 @@
-//! Lent sequences as trees in memory of their own.
+//! Copying borrowed sequences.
 
 ghost use Rattle.std.specs.Prelude.{◌≡◌, IfOk};
 ghost use Rattle.suit_commands.specs.View.{command_tree};
@@ -41,7 +41,7 @@ fn copy_params(alloc: Global, mut left: ParamView<'_>) -> Result<ParamList, Allo
     Ok(list)
 }
 
-/// The steps of a lent sequence in memory of their own. The call recurses as deep as the sequences nest.
+/// Copies the steps of a borrowed sequence. Recurses as deep as the sequences nest.
 #[cycle(copy)]
 pub fn copy_sequence(alloc: Global, mut left: LentSequence<'_>) -> Result<Sequence, AllocError>
     ensures { IfOk result (λ sequence. sequence ≡ left.entry) }

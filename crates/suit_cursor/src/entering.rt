@@ -9,7 +9,7 @@ use det_cbor::{Cursor, HeadKind};
 use suit_commands::Rules;
 use suit_params::{Why, next_content, read_kind, same_place};
 
-/// The sequence that these bytes spell, by its array's head alone.
+/// Borrows the sequence that these bytes spell. Only the head of its array is read.
 pub(crate) fn enter<'a>(mut content: Cursor<'a>, rules: Rules) -> LentSequence<'a>
     requires { IsOk (whole_sequence rules.shared rules.count rules.levels content) }
     ensures { whole_sequence rules.shared rules.count rules.levels content.entry ≡ Ok result }
@@ -23,7 +23,7 @@ pub(crate) fn enter<'a>(mut content: Cursor<'a>, rules: Rules) -> LentSequence<'
     }
 }
 
-// The sequence in the content of a byte string at a place.
+// Borrows the sequence in the content of a byte string.
 fn enter_nested<'a>(place: u64, content: Cursor<'a>, rules: Rules) -> LentSequence<'a>
     requires { IsOk (inner_by rules place content) }
     ensures { inner_by rules place content.entry ≡ Ok result }
@@ -37,7 +37,7 @@ fn enter_nested<'a>(place: u64, content: Cursor<'a>, rules: Rules) -> LentSequen
     enter(content, inside)
 }
 
-/// The sequence in a byte string of so many bytes, whose head stands at a place.
+/// Borrows the sequence in a byte string of `length` bytes, whose head is at `place`.
 pub(crate) fn enter_held<'a>(
     cursor: &mut Cursor<'a>,
     place: u64,

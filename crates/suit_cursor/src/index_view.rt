@@ -1,4 +1,4 @@
-//! The components that a command selects.
+//! The components that a set component index selects.
 
 ghost use Rattle.std.specs.Prelude.{◌≡◌, ◌<◌, ◌^◌, length, slice_index};
 ghost use Rattle.suit_commands.specs.Selections.{selected_by};
@@ -10,7 +10,8 @@ use det_cbor::Cursor;
 use std::marker::Model;
 use suit_params::bytes_left;
 
-// So many elements of the list at a place, in the bytes from another place on, for so many components.
+// A list of component indices: its elements, which begin at `place`, the place of the list, and the
+// number of components.
 #[derive(Clone, Copy)]
 pub(crate) struct ListedIndices<'a> {
     bytes: &'a [u8],
@@ -23,13 +24,13 @@ pub(crate) struct ListedIndices<'a> {
 #[derive(Clone, Copy)]
 pub(crate) enum Chosen<'a> {
     One(u32),
-    // Of so many components.
+    // All components, of which there are this many.
     All(u32),
     Listed(ListedIndices<'a>),
 }
 
-/// The components that a set component index selects, in the order in which they are selected
-/// (draft-ietf-suit-manifest-25, section 8.4.10.1).
+/// The components that a set component index selects, in their order (draft-ietf-suit-manifest-25,
+/// section 8.4.10.1).
 #[derive(Drop)]
 pub struct IndexView<'a> {
     chosen: Chosen<'a>,
@@ -77,7 +78,7 @@ impl<'a> ListedIndices<'a> {
 }
 
 impl<'a> IndexView<'a> {
-    /// The components that are selected, where there are so many.
+    /// The components that an argument selects, of `count` components.
     pub(crate) fn of(selection: LentSelection<'a>, count: u32) -> IndexView<'a>
         requires { length (selected_by (selection_of selection) count) < 2 ^ 32 }
         ensures { result ≡ selected_by (selection_of selection.entry) count }
@@ -90,7 +91,7 @@ impl<'a> IndexView<'a> {
         IndexView { chosen }
     }
 
-    /// How many components are selected; one that is listed twice counts twice.
+    /// How many components are selected. One that is listed twice counts twice.
     pub fn count(&self) -> u32
         ensures { result ≡ length self.now }
     {
@@ -101,7 +102,8 @@ impl<'a> IndexView<'a> {
         }
     }
 
-    /// The index of the component that is selected at this place of the order. Passes all before it.
+    /// The index of the n-th selected component, counted from 0. Goes through all that come before
+    /// it.
     pub fn at(&self, n: u32) -> u32
         requires { n < length self.now }
         ensures { result ≡ slice_index self.now n }

@@ -9,7 +9,8 @@ use std::marker::Model;
 use suit_commands::read_element;
 use suit_params::same_place;
 
-/// The indices of a list that are left, in the order in which they are selected, lent by bytes that were judged.
+/// The indices of a list that are left, in the order in which they are selected, borrowed from
+/// bytes that were judged.
 #[derive(Drop)]
 pub struct LentIndices<'a> {
     pub(crate) cursor: Cursor<'a>,
@@ -30,7 +31,8 @@ impl<'a> Model for LentIndices<'a> {
     ghost invariant = { λ s. AreIndices s.count s.list s.left s.cursor };
 }
 
-/// So many indices of the list at a place, which the cursor passes.
+/// Borrows the next `elements` indices of the list whose place is `list`, and moves the cursor past
+/// them.
 pub(crate) fn lend_indices<'a>(
     cursor: &mut Cursor<'a>,
     list: u64,
@@ -60,7 +62,7 @@ impl<'a> LentIndices<'a> {
         self.left
     }
 
-    /// The same indices, lent again.
+    /// A copy, which borrows the same indices.
     pub fn copy(&mut self) -> LentIndices<'a>
         ensures copied { result ≡ self.old }
         ensures same { self.new ≡ self.old }
@@ -73,7 +75,7 @@ impl<'a> LentIndices<'a> {
         }
     }
 
-    /// The next index. `None` stands exactly at the end.
+    /// The next index, or `None` at the end.
     pub fn next(&mut self) -> Option<u32>
         ensures { LendsIndex self.old self.new result }
     {
@@ -85,7 +87,7 @@ impl<'a> LentIndices<'a> {
         Some(index)
     }
 
-    /// The index at this place of the order.
+    /// The n-th index, counted from 0.
     pub(crate) fn at(mut self, n: u32) -> u32
         requires { n < length self }
         ensures { result ≡ slice_index self.entry n }

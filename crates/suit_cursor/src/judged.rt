@@ -9,7 +9,7 @@ use det_cbor::{Head, HeadKind};
 use std::marker::Model;
 use suit_params::Why;
 
-// The bytes of a slice are below 256.
+// Tells the proof that the bytes of a slice are below 256.
 #[inline(always)]
 fn bounded(bytes: &[u8])
     ensures { (i : ℕ) → get_or bytes.now i 0 < 256 }
@@ -17,8 +17,8 @@ fn bounded(bytes: &[u8])
     let _ = bytes;
 }
 
-/// Bytes that were judged, and the place of the first that is left. They are read from left to right, and nothing of them
-/// is judged again.
+/// Bytes that were judged, with the place of the first one left. They are read from left to right,
+/// and not judged again.
 #[derive(Drop)]
 pub(crate) struct Judged<'a> {
     rest: &'a [u8],
@@ -37,7 +37,7 @@ impl<'a> Model for Judged<'a> {
 }
 
 impl<'a> Judged<'a> {
-    /// Bytes whose first stands at a place.
+    /// Bytes of which the first has this place.
     #[inline(always)]
     pub(crate) fn new(bytes: &'a [u8], place: u64) -> Judged<'a>
         requires { place + length bytes.now < 2 ^ 64 }
@@ -49,7 +49,7 @@ impl<'a> Judged<'a> {
         }
     }
 
-    /// The same bytes, lent again.
+    /// A copy, which borrows the same bytes.
     #[inline(always)]
     pub(crate) fn copy(&self) -> Judged<'a>
         ensures { result ≡ self.now }
@@ -69,7 +69,7 @@ impl<'a> Judged<'a> {
         self.at
     }
 
-    /// They are below 256.
+    /// Tells the proof that the bytes are below 256.
     #[inline(always)]
     pub(crate) fn are_bytes(&self)
         ensures { (i : ℕ) → get_or self.now.left i 0 < 256 }
@@ -93,7 +93,7 @@ impl<'a> Judged<'a> {
         self.rest.len()
     }
 
-    /// The next head.
+    /// Reads the next head.
     #[inline(always)]
     pub(crate) fn head(&mut self) -> Head
         requires { IsOk (head_from self.old) }
@@ -105,7 +105,7 @@ impl<'a> Judged<'a> {
         head
     }
 
-    /// The value of the next head, which is of this kind.
+    /// Reads the next head, which is of this kind, and returns its value.
     #[inline(always)]
     pub(crate) fn value(&mut self, kind: HeadKind, why: Why) -> u64
         requires { IsOk (kind_from kind why self.old) }
@@ -115,7 +115,7 @@ impl<'a> Judged<'a> {
         self.head().value
     }
 
-    /// The next bytes, as many as are asked for.
+    /// Takes the next `count` bytes.
     #[inline(always)]
     pub(crate) fn bytes(&mut self, count: u64) -> &'a [u8]
         requires { IsOk (bytes_from count self.old) }
@@ -129,7 +129,7 @@ impl<'a> Judged<'a> {
         piece
     }
 
-    /// The next bytes, as many as are asked for, at their place.
+    /// Takes the next `count` bytes, at their place.
     #[inline(always)]
     pub(crate) fn content(&mut self, count: u64) -> Judged<'a>
         requires { IsOk (string_from count self.old) }

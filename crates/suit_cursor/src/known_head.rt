@@ -1,4 +1,4 @@
-//! Heads of bytes that were judged.
+//! Reading heads of bytes that were judged.
 
 ghost use Rattle.std.specs.Prelude.{◌≡◌, ◌≤◌, ◌^◌, length, IsOk, Ok};
 ghost use Rattle.std.specs.Int.{w8, w16, w32, w64};
@@ -65,7 +65,7 @@ fn u64_at(bytes: &[u8]) -> (u64, &[u8])
     }
 }
 
-// An argument of two, four or eight bytes.
+// Reads an argument of two, four or eight bytes.
 #[inline(always)]
 #[tactic(auto, unfolding(det_cbor::specs::HeadReading::argument_at))]
 fn wide(low: u8, bytes: &[u8]) -> (u64, &[u8])
@@ -94,7 +94,7 @@ fn argument(low: u8, bytes: &[u8]) -> (u64, &[u8])
     }
 }
 
-// False, true or null.
+// Reads false, true or null.
 #[inline(always)]
 fn simple(low: u8) -> Head
     requires { IsOk (simple_value low) }
@@ -128,7 +128,7 @@ fn take_head(bytes: &[u8]) -> (Head, &[u8])
     }
 }
 
-/// The head at the front, which is known to be one, and the bytes after it.
+/// Splits the head off the front, where there is known to be one.
 #[inline(always)]
 pub(crate) fn known_head(bytes: &[u8]) -> (Head, &[u8])
     requires { IsOk (head_at bytes.now) }

@@ -6,17 +6,17 @@ ghost use Rattle.suit_cursor.specs.Within.{branches_in};
 
 use crate::{LentBranches, LentSequence};
 
-/// What the command that was lent last holds.
+/// The sequences inside the command that was returned last.
 #[derive(Drop)]
 pub(crate) enum Within<'a> {
-    /// No sequence; or no command was lent.
+    /// No sequences, or no command was returned.
     Nothing,
     Tries(LentBranches<'a>),
     Run(LentSequence<'a>),
 }
 
 impl<'a> Within<'a> {
-    /// The sequence of the branch with this number. The branches stay.
+    /// Borrows the sequence of the branch with this number. The branches stay as they are.
     pub(crate) fn branch(&mut self, number: u32) -> Option<LentSequence<'a>>
         ensures found { result ≡ branch_at (branches_in self.old) number }
         ensures same { self.new ≡ self.old }
@@ -35,7 +35,7 @@ impl<'a> Within<'a> {
     }
 }
 
-/// A sequence that was entered.
+/// A sequence that was entered: the steps that are left, and the sequences inside the last command.
 #[derive(Drop)]
 pub(crate) struct Level<'a> {
     pub(crate) left: LentSequence<'a>,

@@ -1,7 +1,8 @@
 //! Command sequences of SUIT manifests, read from the manifest's bytes as they are run.
 //!
-//! A sequence is judged once, and then its parts are lent: each command where it stands, each list, each sequence inside.
-//! Nothing is copied, and nothing is judged again. A contract sees each lent part as the tree that its bytes spell.
+//! A sequence is judged once, and then its parts are borrowed: each command, each list, each inner
+//! sequence. Nothing is copied, and nothing is judged again. Contracts see each borrowed part as
+//! the tree that its bytes spell.
 #![tactic(auto)]
 
 mod branches;

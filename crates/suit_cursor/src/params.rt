@@ -12,8 +12,8 @@ use det_cbor::{Cursor, HeadKind};
 use std::marker::Model;
 use suit_params::{ParamSlice, Why};
 
-/// The parameters of an override that are left, ascending by their keys' numbers (draft-ietf-suit-manifest-25, section
-/// 8.4.10.3), lent by bytes that were judged.
+/// The parameters of an override that are left, in ascending order of the numbers of their keys
+/// (draft-ietf-suit-manifest-25, section 8.4.10.3), borrowed from bytes that were judged.
 #[derive(Drop)]
 pub struct ParamView<'a> {
     map: Judged<'a>,
@@ -34,7 +34,7 @@ impl<'a> Model for ParamView<'a> {
     ghost invariant = { λ p. AreParams p.count p.left p.map };
 }
 
-// The parameters of the next item, which is a map.
+// Borrows the parameters of the next item, which is a map.
 #[tactic(auto, unfolding(suit_params::specs::ParamReading::params_at, suit_params::specs::Reading::map_from))]
 fn lend_map<'a>(cursor: &mut Cursor<'a>, count: u32) -> ParamView<'a>
     requires { IsOk (next_params count cursor.old) }
@@ -49,7 +49,7 @@ fn lend_map<'a>(cursor: &mut Cursor<'a>, count: u32) -> ParamView<'a>
     }
 }
 
-/// The parameters of the override whose map stands at the cursor.
+/// Borrows the parameters of the override whose map is at the cursor.
 pub(crate) fn lend_override<'a>(cursor: &mut Cursor<'a>, count: u32) -> ParamView<'a>
     requires { IsOk (override_from count cursor.old) }
     ensures { override_from count cursor.old ≡ Ok (result, cursor.new) }
@@ -58,7 +58,7 @@ pub(crate) fn lend_override<'a>(cursor: &mut Cursor<'a>, count: u32) -> ParamVie
 }
 
 impl<'a> ParamView<'a> {
-    /// The same parameters, lent again.
+    /// A copy, which borrows the same parameters.
     pub fn copy(&mut self) -> ParamView<'a>
         ensures copied { result ≡ self.old }
         ensures same { self.new ≡ self.old }
@@ -70,7 +70,7 @@ impl<'a> ParamView<'a> {
         }
     }
 
-    /// The next parameter, its bytes lent. `None` stands exactly at the end.
+    /// The next parameter, which borrows its bytes, or `None` at the end.
     #[inline(always)]
     pub fn next(&mut self) -> Option<ParamSlice<'a>>
         ensures { LendsParam self.old self.new result }

@@ -1,4 +1,4 @@
-//! Overrides that are passed over.
+//! Skipping the maps of overrides.
 
 ghost use Rattle.std.specs.Prelude.{◌≡◌, IsOk, Ok};
 ghost use Rattle.suit_params.specs.Reading.{inner_from};
@@ -9,7 +9,7 @@ use crate::judged::Judged;
 use det_cbor::{Cursor, HeadKind};
 use suit_params::{bytes_left, same_place};
 
-// An item with no items in it.
+// Skips an item that holds no other items.
 #[inline(always)]
 #[tactic(auto, unfolding(crate::specs::Passing::behind_plain))]
 fn pass_plain(map: &mut Judged<'_>)
@@ -25,7 +25,7 @@ fn pass_plain(map: &mut Judged<'_>)
     }
 }
 
-// A number, and an item with no items in it.
+// Skips a number, and an item that holds no other items.
 #[inline(always)]
 fn pass_pair(map: &mut Judged<'_>)
     requires { IsOk (behind_pair map.old) }
@@ -44,7 +44,8 @@ fn pass_pairs(map: &mut Judged<'_>, pairs: u64)
     }
 }
 
-/// The item of the map of parameters at the cursor, for so many components. The cursor passes it by the heads alone.
+/// Takes the map of parameters at the cursor, and moves the cursor past it. Only the heads are
+/// read.
 pub(crate) fn take_map<'a>(cursor: &mut Cursor<'a>, count: u32) -> Judged<'a>
     requires { IsOk (next_params count cursor.old) }
     ensures { inner_from cursor.old ≡ Ok (result, cursor.new) }

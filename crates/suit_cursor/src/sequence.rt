@@ -1,4 +1,4 @@
-//! Sequences.
+//! Borrowed sequences.
 
 ghost use Rattle.std.specs.Prelude.{◌≡◌, ◌+◌, ◌<◌, ◌^◌, length, IfOk, IfErr, Ok, Err};
 ghost use Rattle.suit_params.specs.declared.refusal.Refusal.{Refusal};
@@ -18,7 +18,8 @@ use std::marker::Model;
 use suit_commands::{MAX_LEVELS, Rules, judge_sequence, read_code};
 use suit_params::{Refusal, same_place};
 
-/// The steps of a sequence that are left (draft-ietf-suit-manifest-25, section 8.4.6), lent by bytes that were judged.
+/// The steps of a sequence that are left (draft-ietf-suit-manifest-25, section 8.4.6), borrowed
+/// from bytes that were judged.
 #[derive(Drop)]
 pub struct LentSequence<'a> {
     pub(crate) cursor: Cursor<'a>,
@@ -42,7 +43,7 @@ impl<'a> Model for LentSequence<'a> {
     ghost invariant = { λ s. AreSteps s.rules s.left s.cursor };
 }
 
-// As `LentSequence::new`, which says what this means.
+// Does the work of `LentSequence::new`.
 fn judged<'a>(
     bytes: &'a [u8],
     place: u64,
@@ -63,7 +64,7 @@ fn judged<'a>(
 }
 
 impl<'a> LentSequence<'a> {
-    // No steps.
+    // A sequence without steps.
     pub(crate) fn empty() -> LentSequence<'a>
         ensures { result ≡ NoSteps }
     {
@@ -78,9 +79,10 @@ impl<'a> LentSequence<'a> {
         }
     }
 
-    /// The sequence that the bytes spell, for so many components. The bytes start at this place in the envelope, from which
-    /// the places of commands and refusals count. They are judged once, here, as `decode_sequence` judges them. Takes no
-    /// memory.
+    /// Borrows the sequence that the bytes spell, after judging them once as `decode_sequence`
+    /// does. Component indices must be below `count`. `place` is where the bytes begin in the
+    /// envelope; the places of commands and refusals are counted from the envelope's start.
+    /// Allocates nothing.
     pub fn new(
         bytes: &'a [u8],
         place: u64,
@@ -104,7 +106,7 @@ impl<'a> LentSequence<'a> {
         judged(bytes, place, shared, count)
     }
 
-    /// The same steps, lent again.
+    /// A copy, which borrows the same steps.
     pub fn copy(&mut self) -> LentSequence<'a>
         ensures copied { result ≡ self.old }
         ensures same { self.new ≡ self.old }
@@ -116,7 +118,7 @@ impl<'a> LentSequence<'a> {
         }
     }
 
-    /// The next step, lent. `None` stands exactly at the end.
+    /// The next step, or `None` at the end.
     pub fn next(&mut self) -> Option<Lent<'a>>
         ensures { LendsStep self.old self.new result }
     {

@@ -1,4 +1,4 @@
-//! The parameters in force, lent.
+//! The parameters in force, which borrow their bytes.
 
 ghost use Rattle.std.specs.Prelude.{◌≡◌, ◌<◌, [], ◌∷◌, length, option_map};
 ghost use Rattle.suit_params.specs.InForce.{none_in_force, in_force, with_param, overridden, IsOverridden};
@@ -9,8 +9,8 @@ use crate::ParamView;
 use std::marker::Model;
 use suit_params::{ParamKey, ParamSlice, rank};
 
-/// The parameters in force (draft-ietf-suit-manifest-25, section 8.4.8): for each of eight components and each key one or
-/// none. Their bytes are lent. Takes no memory.
+/// The parameters in force (draft-ietf-suit-manifest-25, section 8.4.8): at most one for each of
+/// eight components and each key. They borrow their bytes, so nothing is allocated.
 #[derive(Drop)]
 pub struct SliceParams<'a> {
     held: [Option<ParamSlice<'a>>; 96],
@@ -27,7 +27,7 @@ impl<'a> Model for SliceParams<'a> {
     ghost view = { λ a. params_in a.held };
 }
 
-// Soft failure behind a parameter.
+// Soft failure after a parameter.
 #[inline(always)]
 fn soft_by(soft_failure: bool, param: &ParamSlice<'_>) -> bool
     ensures { result ≡ soft_by soft_failure (param_of param.now) }
@@ -39,7 +39,7 @@ fn soft_by(soft_failure: bool, param: &ParamSlice<'_>) -> bool
 }
 
 impl<'a> SliceParams<'a> {
-    /// Nothing is in force.
+    /// No parameters in force.
     #[tactic(auto, unfolding(suit_params::specs::InForce::none_in_force))]
     pub fn new() -> SliceParams<'a>
         ensures { result ≡ none_in_force }
@@ -47,7 +47,7 @@ impl<'a> SliceParams<'a> {
         SliceParams { held: [None; 96] }
     }
 
-    /// The value in force for a component and a key.
+    /// The parameter in force for a component under a key, if there is one.
     pub fn get(&self, component: u32, key: ParamKey) -> Option<ParamSlice<'a>>
         requires { component < 8 }
         ensures { option_map param_of result ≡ in_force self.now component key }
@@ -56,14 +56,14 @@ impl<'a> SliceParams<'a> {
         cells[12 * component as usize + rank(key)]
     }
 
-    /// The same parameters in force, lent again.
+    /// A copy, which borrows the same bytes.
     pub fn copy(&self) -> SliceParams<'a>
         ensures { result ≡ self.now }
     {
         SliceParams { held: self.held }
     }
 
-    // There is a cell for each component and key.
+    // Tells the proof that there is a cell for each component and key.
     fn whole(&self)
         ensures { length self.now ≡ 96 }
     {
@@ -71,7 +71,7 @@ impl<'a> SliceParams<'a> {
         let _count = cells.len();
     }
 
-    // Replaces the value of one key.
+    // Puts a parameter in force, in place of the one with its key.
     #[inline(always)]
     fn put(&mut self, component: u32, param: ParamSlice<'a>)
         requires { component < 8 }
@@ -81,7 +81,7 @@ impl<'a> SliceParams<'a> {
         cells[12 * component as usize + rank(param.key())] = Some(param);
     }
 
-    // Replaces the values of the keys that are left, one after another.
+    // Puts the parameters that are left in force, one after another.
     fn put_each(&mut self, component: u32, mut list: ParamView<'a>, soft_failure: bool) -> bool
         requires { component < 8 }
         ensures exact { self.new ≡ overridden self.old component list.entry }
@@ -95,7 +95,7 @@ impl<'a> SliceParams<'a> {
         soft
     }
 
-    /// Replaces the value of one component's key, and no other.
+    /// Puts a parameter of a component in force, and leaves all others.
     pub fn set(&mut self, component: u32, param: ParamSlice<'a>)
         requires { component < 8 }
         ensures exact { self.new ≡ with_param self.old component (param_of param.entry) }
@@ -105,8 +105,9 @@ impl<'a> SliceParams<'a> {
         self.put(component, param);
     }
 
-    /// Overrides a component's parameters by those that are left of an override: each replaces the one with its key, and
-    /// all others stay. Answers soft failure behind them, which was this before.
+    /// Overrides a component's parameters by those that are left of an override. Each replaces the
+    /// one with its key, and all others stay. Returns soft failure after them, given what it was
+    /// before.
     pub fn override_with(&mut self, component: u32, list: ParamView<'a>, soft_failure: bool) -> bool
         requires { component < 8 }
         ensures exact { self.new ≡ overridden self.old component list.entry }

@@ -1,4 +1,4 @@
-//! Parameters of bytes that were judged.
+//! Reading parameters from bytes that were judged.
 
 ghost use Rattle.std.specs.Prelude.{◌≡◌, IsOk, IsSome, Ok, Some};
 ghost use Rattle.suit_params.specs.Reading.{bytes_from};
@@ -12,7 +12,7 @@ use crate::judged::Judged;
 use det_cbor::{HeadKind, as_text};
 use suit_params::{Digest, DigestKind, ParamKey, ParamSlice, Why};
 
-// The parameter that has a number.
+// The parameter key with this number.
 #[inline(always)]
 fn numbered(number: u64) -> ParamKey
     requires { IsSome (numbered number) }
@@ -44,7 +44,7 @@ fn take_key(map: &mut Judged<'_>) -> ParamKey
     numbered(number)
 }
 
-// The next 16 bytes.
+// Takes the next 16 bytes.
 #[inline(always)]
 fn take_sixteen(map: &mut Judged<'_>) -> [u8; 16]
     requires { IsOk (bytes_from 16 map.old) }
@@ -56,7 +56,7 @@ fn take_sixteen(map: &mut Judged<'_>) -> [u8; 16]
     id
 }
 
-// An identifier of 16 bytes.
+// Takes an identifier of 16 bytes.
 #[inline(always)]
 #[tactic(auto, unfolding(suit_params::specs::ParamReading::id_from))]
 fn take_id(map: &mut Judged<'_>) -> [u8; 16]
@@ -67,7 +67,7 @@ fn take_id(map: &mut Judged<'_>) -> [u8; 16]
     take_sixteen(map)
 }
 
-// A byte string: its content at its place.
+// Takes a byte string, as its content at its place.
 #[inline(always)]
 #[tactic(auto, unfolding(suit_params::specs::ParamReading::held_from))]
 fn take_held<'a>(map: &mut Judged<'a>) -> Judged<'a>
@@ -78,7 +78,7 @@ fn take_held<'a>(map: &mut Judged<'a>) -> Judged<'a>
     map.content(count)
 }
 
-// A byte string, as its content.
+// Takes a byte string, as its content.
 #[inline(always)]
 fn take_bytes<'a>(map: &mut Judged<'a>) -> &'a [u8]
     requires { IsOk (bytes_value_from map.old) }
@@ -87,7 +87,7 @@ fn take_bytes<'a>(map: &mut Judged<'a>) -> &'a [u8]
     take_held(map).all()
 }
 
-// A text. Its bytes are looked at once more: there is no other way to a text.
+// Takes a text. This checks its bytes again, since there is no other way to get a `str`.
 #[tactic(auto, unfolding(suit_params::specs::ParamReading::text_from))]
 fn take_text<'a>(map: &mut Judged<'a>) -> &'a str
     requires { IsOk (text_from map.old) }
@@ -98,7 +98,7 @@ fn take_text<'a>(map: &mut Judged<'a>) -> &'a str
     as_text(bytes).unwrap()
 }
 
-// An unsigned number.
+// Takes an unsigned number.
 #[inline(always)]
 #[tactic(auto, unfolding(suit_params::specs::ParamReading::number_from))]
 fn take_number(map: &mut Judged<'_>) -> u64
@@ -108,7 +108,7 @@ fn take_number(map: &mut Judged<'_>) -> u64
     map.value(HeadKind::Unsigned, Why::BadParam)
 }
 
-// True or false.
+// Takes true or false.
 #[inline(always)]
 #[tactic(auto, unfolding(suit_params::specs::ParamReading::flag_from))]
 fn take_flag(map: &mut Judged<'_>) -> bool
@@ -118,7 +118,7 @@ fn take_flag(map: &mut Judged<'_>) -> bool
     map.value(HeadKind::Bool, Why::BadParam) == 1
 }
 
-// The index of a component.
+// Takes a component index.
 #[inline(always)]
 fn take_index(map: &mut Judged<'_>, count: u32) -> u32
     requires { IsOk (index_from count map.old) }
@@ -128,7 +128,7 @@ fn take_index(map: &mut Judged<'_>, count: u32) -> u32
     take_number(map) as u32
 }
 
-// The hash function of the negative number with this argument.
+// The hash function that the negative integer with this argument stands for.
 #[inline(always)]
 fn numbered_kind(argument: u64) -> DigestKind
     requires { IsSome (kind_of argument) }
@@ -141,7 +141,7 @@ fn numbered_kind(argument: u64) -> DigestKind
     }
 }
 
-// The first element of a digest, whose array stands at a place.
+// Takes the first element of a digest. `array` is the place of the digest's array.
 #[inline(always)]
 fn take_algorithm(item: &mut Judged<'_>, array: u64) -> DigestKind
     requires { IsOk (algorithm_at array item.old) }
@@ -152,7 +152,7 @@ fn take_algorithm(item: &mut Judged<'_>, array: u64) -> DigestKind
     numbered_kind(head.value)
 }
 
-// The next bytes, as many as a digest by this hash function has.
+// Takes as many bytes as a digest by this hash function has.
 #[inline(always)]
 fn take_sum(item: &mut Judged<'_>, kind: DigestKind) -> Digest
     requires { IsOk (bytes_from (size_of kind) item.old) }
@@ -162,7 +162,7 @@ fn take_sum(item: &mut Judged<'_>, kind: DigestKind) -> Digest
     Digest::new(kind, bytes)
 }
 
-// The second element of a digest, whose array stands at a place.
+// Takes the second element of a digest. `array` is the place of the digest's array.
 #[inline(always)]
 #[tactic(auto, unfolding(suit_params::specs::DigestReading::value_at))]
 fn take_second(item: &mut Judged<'_>, array: u64, kind: DigestKind) -> Digest
@@ -174,7 +174,7 @@ fn take_second(item: &mut Judged<'_>, array: u64, kind: DigestKind) -> Digest
     take_sum(item, kind)
 }
 
-// The digest that a whole item is, behind its three heads.
+// Takes the digest that a whole item is.
 #[inline(always)]
 fn whole_digest(mut item: Judged<'_>) -> Digest
     requires { IsOk (digest_at item) }
@@ -186,7 +186,7 @@ fn whole_digest(mut item: Judged<'_>) -> Digest
     take_second(&mut item, array, kind)
 }
 
-// A byte string that holds a digest.
+// Takes a byte string that holds a digest.
 #[inline(always)]
 fn take_digest(map: &mut Judged<'_>) -> Digest
     requires { IsOk (digest_from map.old) }
@@ -218,7 +218,7 @@ fn take_value<'a>(map: &mut Judged<'a>, key: ParamKey, count: u32) -> ParamSlice
     }
 }
 
-/// The next pair of a map that was judged, for so many components.
+/// Takes the next pair of a map that was judged. Component indices are below `count`.
 #[inline(always)]
 pub(crate) fn take_param<'a>(map: &mut Judged<'a>, count: u32) -> ParamSlice<'a>
     requires { IsOk (param_from count map.old) }

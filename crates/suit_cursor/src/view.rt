@@ -11,32 +11,32 @@ use crate::level::Within;
 use crate::{IndexView, LentCommand, ParamView};
 use suit_commands::{ActKind, TestKind};
 
-/// A command, and the place of its code in bytes from the envelope's first.
+/// A command, and the place of its code in bytes from the start of the envelope.
 #[derive(Drop)]
 pub struct View<'a> {
     pub place: u64,
     pub act: ViewAct<'a>,
 }
 
-/// A condition or a directive (draft-ietf-suit-manifest-25, sections 8.4.9 and 8.4.10). The sequences inside it are
-/// entered by their numbers.
+/// A condition or a directive (draft-ietf-suit-manifest-25, sections 8.4.9 and 8.4.10). The
+/// sequences inside it are entered by number.
 #[derive(Drop)]
 pub enum ViewAct<'a> {
-    /// A condition, and its reporting policy.
+    /// A condition and its reporting policy.
     Test { kind: TestKind, report: u8 },
     /// A directive that acts on contents, and its reporting policy.
     Act { kind: ActKind, report: u8 },
-    /// Set component index.
+    /// Sets the component index.
     Index(IndexView<'a>),
-    /// Override parameters.
+    /// Overrides parameters.
     Override(ParamView<'a>),
-    /// Try each, with so many branches.
+    /// A try each with this many branches.
     TryEach(u32),
-    /// Run sequence, whose sequence is branch 0.
+    /// Runs a sequence, which is branch 0.
     Run,
 }
 
-/// What is shown of a command, and what can be entered of it.
+/// What a walk shows of a command, and what can be entered in it.
 pub(crate) fn shown<'a>(command: LentCommand<'a>, count: u32) -> (ViewAct<'a>, Within<'a>)
     requires { IsShortCommand (command_of command) }
     ensures act { result.0 ≡ shown count (command_of command.entry) }

@@ -1,4 +1,4 @@
-//! Walks through a sequence and the sequences in it.
+//! Walks through a sequence and the sequences inside it.
 
 ghost use Rattle.std.specs.Prelude.{◌≡◌, ◌+◌, ◌<◌, ◌^◌, length, Result, Ok, Err, IfOk, IfErr};
 ghost use Rattle.det_cbor.specs.HeadReading.{map_ok};
@@ -21,8 +21,8 @@ use std::marker::Model;
 use std::mem;
 use suit_params::Refusal;
 
-/// A walk through a sequence of commands (draft-ietf-suit-manifest-25, section 8.4.6) and the sequences in it, in bytes
-/// that were judged.
+/// A walk through a sequence of commands (draft-ietf-suit-manifest-25, section 8.4.6) and the
+/// sequences inside it, in bytes that were judged.
 #[derive(Drop)]
 pub struct Walk<'a> {
     here: Level<'a>,
@@ -48,12 +48,12 @@ impl<'a> Model for Walk<'a> {
 #[derive(Clone, Copy, Debug)]
 pub enum Entered {
     Inside,
-    /// The branch is null, or there is none with this number.
+    /// The branch is null, or there is no branch with this number.
     Nothing,
 }
 
 impl<'a> Walk<'a> {
-    // At the first step.
+    // A walk that is before the first step.
     fn start(left: LentSequence<'a>, count: u32) -> Walk<'a>
         requires { IsLevel 0 (at_first left) }
         ensures { result ≡ starting count left.entry }
@@ -68,9 +68,10 @@ impl<'a> Walk<'a> {
         }
     }
 
-    /// A walk through the sequence that the bytes spell, for so many components, from its first command on. The bytes start
-    /// at this place in the envelope, from which the places of commands and refusals count. They are judged once, here, as
-    /// `decode_sequence` judges them. Takes no memory.
+    /// Starts a walk before the first command of the sequence that the bytes spell, after judging
+    /// them once as `decode_sequence` does. Component indices must be below `count`. `place` is
+    /// where the bytes begin in the envelope; the places of commands and refusals are counted from
+    /// the envelope's start. Allocates nothing.
     pub fn new(bytes: &'a [u8], place: u64, shared: bool, count: u32) -> Result<Walk<'a>, Refusal>
         requires place { place + length bytes.now < 2 ^ 64 }
         requires short { length bytes.now < 2 ^ 32 }
@@ -91,7 +92,7 @@ impl<'a> Walk<'a> {
         Ok(Walk::start(left, count))
     }
 
-    /// The next command of the sequence that was entered last. `None` stands exactly at its end.
+    /// The next command of the sequence that was entered last, or `None` at its end.
     pub fn next(&mut self) -> Option<View<'a>>
         ensures { LendsView self.old self.new result }
     {
@@ -109,8 +110,8 @@ impl<'a> Walk<'a> {
         }
     }
 
-    /// Enters the branch with this number of the command that was lent last in this sequence. Its bytes are not judged
-    /// again.
+    /// Enters the branch with this number of the command that was returned last in this sequence.
+    /// The branch is not judged again.
     pub fn enter(&mut self, branch: u32) -> Entered
         ensures { Enters self.old self.new branch result }
     {
@@ -128,8 +129,8 @@ impl<'a> Walk<'a> {
         }
     }
 
-    /// Goes back to the sequence around, behind the command whose branch was entered. That command is then the one that
-    /// was lent last. Does nothing in the outermost sequence.
+    /// Leaves the sequence that was entered last. The walk goes on after the command whose branch
+    /// was entered, which counts as the one returned last. Does nothing in the outermost sequence.
     pub fn leave(&mut self)
         ensures { Leaves self.old self.new }
     {

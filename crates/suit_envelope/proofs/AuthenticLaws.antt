@@ -1,4 +1,4 @@
--- The blocks of a wrapper that is spelled are read, with their payload.
+-- The blocks of a wrapper are read with their payload.
 use Rattle.std.proofs.Common.{◌≡◌, ℕ, List, [], ◌∷◌, length, Ok, Err, refl, sym, ap, subst, ◌∙◌}
 use Rattle.det_cbor.specs.DataItem.{ByteString, spell, spell_items, AreValidWithin}
 use Rattle.det_cbor.specs.Position.{Position}
@@ -25,7 +25,7 @@ first_is wrapper digest blocks f = rw f.starts f.held
 pub contents_after : (wrapper : List ℕ) (digest : Digest) (blocks : List (List ℕ)) → WrapperSays wrapper digest blocks → (f : FirstRead wrapper digest blocks) → contents_from (length blocks) f.rest ≡ Ok blocks
 contents_after wrapper digest blocks so f = contents_read 1 f.rest blocks so.spells.valid.2.1 f.left
 
--- the answer of a scan of the blocks that were read
+-- the answer of verifying the blocks that were read
 pub scan_says : (wrapper key payload : List ℕ) (content rest : Position) (count : ℕ) (answer : MacVerdict) → Ok (content, rest) ≡ first_from wrapper → count ≡ count_from wrapper → payload ≡ content.left
     → ((blocks : List (List ℕ)) → contents_from count rest ≡ Ok blocks → BlocksSay key payload blocks answer)
     → (digest : Digest) (blocks : List (List ℕ)) → WrapperSays wrapper digest blocks → BlocksSay key (payload_of digest) blocks answer

@@ -1,4 +1,4 @@
--- An envelope is authentic exactly where the answer is yes.
+-- An envelope is authentic if and only if the answer is yes.
 use Rattle.std.proofs.Common.{◌≡◌, List, ℕ, [], ◌∷◌, refl, subst}
 use Rattle.std.specs.List.{AllByRecursion}
 use Rattle.suit_params.specs.declared.digest.Digest.{Digest}

@@ -1,4 +1,4 @@
--- Filling in what entries say, one after another, is looking each number up.
+-- Putting what entries say one after another is the same as looking up each number.
 use Rattle.std.proofs.Common.{◌≡◌, ◌≢◌, ℕ, Bool, true, false, cond, eqb, List, [], ◌∷◌, Option, Some, None, refl, sym, ap, subst, ◌∙◌, inl, inr, ◌⊎◌}
 use Rattle.std.specs.Prelude.{◌||◌, option_map}
 use Rattle.std.specs.Option.{option_map_or}
@@ -15,7 +15,7 @@ use Rattle.suit_envelope.specs.declared.key.Key.TheVariants.{Wrapper, Manifest, 
 use Rattle.suit_envelope.proofs.EntryOrder.{not_above_itself, AreAbove, AreAscending, entries_ascend}
 use Rattle.suit_envelope.proofs.EnvelopeJudging.{map_fits}
 
--- ---- no number comes again
+-- ---- no number occurs twice
 
 number_is : (n : ℕ) (k : DataItem) → is_number n k ≡ true → k ≡ UnsignedInteger n
 number_is n (UnsignedInteger m) e = ap UnsignedInteger (eqb-true m n e)
@@ -67,7 +67,7 @@ keyed : (k : DataItem) → Keyed k (key_of k)
 keyed (UnsignedInteger n) = numbered n
 keyed _ = tt
 
--- ---- a part of what is said, which one key puts
+-- ---- a part of what is said that only one key puts
 
 record PutBy (X : Type 0) (part : EnvelopeSays → X) (value : List ℕ × ℕ → X) (n : ℕ) (key : Key) : Type 0 where
   here : (s : EnvelopeSays) (content : List ℕ) (place : ℕ) → part (put s key content place) ≡ value (content, place)
@@ -125,7 +125,7 @@ wrapper_part s = (s.wrapper, s.wrapper_place)
 abbrev manifest_part : EnvelopeSays → List ℕ × ℕ
 manifest_part s = (s.manifest, s.manifest_place)
 
--- a part that only one key puts
+-- a part that only one key changes
 abbrev Stays : (X : Type 0) (part : EnvelopeSays → X) (key : Key) → Type 0
 Stays X part key = (s : EnvelopeSays) (k : Key) (content : List ℕ) (place : ℕ) → k ≢ key → part (put s k content place) ≡ part s
 
@@ -164,7 +164,7 @@ content_is : (o : Option (List ℕ × ℕ)) → option_map_or (λ (c : List ℕ 
 content_is None = refl
 content_is (Some c) = refl
 
--- a required key is there
+-- a required key has an entry
 there : (n : ℕ) (es : List Entry) → AllByRecursion IsValue es → has_key n es ≡ true → (c : List ℕ × ℕ) × (under n es ≡ Some c)
 there n [] values has = absurd cc
 there n (e ∷ es) values has =

@@ -1,4 +1,4 @@
--- The keys of a map ascend, so none comes again.
+-- The keys of a map ascend, so none occurs twice.
 use Rattle.std.proofs.Common.{◌≡◌, ℕ, ◌+◌, true, List, [], ◌∷◌, length, Option, Some, refl, sym, ap, ◌∙◌}
 use Rattle.std.specs.List.{AllByRecursion}
 use Rattle.std.specs.Ordering.{is_lt, nat_cmp}
@@ -20,16 +20,16 @@ above_trans a b c p q = ap is_lt (nat_list_cmp_total.trans a b c (less (slice_cm
 pub not_above_itself : (a : List ℕ) → IsAbove (Some a) a → ⊥
 not_above_itself a p = let never : is_lt Equal ≡ true = ap is_lt (sym (same_key a)) ∙ p in absurd cc
 
--- each key is above a spelling
+-- each key sorts above this spelling
 abbrev pub AreAbove : List ℕ → List Entry → Type 0
 AreAbove a es = AllByRecursion (λ (e : Entry). IsAbove (Some a) (spell e.key)) es
 
--- each key is below the later ones
+-- each key sorts below the later ones
 abbrev pub AreAscending : List Entry → Type 0
 AreAscending [] = Unit {0}
 AreAscending (e ∷ es) = AreAbove (spell e.key) es × AreAscending es
 
--- whatever is above b is above a
+-- what sorts above b sorts above a
 all_above : (levels place : ℕ) (a b : List ℕ) (ps : DataPairs) → ((c : List ℕ) → IsAbove (Some b) c → IsAbove (Some a) c) → ArePairsWithin levels (Some b) ps → AreAbove a (entries place ps)
 all_above levels place a b NoPairs further valid = tt
 all_above levels place a b (PairThen key value ps) further valid =

@@ -1,4 +1,4 @@
--- The answer of a call that decodes an envelope, by the grammar and the refusals.
+-- The answer of the call that decodes an envelope, in terms of the grammar and the refusals.
 use Rattle.std.proofs.Common.{◌≡◌, ◌<◌, ◌^◌, ℕ, List, length, Result, Ok, Err, sym, ◌∙◌}
 use Rattle.std.specs.Prelude.{IfOk, IfErr}
 use Rattle.det_cbor.specs.HeadReading.{map_ok}

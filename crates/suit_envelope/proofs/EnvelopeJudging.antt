@@ -1,4 +1,4 @@
--- The judgement of an envelope is that of the grammar and the refusals.
+-- Judging an envelope agrees with the grammar and the refusals.
 use Rattle.std.proofs.Common.{◌≡◌, ◌≢◌, ℕ, ◌+◌, Bool, true, false, cond, List, [], ◌∷◌, length, Option, Some, None, Result, Ok, Err, refl, sym, ap, subst, ◌∙◌, inl, inr, ◌⊎◌}
 use Rattle.std.specs.Prelude.{◌==◌}
 use Rattle.det_cbor.specs.Heads.{head_bytes}
@@ -91,7 +91,7 @@ held_value place x = judge_held judge_wrapper place x
 abbrev passed : Digest → Result Unit Refusal
 passed digest = Ok tt
 
--- which a key is
+-- a key is the wrapper's or another one
 wrapper_or_other : (P : Key → Type 0) → P Wrapper → ((key : Key) → key ≢ Wrapper → ((place : ℕ) (x : DataItem) → judge_content place x key ≡ judge_content place x Text) → P key) → (key : Key) → P key
 wrapper_or_other P wrapper other Wrapper = wrapper
 wrapper_or_other P wrapper other Manifest = other Manifest (λ e. absurd cc) (λ place x. refl)
@@ -101,7 +101,7 @@ wrapper_or_other P wrapper other Text = other Text (λ e. absurd cc) (λ place x
 wrapper_or_other P wrapper other Payload = other Payload (λ e. absurd cc) (λ place x. refl)
 wrapper_or_other P wrapper other Unknown = other Unknown (λ e. absurd cc) (λ place x. refl)
 
--- ---- values that are byte strings, whatever they hold
+-- ---- values that are byte strings with any content
 
 plain_ok : (place : ℕ) (x : DataItem) → judge_content place x Text ≡ Ok tt → IsByteString x
 plain_ok place x e =
@@ -127,7 +127,7 @@ no_bytes place x key none =
     (λ y o f. wrapper_or_other (λ (k : Key). judge_content place y k ≡ Err (refused place Shape)) (rw (o.judged place) refl) (λ k other same. same place y ∙ rw (o.judged place) refl) key)
     x none
 
--- ---- values by their key
+-- ---- values, by key
 
 abbrev SaysValue : ℕ → DataItem → Key → Type 0
 SaysValue place x key = IsByteString x × (key ≡ Wrapper → (digest : Digest) × SaysHeld IsWrapper place x digest)
@@ -235,7 +235,7 @@ envelope_refuses place x r (BadValue m s is known required bad) =
     let es = map_entries m in
     map_judged place x m is ∙ rw (each_again Anything judge_key IsKnown RefusesKey keys_judge es known, each_again Anything (judge_lack m.place es) (Required m) (RefusesLack m.place es) (lacks_judge m.place es) (2 ∷ 3 ∷ []) required, each_refused (FitsWithin 0) judge_value IsValue RefusesValue (values_judge 0) es s bad) refl
 
--- the pairs of an envelope's map are valid within a level or two more
+-- the pairs of an envelope's map are valid one or two levels further in
 pub record PairsFit (levels : ℕ) (m : EnvelopeMap) : Type 0 where
   pub within : ℕ
   pub valid : ArePairsWithin within None m.pairs
@@ -250,7 +250,7 @@ map_fits levels place (TaggedItem tag x) m valid e = by_tag (◌==◌ tag 107) x
     by_tag true _ m v f = absurd cc
 map_fits levels place _ m valid e = absurd cc
 
--- the map of an envelope, or none
+-- an item has the map of an envelope, or it has none
 shape_of : (place : ℕ) (x : DataItem) → (envelope_map place x ≡ None) ⊎ ((m : EnvelopeMap) × (envelope_map place x ≡ Some m))
 shape_of place x = by_map (envelope_map place x) refl
   where

@@ -1,4 +1,4 @@
--- An envelope that is read is judged so.
+-- Reading an envelope agrees with judging it.
 use Rattle.std.proofs.Common.{◌≡◌, ℕ, suc, ◌+◌, Bool, true, false, cond, eqb, List, [], ◌∷◌, ◌++◌, Option, None, Result, Ok, Err, refl, sym, ap, ◌∙◌}
 use Rattle.std.specs.Result.{result_ok}
 use Rattle.std.proofs.lemmas.List.{append-nil}
@@ -37,7 +37,7 @@ regroup : (r : Result Position Refusal) (f : Position → Result Digest Refusal)
 regroup (Ok item) f = refl
 regroup (Err e) f = refl
 
--- the wrapper's content is judged as it is read
+-- the wrapper's content is read as it is judged
 wrapper_says : (levels place : ℕ) (bytes : List ℕ) → IsValidWithin levels (ByteString bytes) → wrapper_held (record { left = bytes; place = content_place place bytes }) ≡ judge_content place (ByteString bytes) Wrapper
 wrapper_says levels place bytes valid =
     let c : Position = record { left = bytes; place = content_place place bytes } in
@@ -66,7 +66,7 @@ no_content place x r Text e = rw e refl
 no_content place x r Payload e = rw e refl
 no_content place x r Unknown e = rw e refl
 
--- the content of an item that is a byte string
+-- the content of an item, if it is a byte string
 abbrev value_is : ℕ → DataItem → Option Position
 value_is place x = result_ok (judge_string place x)
 
@@ -91,7 +91,7 @@ value_put s key place _ = refl
 
 -- ---- pairs
 
--- the result of entries after pairs that said this
+-- what the pairs say after more entries
 abbrev more : PairsSay → List Entry → PairsSay
 more s es = record { seen = see_all s.seen es; said = put_all s.said es; judged = s.judged >>= λ _. judge_each judge_value es }
 

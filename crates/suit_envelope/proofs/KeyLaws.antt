@@ -1,4 +1,4 @@
--- Keys: how they are read, which of them are seen, and what lacks.
+-- Keys: how they are read, which have been seen, and which are missing.
 use Rattle.std.proofs.Common.{◌≡◌, ℕ, ◌+◌, Bool, true, false, cond, eqb, List, [], ◌∷◌, ◌++◌, length, Result, Ok, Err, refl, sym, ap, subst, ◌∙◌, inl, inr, ◌⊎◌, arith}
 use Rattle.std.specs.Prelude.{◌||◌}
 use Rattle.std.proofs.lemmas.Bool.{eqb-true}
@@ -27,7 +27,7 @@ use Rattle.suit_envelope.specs.declared.key.Seen.{Seen}
 pub inner_read : (levels : ℕ) (p : Position) (x : DataItem) (rest : List ℕ) → IsValidWithin levels x → p.left ≡ spell x ++ rest → inner_from p ≡ Ok (inside p x, after p (spell x) rest)
 inner_read levels p x rest valid is = rw (item_read p x rest (valid_alone levels x valid) is) refl
 
--- a key that is known is passed over; of any other it is told by its head that it is not
+-- a known key is read completely; of any other one, the head shows that it is unknown
 pub key_read : {A : Type 0} (levels place : ℕ) (p : Position) (k : DataItem) (rest : List ℕ) (f : Key × Position → Result A Refusal) → IsValidWithin levels k → p.left ≡ spell k ++ rest
     → (key_from p >>= λ found. known_key place found.0 >>= λ _. f found) ≡ (known_key place (key_of k) >>= λ _. f (key_of k, after p (spell k) rest))
 unfolding key_from
@@ -52,14 +52,14 @@ either : (b : Bool) → (b ≡ true) ⊎ (b ≡ false)
 either true = inl refl
 either false = inr refl
 
--- a number after the two that are required changes nothing
+-- a number other than the two required ones changes nothing
 others_unseen : (s : Seen) (fetch install text : Bool) → see s (cond fetch PayloadFetch (cond install Install (cond text Text Unknown))) ≡ s
 others_unseen s true install text = refl
 others_unseen s false true text = refl
 others_unseen s false false true = refl
 others_unseen s false false false = refl
 
--- what is seen after a key of the wrapper, or not, and one of the manifest, or not
+-- what has been seen, given whether there are keys of the wrapper and of the manifest
 abbrev seen_with : Seen → Bool → Bool → Seen
 seen_with s wrapper manifest = record { wrapper = s.wrapper || wrapper; manifest = s.manifest || manifest }
 
@@ -100,7 +100,7 @@ all_are_seen s (e ∷ es) =
       manifest = or_assoc s.manifest (is_number 3 e.key) (has_key 3 es) i;
     })
 
--- the keys seen decide which are missing
+-- the keys that were seen decide which are missing
 pub lacks_is : (place : ℕ) (es : List Entry) → all_seen place (see_all (record { wrapper = false; manifest = false }) es) ≡ judge_each (judge_lack place es) (2 ∷ 3 ∷ [])
 lacks_is place es =
     let none : Seen = record { wrapper = false; manifest = false } in

@@ -1,4 +1,4 @@
--- One more turn of the loops that read elements and pairs.
+-- One more turn of the loops over elements and pairs.
 use Rattle.std.proofs.Common.{◌≡◌, ℕ, suc, ◌+◌, ◌-◌, ◌<◌, Result, Ok, refl, sym, ◌∙◌, arith}
 use Rattle.det_cbor.specs.Position.{Position}
 use Rattle.suit_params.specs.declared.refusal.Refusal.{Refusal}

@@ -1,4 +1,4 @@
--- Going over the blocks of a wrapper, with the first difference so far.
+-- Verifying the blocks of a wrapper one by one, with the first difference so far.
 use Rattle.std.proofs.Common.{◌≡◌, ◌≢◌, ℕ, suc, ◌+◌, ◌-◌, ◌<◌, ◌↔◌, List, [], ◌∷◌, Option, Some, None, Ok, Err, refl, sym, subst, ◌∙◌, arith}
 use Rattle.std.specs.List.{AllByRecursion}
 use Rattle.det_cbor.specs.HeadReading.{◌>>=◌}
@@ -15,14 +15,14 @@ use Rattle.suit_params.specs.Reading.{content_from}
 use Rattle.suit_envelope.specs.declared.macs.Difference.{Difference}
 use Rattle.suit_envelope.specs.Macs.{FailsToVerify, SomeVerifies, ThisVerifies, ALaterVerifies, ThisDiffers, ALaterDiffers, BlocksSay, contents_from, kept, last_answer}
 
--- the answer on the blocks that are left, after the first difference so far
+-- the answer for the blocks that are left, given the first difference so far
 abbrev pub Ends : List ℕ → List ℕ → Option Difference → List (List ℕ) → MacVerdict → Type 0
 Ends key payload None rest answer = BlocksSay key payload rest answer
 Ends key payload (Some d) rest verdict.Verified = SomeVerifies key payload rest
 Ends key payload (Some d) rest verdict.OtherKind = ⊥
 Ends key payload (Some d) rest (verdict.Differs expected found) = AllByRecursion (FailsToVerify key payload) rest × (d.expected ≡ expected) × (d.found.now ≡ found.now)
 
--- the blocks that are left, and that what is answered of them is answered of all
+-- the blocks that are left; what is answered for them is answered for all
 pub record Left (key payload : List ℕ) (total : List (List ℕ)) (n : ℕ) (p : Position) (first : Option Difference) : Type 0 where
   pub rest : List (List ℕ)
   pub read : contents_from n p ≡ Ok rest
@@ -34,7 +34,7 @@ next_first None verdict.Verified = None
 next_first None verdict.OtherKind = None
 next_first None (verdict.Differs expected found) = Some (record { expected = expected; found = found })
 
--- one block more, which did not verify
+-- one more block, which does not verify
 pub ends_step : (key payload block : List ℕ) (rest : List (List ℕ)) (first : Option Difference) (v answer : MacVerdict) → v ≢ verdict.Verified → FailsToVerify key payload block → IsJustified v block key payload
     → Ends key payload (next_first first v) rest answer → Ends key payload first (block ∷ rest) answer
 unfolding next_first
@@ -50,12 +50,12 @@ ends_step key payload block rest None (verdict.Differs x f) verdict.OtherKind ot
 ends_step key payload block rest None (verdict.Differs x f) (verdict.Differs expected found) other fails is e =
     ((fails, e.0), ThisDiffers block rest (subst (λ (t : MacTag). Mismatches block key payload (tag_bytes t) found.now) e.1 (subst (λ (t : List ℕ). Mismatches block key payload (tag_bytes x) t) e.2 is)))
 
--- one block more, which verified
+-- one more block, which verifies
 pub ends_verified : (key payload block : List ℕ) (rest : List (List ℕ)) (first : Option Difference) → Verifies block key payload → Ends key payload first (block ∷ rest) verdict.Verified
 ends_verified key payload block rest (Some d) v = ThisVerifies block rest v
 ends_verified key payload block rest None v = ThisVerifies block rest v
 
--- no block more
+-- no blocks are left
 pub ends_last : (key payload : List ℕ) (first : Option Difference) → Ends key payload first [] (last_answer first)
 ends_last key payload None = tt
 ends_last key payload (Some d) = (tt, refl, refl)
@@ -109,7 +109,7 @@ left_last key payload total p first left =
     let nothing : left.rest ≡ [] = sym (same_ok [] left.rest left.read) in
     left.answers (last_answer first) (subst (λ (r : List (List ℕ)). Ends key payload first r (last_answer first)) (sym nothing) (ends_last key payload first))
 
--- ---- turns, by the verdict on the block
+-- ---- turns of the loop, by the verdict on the block
 
 fails_by : (key payload block : List ℕ) (v w : MacVerdict) → v ≡ w → w ≢ verdict.Verified → ((v ≡ verdict.Verified) ↔ Verifies block key payload) → FailsToVerify key payload block
 fails_by key payload block v w is other iff verifies = other (sym is ∙ iff.1 verifies)

@@ -1,4 +1,4 @@
--- The pairs of an envelope that is made of its parts.
+-- The pairs of an envelope that is made from its parts.
 use Rattle.std.proofs.Common.{◌≡◌, ℕ, List, [], ◌∷◌, length, refl, arith}
 use Rattle.det_cbor.specs.DataItem.{pair_count}
 use Rattle.suit_envelope.specs.Making.{payload_pairs}

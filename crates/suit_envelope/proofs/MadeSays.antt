@@ -1,4 +1,4 @@
--- An envelope that is made of its parts says these parts.
+-- An envelope that is made from its parts says those parts.
 use Rattle.std.proofs.Common.{◌≡◌, ◌≢◌, ℕ, ◌+◌, true, List, [], ◌∷◌, length, Option, Some, None, refl, sym, ap, subst}
 use Rattle.std.specs.List.{AllByRecursion}
 use Rattle.det_cbor.specs.Heads.{head_bytes}
@@ -66,7 +66,7 @@ payloads_made : (place : ℕ) (ps : List (List ℕ × List ℕ)) → integrated_
 payloads_made place [] = refl
 payloads_made place (p ∷ ps) = ap (λ (rest : List (List ℕ × List ℕ)). p ∷ rest) (payloads_made (place + length (spell (TextString p.0)) + length (spell (ByteString p.1))) ps)
 
--- a member is no payload
+-- a member is not a payload
 member_beside : (place n : ℕ) (member : Option (List ℕ)) (ps : DataPairs) (payloads : List (List ℕ × List ℕ)) → ((at : ℕ) → integrated_payloads (entries at ps) ≡ payloads)
     → integrated_payloads (entries place (member_then n member ps)) ≡ payloads
 member_beside place n None ps payloads rest = rest place
@@ -78,7 +78,7 @@ all_payloads place parts =
     (λ at. member_beside at 20 parts.install _ parts.payloads
     (λ at. member_beside at 23 parts.text _ parts.payloads (λ at. payloads_made at parts.payloads)))
 
--- the grammar takes what is made, it says what the parts are, and it has their payloads
+-- what is made follows the grammar, says what the parts are, and has their payloads
 pub record Made (parts : EnvelopeParts) : Type 0 where
   pub said : EnvelopeSays
   pub is : IsEnvelope 0 (envelope_made parts) said

@@ -1,4 +1,4 @@
--- An envelope that is made of its parts is a valid item.
+-- An envelope that is made from its parts is a valid item.
 use Rattle.std.proofs.Common.{◌≡◌, ℕ, ◌<◌, ◌≤◌, ◌^◌, true, List, [], ◌∷◌, Option, Some, None, refl, ap, ◌∙◌, arith}
 use Rattle.std.specs.Prelude.{IfSome}
 use Rattle.std.specs.List.{AllByRecursion}
@@ -13,7 +13,7 @@ use Rattle.suit_envelope.specs.declared.parts.EnvelopeParts.{EnvelopeParts}
 use Rattle.suit_envelope.specs.Making.{member_then, payload_pairs, pairs_made, envelope_made, IsText, IsPayload}
 use Rattle.suit_envelope.specs.PayloadOrder.{AreAscending}
 
--- the bounds of parts by the types of the code
+-- the bounds that the types of the code set the parts
 pub record Fits (parts : EnvelopeParts) : Type 0 where
   pub required : AllByRecursion IsString (parts.wrapper ∷ parts.manifest ∷ [])
   pub members : AllByRecursion (λ m. IfSome m IsString) (parts.payload_fetch ∷ parts.install ∷ parts.text ∷ [])
@@ -31,7 +31,7 @@ number_below m n lt small = below (UnsignedInteger m) (UnsignedInteger n) (omega
 text_above : (n : ℕ) (text : List ℕ) → n < 24 → IsText text → is_lt (slice_cmp nat_cmp (spell (UnsignedInteger n)) (spell (TextString text))) ≡ true
 text_above n text small valid = below (UnsignedInteger n) (TextString text) (omega arith) valid refl
 
--- ---- pairs after the key of a number up to this one
+-- ---- pairs that follow a key whose number is at most this one
 
 Follows : ℕ → DataPairs → Type 0
 Follows n ps = (m : ℕ) → m ≤ n → ArePairsWithin 2 (Some (spell (UnsignedInteger m))) ps

@@ -1,4 +1,4 @@
--- A member is got exactly where its digest is the stated one.
+-- A member is returned if and only if its digest is the stated one.
 use Rattle.std.proofs.Common.{◌≡◌, ◌↔◌, ◌∙◌, ℕ, List, Option, Some, subst}
 use Rattle.suit_params.specs.declared.digest.Digest.{Digest}
 use Rattle.suit_envelope.specs.Members.{string_like, AnswersMember, IsGot}

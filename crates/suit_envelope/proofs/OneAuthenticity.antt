@@ -1,4 +1,4 @@
--- Of a wrapper, a manifest and a key one answer is told.
+-- There is one answer for a wrapper, a manifest and a key.
 use Rattle.std.proofs.Common.{◌≡◌, ℕ, List, [], ◌∷◌, sym, ap, ◌∙◌}
 use Rattle.std.specs.List.{AllByRecursion}
 use Rattle.hmac_mac0.specs.Mac0.{Mismatches, tag_of}

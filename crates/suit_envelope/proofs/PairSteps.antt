@@ -1,4 +1,4 @@
--- The pairs of a map that is spelled at a position, one after the other.
+-- The pairs of a map at a position, one after another.
 use Rattle.std.proofs.Common.{◌≡◌, ℕ, suc, ◌+◌, ◌++◌, List, Option, Some, refl, subst, ◌∙◌, append_assoc, arith}
 use Rattle.det_cbor.specs.DataItem.{DataItem, DataPairs, NoPairs, PairThen, pair_count, spell, spell_pairs, IsValidWithin, ArePairsWithin}
 use Rattle.det_cbor.specs.Position.{Position}
@@ -8,7 +8,7 @@ use Rattle.suit_params.specs.HeadLaws.{after}
 abbrev pub after_pair : Position → DataItem → DataItem → List ℕ → Position
 after_pair p key value rest = after (after p (spell key) (spell value ++ rest)) (spell value) rest
 
--- a pair stands at a position, before others, for which this holds
+-- a pair is at a position, before others for which P holds
 pub record PairFirst (P : ℕ → Position → DataPairs → Type 0) (levels : ℕ) (p : Position) (key value : DataItem) (ps : DataPairs) (rest : List ℕ) : Type 0 where
   pub key_valid : IsValidWithin levels key
   pub value_valid : IsValidWithin levels value

@@ -1,4 +1,4 @@
--- The parts of an envelope lie within the bytes that spell it, and are byte strings.
+-- The parts of an envelope are inside the bytes that spell it, and are byte strings.
 use Rattle.std.proofs.Common.{◌≡◌, ℕ, Bool, true, false, cond, eqb, List, [], ◌∷◌, ◌++◌, length, Option, Some, None, sym, ap, subst, ◌∙◌, ◌+◌, ◌≤◌, ◌<◌, arith, lit<}
 use Rattle.std.specs.Prelude.{IfSome}
 use Rattle.std.specs.List.{AllByRecursion}
@@ -12,7 +12,7 @@ use Rattle.suit_envelope.specs.Envelopes.{Entry, entries, EnvelopeMap, map_entri
 use Rattle.suit_envelope.specs.Places.{EndsBelow, PartsEndBelow, PartsAreStrings}
 use Rattle.suit_envelope.proofs.EnvelopeJudging.{map_fits}
 
--- a byte string that stands at a place ends before another
+-- a byte string at a place ends before another place
 record Lies (end : ℕ) (content : List ℕ) (place : ℕ) : Type 0 where
   inside : place + length content ≤ end
   string : IsString content

@@ -1,4 +1,4 @@
--- No two payloads of an envelope have one key, so looking a key up finds the payload that has it.
+-- No two payloads of an envelope have the same key, so looking up a key finds the payload that has it.
 use Rattle.std.proofs.Common.{◌≡◌, ◌≢◌, ℕ, zero, suc, Bool, true, false, List, [], ◌∷◌, Some, refl, sym, ap, subst, ◌∙◌, inl, inr, arith}
 use Rattle.std.specs.List.{AllByRecursion, Contains}
 use Rattle.std.specs.Str.{bytes_eq}
@@ -15,11 +15,11 @@ Payloads = List (List ℕ × List ℕ)
 
 -- ---- the order of keys
 
--- each payload's key is above a spelling
+-- the key of each payload sorts above this spelling
 abbrev KeysAbove : List ℕ → Payloads → Type 0
 KeysAbove a ps = AllByRecursion (λ (p : List ℕ × List ℕ). IsAbove (Some a) (spell (TextString p.0))) ps
 
--- no key comes again
+-- no key occurs twice
 abbrev pub AreApart : Payloads → Type 0
 AreApart [] = Unit {0}
 AreApart (p ∷ ps) = AllByRecursion (λ (q : List ℕ × List ℕ). p.0 ≢ q.0) ps × AreApart ps

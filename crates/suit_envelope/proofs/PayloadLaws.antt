@@ -1,4 +1,4 @@
--- The payloads of an envelope that is spelled are found by their keys.
+-- The payloads of an envelope are found by their keys.
 use Rattle.std.proofs.Common.{◌≡◌, ◌≢◌, ℕ, suc, ◌+◌, ◌-◌, ◌<◌, Bool, true, false, cond, eqb, List, [], ◌++◌, length, Option, Some, None, Result, Ok, Err, refl, sym, ap, subst, ◌∙◌, arith}
 use Rattle.std.specs.Prelude.{IfSome, option_map}
 use Rattle.std.specs.List.{AllByRecursion, Contains}
@@ -40,8 +40,8 @@ text_read levels p _ rest known valid is = absurd (known refl)
 
 -- ---- pairs
 
--- a pair is read at a position: its key, as far as it is a text, and the content of its value; of the pairs behind it,
--- whose payloads are these, this holds
+-- a pair is read at a position: its key, if it is a text, and the content of its value; P holds of the pairs
+-- after it, whose payloads are these
 pub record PayloadFirst (P : ℕ → Position → Payloads → Type 0) (n : ℕ) (p : Position) (key : DataItem) (content : List ℕ) (others : Payloads) : Type 0 where
   pub levels : ℕ
   pub valid : IsValidWithin levels key
@@ -53,12 +53,12 @@ pub record PayloadFirst (P : ℕ → Position → Payloads → Type 0) (n : ℕ)
   pub held : content_from behind ≡ Ok (record { left = content; place = place }, next)
   pub later : P n next others
 
--- this holds of no pair, and of a pair more
+-- P holds of no pairs, and of one more pair
 pub record PayloadSteps (P : ℕ → Position → Payloads → Type 0) : Type 0 where
   pub none : (p : Position) → P 0 p []
   pub more : (n : ℕ) (p : Position) (key : DataItem) (content : List ℕ) (others : Payloads) → PayloadFirst P n p key content others → P (suc n) p (payload_then key (ByteString content) others)
 
--- this holds of the payloads among pairs that are good
+-- P holds of the payloads among pairs that are good
 abbrev AmongGood : (ℕ → Position → Payloads → Type 0) → ℕ → Position → DataPairs → Type 0
 AmongGood P n p ps = AllByRecursion IsKnown (entries p.place ps) → AllByRecursion IsValue (entries p.place ps) → P n p (integrated_payloads (entries p.place ps))
 
@@ -82,7 +82,7 @@ first_good P steps levels p key value ps rest first = λ known values.
     (λ y other b. absurd (other.other b))
     value values.0.0 first known values
 
--- a pair whose value is this byte string is the first payload, or it is none
+-- a pair with this byte string as its value is the first payload, or not a payload
 first_or_later : (wanted : List ℕ) (k : DataItem) (content : List ℕ) (others : List (List ℕ × List ℕ)) → key_of k ≢ Unknown
     → or_later (content_where (is_wanted (text_of k) wanted) content) (Ok (payload_under others wanted)) ≡ Ok (payload_under (payload_then k (ByteString content) others) wanted)
 first_or_later wanted (TextString text) content others known = by_test (bytes_eq text wanted)
@@ -145,7 +145,7 @@ map_read _ m valid is = absurd cc
 
 -- ---- the envelope
 
--- of the payloads of an envelope this holds, by the pairs of its map
+-- P holds of the payloads of an envelope, given the pairs of its map
 pub record PayloadsHeld (P : ℕ → Position → Payloads → Type 0) (bytes : List ℕ) (payloads : Payloads) : Type 0 where
   pub count : ℕ
   pub start : Position

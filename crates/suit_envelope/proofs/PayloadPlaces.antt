@@ -1,4 +1,4 @@
--- Payloads are put in the order of their keys' spellings.
+-- Payloads are put at their places in the order of their keys' spellings.
 use Rattle.std.proofs.Common.{◌≡◌, ℕ, suc, ◌^◌, ◌<◌, zero, List, [], ◌∷◌, ◌++◌, length, get_or, take, drop, drop-cons, Option, Some, None, refl, sym, ap, ◌∙◌, arith}
 use Rattle.std.specs.List.{AllByRecursion, slice_set}
 use Rattle.std.specs.Str.{IsUtf8}
@@ -19,11 +19,11 @@ bytes_fit : (bytes : List ℕ) → ((i : ℕ) → get_or bytes i 0 < 256) → Al
 bytes_fit [] fits = tt
 bytes_fit (b ∷ bytes) fits = (fits 0, bytes_fit bytes (λ i. fits (suc i)))
 
--- the property of a text by its type
+-- what the type of a text says
 pub is_text : (text : List ℕ) → length text < 2 ^ 64 → ((i : ℕ) → get_or text i 0 < 256) → IsUtf8 text → IsText text
 is_text text short fits utf8 = ((short, bytes_fit text fits), utf8)
 
--- the shorter text first, and texts of one length by their bytes
+-- the shorter text comes first, and texts of the same length are in bytewise order
 text_order : (a b : List ℕ) → IsText a → IsText b → key_order a b ≡ ordering_then (nat_cmp (length a) (length b)) (slice_cmp nat_cmp a b)
 text_order a b u v = Cuts-order (item_order (TextString a) (TextString b)) (spell (TextString a)) (spell (TextString b)) (items_cut_apart 0 0 (TextString a) (TextString b) u v)
 
@@ -33,7 +33,7 @@ by_bytes a b u v e = sym (text_order a b u v ∙ ap (λ o. ordering_then o (slic
 pub by_length : (a b : List ℕ) → IsText a → IsText b → (nat_cmp (length a) (length b) ≡ Equal → ⊥) → nat_cmp (length a) (length b) ≡ key_order a b
 by_length a b u v other = sym (text_order a b u v ∙ first_decides (nat_cmp (length a) (length b)) (slice_cmp nat_cmp a b) other)
 
--- ---- keys that ascend still do
+-- ---- keys still ascend
 
 abbrev Payload : Type 0
 Payload = List ℕ × List ℕ
@@ -60,15 +60,15 @@ put_above before p (q ∷ qs) above ascend = put_by_order before p q qs (key_ord
 pub put_ascends : (p : Payload) (list : List Payload) → AreAscending None list → AreAscending None (put_payload p list)
 put_ascends p list ascend = put_above None p list tt ascend
 
--- ---- where a key is put among those that ascend
+-- ---- where a key is put among keys that ascend
 
--- each key is above what the list ascends above
+-- each key is above what the whole list is above
 key_above : (a : List ℕ) (list : List Payload) (i : ℕ) (q : Payload) → i < length list → q ≡ get_or list i q → AreAscending (Some a) list → IsAbove (Some a) (key_bytes q)
 key_above a [] i q h is ascend = absurd (omega arith)
 key_above a (r ∷ rs) zero q h is ascend = rw is ascend.0
 key_above a (r ∷ rs) (suc i) q h is ascend = above_trans a (key_bytes r) (key_bytes q) ascend.0 (key_above (key_bytes r) rs i q (omega arith) is ascend.1)
 
--- a key that is another one, or above it, is above all that the other is above
+-- a key that equals another one, or is above it, is above everything that the other is above
 over_equal : (p q r : Payload) → key_order p.0 q.0 ≡ Equal → IsAbove (Some (key_bytes r)) (key_bytes q) → key_order p.0 r.0 ≡ Greater
 over_equal p q r e above = nat_list_cmp_total.congr (key_bytes p) (key_bytes q) (key_bytes r) e ∙ below_is_above (key_bytes q) (key_bytes r) above
 
@@ -78,7 +78,7 @@ over_above p q r e above = below_is_above (key_bytes p) (key_bytes r) (above_tra
 put_past : (p q : Payload) (qs : List Payload) → key_order p.0 q.0 ≡ Greater → put_payload p (q ∷ qs) ≡ q ∷ put_payload p qs
 put_past p q qs e = ap (λ o. match_ordering o (p ∷ q ∷ qs) (p ∷ qs) (q ∷ put_payload p qs)) e
 
--- a key that is at a place is put behind those before
+-- a key that is at a place is put after those before it
 pub put_from : (before : Option (List ℕ)) (p q : Payload) (list : List Payload) (i : ℕ) → i < length list → q ≡ get_or list i q → key_order p.0 q.0 ≡ Equal → AreAscending before list
     → put_payload p list ≡ take i list ++ put_payload p (drop i list)
 put_from before p q [] i h is e ascend = absurd (omega arith)
@@ -87,7 +87,7 @@ put_from before p q (r ∷ rs) (suc i) h is e ascend =
     put_past p r rs (over_equal p q r e (key_above (key_bytes r) rs i q (omega arith) is ascend.1))
     ∙ ap (λ qs. r ∷ qs) (put_from (Some (key_bytes r)) p q rs i (omega arith) is e ascend.1)
 
--- a key above the one at a place is put behind this one too
+-- a key above the one at a place is put after that one too
 pub put_behind : (before : Option (List ℕ)) (p q : Payload) (list : List Payload) (i : ℕ) → i < length list → q ≡ get_or list i q → key_order p.0 q.0 ≡ Greater → AreAscending before list
     → put_payload p list ≡ take (suc i) list ++ put_payload p (drop (suc i) list)
 put_behind before p q [] i h is e ascend = absurd (omega arith)
@@ -96,7 +96,7 @@ put_behind before p q (r ∷ rs) (suc i) h is e ascend =
     put_past p r rs (over_above p q r e (key_above (key_bytes r) rs i q (omega arith) is ascend.1))
     ∙ ap (λ qs. r ∷ qs) (put_behind (Some (key_bytes r)) p q rs i (omega arith) is e ascend.1)
 
--- ---- one that takes the place of another
+-- ---- one that replaces another
 
 set_at : {X : Type 0} (xs : List X) (i : ℕ) (x : X) → i < length xs → slice_set xs i x ≡ take i xs ++ x ∷ drop (suc i) xs
 set_at [] i x h = absurd (omega arith)

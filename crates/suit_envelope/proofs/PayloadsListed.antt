@@ -1,4 +1,4 @@
--- The payloads of an envelope that is spelled are listed in their order.
+-- The payloads of an envelope are listed in their order.
 use Rattle.std.proofs.Common.{◌≡◌, ◌≢◌, ℕ, suc, ◌+◌, ◌-◌, ◌<◌, List, [], ◌++◌, Option, Ok, Err, refl, sym, ap, ◌∙◌, arith}
 use Rattle.std.proofs.lemmas.List.{append-nil}
 use Rattle.std.proofs.lemmas.Str.{is_utf8-from_IsUtf8}
@@ -11,7 +11,7 @@ use Rattle.suit_envelope.specs.PayloadListing.{keyed, listed_pair, listed_then, 
 use Rattle.suit_envelope.specs.declared.key.Key.TheVariants.{Unknown}
 use Rattle.suit_envelope.proofs.PayloadLaws.{text_of, payloads_held}
 
--- a pair whose value is this byte string is the first payload, or it is none
+-- a pair with this byte string as its value is the first payload, or not a payload
 first_listed : (levels : ℕ) (k : DataItem) (content : List ℕ) (others : List (List ℕ × List ℕ)) → key_of k ≢ Unknown → IsValidWithin levels k
     → listed_then (keyed (text_of k) content) others ≡ payload_then k (ByteString content) others
 first_listed levels (TextString text) content others known valid = rw (is_utf8-from_IsUtf8 text valid.1) refl

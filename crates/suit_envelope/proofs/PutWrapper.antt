@@ -18,7 +18,7 @@ use Rattle.suit_envelope.proofs.WrapperLaws.{has_wrapper}
 abbrev Good : EnvelopeSays → Type 0
 Good s = (digest : Digest) × SaysWhole IsWrapper s.wrapper_place s.wrapper digest
 
--- a key that is not the wrapper's leaves the wrapper as it was
+-- a key other than the wrapper's leaves the wrapper
 put_other : (s : EnvelopeSays) (key : Key) (content : List ℕ) (place : ℕ) → key ≢ Wrapper → Good s → Good (put s key content place)
 put_other s Wrapper content place other good = absurd (other refl)
 put_other s Manifest content place other good = good

@@ -15,7 +15,7 @@ use Rattle.suit_envelope.proofs.MadeValid.{made_valid}
 abbrev parts_of : List ℕ → List ℕ → EnvelopeParts
 parts_of wrapper manifest = record { wrapper = wrapper; manifest = manifest; payload_fetch = None; install = None; text = None; payloads = [] }
 
--- the two parts, where so many bytes stand before the first key, and in each key
+-- what the two parts say, given the bytes before the first key, and the length of each key
 abbrev says_at : List ℕ → List ℕ → ℕ → ℕ → ℕ → EnvelopeSays
 says_at wrapper manifest start two three = record {
   tagged = true;
@@ -55,7 +55,7 @@ trims wrapper manifest holds wrapper_fits manifest_fits =
       says_so = subst (IsEnvelope 0 (trimmed_item wrapper manifest)) (made.all ∙ placed wrapper manifest) made.is;
     }
 
--- the answer of a call that wrote the trimmed envelope
+-- the answer of the call that writes the trimmed envelope
 pub says_trimmed : {E : Type 0} (wrapper manifest : List ℕ) (r : Result (List ℕ) E) → IfOk r (λ bytes. bytes ≡ trimmed wrapper manifest) → IfOk r (λ _. IsString wrapper) → IfOk r (λ _. IsString manifest) → HasWrapper wrapper → IfOk r (IsTrimmed wrapper manifest)
 says_trimmed wrapper manifest (Ok bytes) is wrapper_fits manifest_fits holds = subst (IsTrimmed wrapper manifest) (sym is) (trims wrapper manifest holds wrapper_fits manifest_fits)
 says_trimmed wrapper manifest (Err e) is wrapper_fits manifest_fits holds = tt

@@ -1,4 +1,4 @@
--- The blocks that a walk over a wrapper gives.
+-- The blocks that a walk over a wrapper returns.
 use Rattle.std.proofs.Common.{◌≡◌, ℕ, zero, suc, List, ◌∷◌, length, Ok, Err, ap, ◌∙◌}
 use Rattle.det_cbor.specs.HeadReading.{◌>>=◌}
 use Rattle.det_cbor.specs.Position.{Position}
@@ -21,7 +21,7 @@ walk_contents (suc n) p blocks is =
     let same : c.0.left ∷ rest ≡ blocks = cc in
     ap (walk_on (walked_from n)) read ∙ ap (λ (r : List (List ℕ)). c.0.left ∷ r) (walk_contents n c.1 rest others) ∙ same))
 
--- from behind the digest the walk gives all blocks
+-- after the digest, the walk returns all blocks
 pub walk_all : (wrapper : List ℕ) (content rest : Position) (count : ℕ) → Ok (content, rest) ≡ first_from wrapper → count ≡ count_from wrapper
     → (digest : Digest) (blocks : List (List ℕ)) → WrapperSays wrapper digest blocks → walked_from count rest ≡ blocks
 walk_all wrapper content rest count e counted digest blocks so =

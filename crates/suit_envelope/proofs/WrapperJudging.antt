@@ -1,4 +1,4 @@
--- A wrapper that is read is judged so, and the judgement is that of the grammar and the refusals.
+-- Reading a wrapper agrees with judging it, and judging agrees with the grammar and the refusals.
 use Rattle.std.proofs.Common.{◌≡◌, ℕ, suc, ◌+◌, ◌-◌, false, eqb, List, [], ◌++◌, Result, Ok, Err, refl, sym, ap, subst, ◌∙◌, append_assoc, arith}
 use Rattle.std.proofs.lemmas.Bool.{ne_eqb}
 use Rattle.std.proofs.lemmas.List.{append-nil}
@@ -26,7 +26,7 @@ use Rattle.suit_envelope.specs.WrapperReading.{blocks_from, digest_held_from, el
 
 -- ---- reading
 
--- a step that hangs on a string that stands before a position
+-- a step that depends on a byte string before a position
 abbrev go_on : {A : Type 0} → (Position → Result A Refusal) → Position × Position → Result A Refusal
 go_on f c = f c.1
 
@@ -56,7 +56,7 @@ by_elements : (P : DataItem → Type 0) → ((first : DataItem) (blocks : DataIt
 by_elements P some other (ArrayOf (ItemThen first blocks)) = some first blocks
 by_elements P some other x = other x (record { other = λ h. h; judged = λ place. refl; read = λ place p. refl })
 
--- the digest is read, and then the blocks
+-- the digest is read first, and then the blocks
 abbrev then_blocks : (Position → Result Unit Refusal) → Digest × Position → Result Digest Refusal
 then_blocks f d = f d.1 >>= λ _. Ok d.0
 

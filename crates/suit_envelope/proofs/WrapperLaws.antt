@@ -1,4 +1,4 @@
--- The parts of a wrapper that is spelled are read.
+-- The parts of a wrapper are read.
 use Rattle.std.proofs.Common.{◌≡◌, ℕ, zero, suc, ◌+◌, ◌-◌, ◌<◌, ◌≤◌, List, [], ◌∷◌, ◌++◌, length, Some, None, Result, Ok, Err, refl, sym, ap, subst, ◌∙◌, arith}
 use Rattle.std.specs.List.{AllByRecursion, slice_get}
 use Rattle.std.specs.Prelude.{option_map}
@@ -61,7 +61,7 @@ count_read wrapper digest blocks so =
 abbrev third : Position → Result Position Refusal
 third p = content_from p >>= λ c. Ok c.0
 
--- the block of a number, from the first on
+-- the block with a number, counted from the first
 nth_read : (levels n : ℕ) (p : Position) (blocks : List (List ℕ)) → AreValidWithin levels (strings_of blocks) → p.left ≡ spell_items (strings_of blocks) → n < length blocks
     → option_map (λ (c : Position). c.left) (result_ok (passed_from n p >>= third)) ≡ slice_get blocks n
 nth_read levels n p [] valid is lt = absurd (omega arith)

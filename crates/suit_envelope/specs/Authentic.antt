@@ -15,11 +15,12 @@ use Rattle.suit_envelope.specs.WrapperParts.{WrapperSays, start_of}
 use Rattle.suit_envelope.specs.declared.authenticity.Authenticity.{Authenticity}
 use Rattle.suit_envelope.specs.declared.authenticity.Authenticity.TheVariants as answers
 
--- the content of the wrapper's first byte string is the payload of each block
+-- the payload of each block: the content of the wrapper's first byte string
 abbrev pub payload_of : Digest → List ℕ
 payload_of digest = spell (digest_item digest)
 
--- the wrapper's digest is that of the manifest's whole byte string, under its own hash function, and some block verifies
+-- the wrapper's digest is that of the manifest's whole byte string, by its own hash function, and some block
+-- verifies
 pub record IsAuthentic (wrapper manifest key : List ℕ) : Type 0 where
   pub digest : Digest
   pub blocks : List (List ℕ)
@@ -27,7 +28,7 @@ pub record IsAuthentic (wrapper manifest key : List ℕ) : Type 0 where
   pub stated : digest ≡ string_like digest manifest
   pub verifies : SomeVerifies key (payload_of digest) blocks
 
--- the answer to a wrapper that states this digest and has these blocks; the digest is judged first
+-- the answer for a wrapper with this digest and these blocks; the digest is judged first
 abbrev pub AnswersAuthentic : Digest → List (List ℕ) → List ℕ → List ℕ → Authenticity → Type 0
 AnswersAuthentic digest blocks manifest key answers.Yes =
     (digest ≡ string_like digest manifest) × SomeVerifies key (payload_of digest) blocks
@@ -41,13 +42,13 @@ AnswersAuthentic digest blocks manifest key (answers.MacDiffers expected found) 
     × AllByRecursion (FailsToVerify key (payload_of digest)) blocks
     × FirstDiffers key (payload_of digest) (tag_bytes expected) found.now blocks
 
--- a difference that is told is one
+-- if an answer says that two digests or tags differ, they do
 abbrev pub TellsDifference : Authenticity → Type 0
 TellsDifference (answers.DigestDiffers stated found) = stated ≢ found
 TellsDifference (answers.MacDiffers expected found) = found.now ≢ tag_bytes expected
 TellsDifference _ = Unit {0}
 
--- two answers tell the same
+-- two answers say the same
 abbrev pub TellSame : Authenticity → Authenticity → Type 0
 TellSame answers.Yes answers.Yes = Unit {0}
 TellSame (answers.DigestDiffers stated found) (answers.DigestDiffers other_stated other_found) =

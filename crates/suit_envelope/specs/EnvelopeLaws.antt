@@ -1,4 +1,4 @@
--- Laws of all envelopes, whatever reads them (draft-ietf-suit-manifest-25, section 8.2).
+-- Laws of all envelopes, whichever function reads them (draft-ietf-suit-manifest-25, section 8.2).
 use Rattle.std.specs.Prelude.{◌<◌, ℕ, List, length}
 use Rattle.det_cbor.specs.DataItem.{IsString}
 use Rattle.suit_params.specs.declared.digest.Digest.{Digest}
@@ -13,8 +13,9 @@ use Rattle.suit_envelope.specs.Said.{EnvelopeOf}
 use Rattle.suit_envelope.specs.Trimmed.{trimmed, IsTrimmed}
 use Rattle.suit_envelope.specs.WrapperParts.{HasWrapper}
 
--- the laws: all bytes have one envelope or one refusal; an envelope says what stands under the numbers of its map, its
--- wrapper is one, and its parts end within its bytes and are byte strings; the trimmed envelope says its two parts
+-- Any bytes are exactly one envelope or have exactly one refusal. An envelope says what is under the numbers
+-- of its map, its wrapper is valid, and its parts end within its bytes and are byte strings. The trimmed
+-- envelope says its two parts.
 pub record EnvelopeLaws : Type 0 where
   pub whole : HasOneAnswer IsEnvelope RefusesEnvelope
   pub entries : (bytes : List ℕ) (said : EnvelopeSays) (envelope : EnvelopeOf bytes said)
@@ -28,7 +29,7 @@ pub record EnvelopeLaws : Type 0 where
   pub trims : (wrapper manifest : List ℕ) → HasWrapper wrapper → IsString wrapper
       → IsString manifest → IsTrimmed wrapper manifest (trimmed wrapper manifest)
 
--- the law: whatever is answered of a wrapper, a manifest and a key tells the same
+-- any two answers for the same wrapper, manifest and key say the same
 abbrev pub AuthenticityLaw : Type 0
 AuthenticityLaw =
     (digest : Digest) (blocks : List (List ℕ)) (manifest key : List ℕ) (a b : Authenticity)

@@ -1,4 +1,4 @@
--- How wrapper and envelope are judged, by cases: what they say, or the first refusal.
+-- How wrappers and envelopes are judged, case by case: what they say, or the first refusal.
 use Rattle.std.specs.Prelude.{ℕ, if◌then◌else◌, List, [], ◌∷◌, Option, Some, None, Result, Ok, Err}
 use Rattle.det_cbor.specs.DataItem.{DataItem, ArrayOf, ItemThen}
 use Rattle.det_cbor.specs.HeadReading.{◌>>=◌}

@@ -1,4 +1,4 @@
--- Byte strings of an envelope by their digests, and what becomes of a severed member.
+-- The digests of an envelope's byte strings, and what is answered for a severed member.
 use Rattle.std.specs.Prelude.{◌≡◌, ◌≢◌, ℕ, List, Option, Some, None}
 use Rattle.det_cbor.specs.DataItem.{ByteString, spell}
 use Rattle.suit_params.specs.declared.digest.Digest.{Digest}
@@ -14,21 +14,22 @@ use Rattle.suit_envelope.specs.declared.severed.MemberBytes.TheVariants as answe
 abbrev pub string_digest : DigestKind → List ℕ → Digest
 string_digest kind content = hash kind (spell (ByteString content))
 
--- by the hash function of a digest
+-- the same, by the hash function of this digest
 abbrev pub string_like : Digest → List ℕ → Digest
 string_like digest content = hash_like digest (spell (ByteString content))
 
+-- the content that the envelope holds for the member, if any
 abbrev pub member_of : EnvelopeSays → MemberName → Option (List ℕ)
 member_of said names.PayloadFetch = said.payload_fetch
 member_of said names.Install = said.install
 member_of said names.Text = said.text
 
--- this content was got
+-- the answer is this content
 abbrev pub IsGot : List ℕ → MemberBytes → Type 0
 IsGot content (answers.Got bytes) = bytes.now ≡ content
 IsGot content _ = ⊥
 
--- a member is taken where its digest is the stated one
+-- the answer for a member: its content if it has the stated digest
 abbrev pub AnswersMember : Option (List ℕ) → Digest → MemberBytes → Type 0
 AnswersMember None stated answers.Severed = Unit {0}
 AnswersMember None stated _ = ⊥

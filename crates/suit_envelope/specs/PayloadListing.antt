@@ -9,14 +9,16 @@ use Rattle.suit_envelope.specs.WrapperParts.{start_of}
 use Rattle.suit_envelope.specs.PayloadReading.{text_from, counted_from}
 use Rattle.suit_envelope.specs.declared.listing.KeyedPayload.{KeyedPayload}
 
+-- a payload of the code: its key and its content
 abbrev pub said_payload : KeyedPayload → List ℕ × List ℕ
 said_payload p = (p.key.now, p.content.now)
 
--- a payload, where its key is a text
+-- the payload with this key, if the key is a text
 abbrev pub keyed : Option (List ℕ) → List ℕ → Option (List ℕ × List ℕ)
 keyed None content = None
 keyed (Some key) content = option_map (λ text. (text, content)) (utf8_text key)
 
+-- the payload in the next pair, if it is one
 abbrev pub listed_pair : Position → Result (Option (List ℕ × List ℕ) × Position) Refusal
 listed_pair p = text_from p >>= λ t. content_from t.1 >>= λ c. Ok (keyed t.0 c.0.left, c.1)
 
@@ -28,7 +30,7 @@ abbrev pub listed_after : (Position → List (List ℕ × List ℕ)) → Result 
 listed_after later (Ok f) = listed_then f.0 (later f.1)
 listed_after later (Err r) = []
 
--- those among so many pairs
+-- the payloads among the next n pairs
 abbrev pub listed_from : ℕ → Position → List (List ℕ × List ℕ)
 listed_from zero p = []
 listed_from (suc n) p = listed_after (λ q. listed_from n q) (listed_pair p)
@@ -37,5 +39,6 @@ abbrev pub listed_where : Result (ℕ × Position) Refusal → List (List ℕ ×
 listed_where (Ok m) = listed_from m.0 m.1
 listed_where (Err r) = []
 
+-- the payloads of an envelope
 abbrev pub listed_payloads : List ℕ → List (List ℕ × List ℕ)
 listed_payloads whole = listed_where (counted_from (start_of whole))

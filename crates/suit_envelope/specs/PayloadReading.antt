@@ -9,7 +9,8 @@ use Rattle.suit_params.specs.declared.refusal.Refusal.{Refusal}
 use Rattle.suit_params.specs.Reading.{head_from, bytes_from, content_from}
 use Rattle.suit_envelope.specs.WrapperParts.{start_of}
 
--- a key as far as it is a text; any other key of an envelope is a number, which has no bytes after its head
+-- the bytes of a key that is a text; any other key of an envelope is a number, which has no bytes after its
+-- head
 abbrev pub text_after : ℕ → Position → HeadKind → Result (Option (List ℕ) × Position) Refusal
 text_after n p kinds.Text = bytes_from n p >>= λ b. Ok (Some b.0, b.1)
 text_after n p _ = Ok (None, p)
@@ -27,7 +28,7 @@ abbrev pub content_where : Bool → List ℕ → Option (List ℕ)
 content_where true content = Some content
 content_where false content = None
 
--- the content of the next pair, where its key is the one that is looked for
+-- the content of the next pair, if it has the key that is looked for
 abbrev pub pair_from : List ℕ → Position → Result (Option (List ℕ) × Position) Refusal
 pair_from key p =
     text_from p >>= λ t. content_from t.1
@@ -40,7 +41,7 @@ abbrev pub or_later : Option (List ℕ) → Result (Option (List ℕ)) Refusal
 or_later (Some content) later = Ok (Some content)
 or_later None later = later
 
--- the first of so many pairs with this key
+-- the content of the first of the next n pairs with this key
 abbrev pub found_from : List ℕ → ℕ → Position → Result (Option (List ℕ)) Refusal
 found_from key zero p = Ok None
 found_from key (suc n) p = pair_from key p >>= λ f. or_later f.0 (found_from key n f.1)
@@ -51,9 +52,10 @@ abbrev pub counted_after : ℕ → Position → HeadKind → Result (ℕ × Posi
 counted_after n p kinds.Tag = head_from p >>= λ h. Ok (h.0.value, h.1)
 counted_after n p _ = Ok (n, p)
 
--- how many pairs a map has, which may stand behind a tag, and the first of them
+-- the number of pairs of a map, which may be tagged, and the position of the first
 unfoldable pub counted_from : Position → Result (ℕ × Position) Refusal
 counted_from p = head_from p >>= λ h. counted_after h.0.value h.1 h.0.kind
 
+-- the content of the payload with this key, if there is one
 abbrev pub payload_from : List ℕ → List ℕ → Result (Option (List ℕ)) Refusal
 payload_from key whole = counted_from (start_of whole) >>= λ m. found_from key m.0 m.1

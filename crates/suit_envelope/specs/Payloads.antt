@@ -1,16 +1,17 @@
--- Integrated payloads (draft-ietf-suit-manifest-25, section 8.2): byte strings of an envelope's map under keys that are texts.
+-- Integrated payloads (draft-ietf-suit-manifest-25, section 8.2): byte strings of an envelope's map whose
+-- keys are texts.
 use Rattle.std.specs.Prelude.{◌≡◌, ℕ, if◌then◌else◌, List, [], ◌∷◌, Option, Some, None}
 use Rattle.std.specs.Str.{bytes_eq}
 use Rattle.det_cbor.specs.DataItem.{DataItem, TextString, ByteString}
 use Rattle.suit_envelope.specs.Envelopes.{Entry, EnvelopeSays, map_entries}
 use Rattle.suit_envelope.specs.Said.{EnvelopeOf}
 
--- a text with a byte string is a payload, which stands before the others
+-- a text with a byte string is a payload, which comes before the others
 abbrev pub payload_then : DataItem → DataItem → List (List ℕ × List ℕ) → List (List ℕ × List ℕ)
 payload_then (TextString key) (ByteString content) others = (key, content) ∷ others
 payload_then _ _ others = others
 
--- the payloads among the entries of a map: each key, and the content under it
+-- the payloads among the entries of a map: each key with its content
 abbrev pub integrated_payloads : List Entry → List (List ℕ × List ℕ)
 integrated_payloads [] = []
 integrated_payloads (e ∷ es) = payload_then e.key e.value (integrated_payloads es)
@@ -21,7 +22,7 @@ pub record HasPayloads (bytes : List ℕ) (payloads : List (List ℕ × List ℕ
   pub envelope : EnvelopeOf bytes said
   pub are : payloads ≡ integrated_payloads (map_entries envelope.says_so.map)
 
--- the content under a key, if there is one
+-- the content under this key, if there is one
 abbrev pub payload_under : List (List ℕ × List ℕ) → List ℕ → Option (List ℕ)
 payload_under [] key = None
 payload_under (p ∷ ps) key = if bytes_eq p.0 key then Some p.1 else payload_under ps key

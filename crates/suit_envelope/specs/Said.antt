@@ -1,4 +1,4 @@
--- The meaning of an envelope of the code.
+-- What an envelope of the code says.
 use Rattle.std.specs.Prelude.{List, ℕ, option_map}
 use Rattle.suit_params.specs.declared.refusal.Refusal.{Refusal}
 use Rattle.suit_params.specs.Refusing.{SaysWhole, RefusesWhole}
@@ -7,6 +7,7 @@ use Rattle.suit_envelope.specs.EnvelopeReading.{PairsSay}
 use Rattle.suit_envelope.specs.declared.envelope.Envelope.{Envelope}
 use Rattle.suit_envelope.specs.declared.pairs.Found.{Found}
 
+-- the contents and the places that the envelope's fields give
 abbrev pub said_by : Envelope → EnvelopeSays
 said_by e = record {
   tagged = e.tagged;
@@ -21,7 +22,7 @@ said_by e = record {
   text = option_map (λ s. s.now) e.text;
 }
 
--- the result of the pairs that the code passed
+-- what the pairs that the code has read say
 abbrev pub pairs_say : Found → PairsSay
 pairs_say f = record { seen = f.seen; said = said_by f.envelope; judged = f.judged }
 
@@ -29,6 +30,6 @@ pairs_say f = record { seen = f.seen; said = said_by f.envelope; judged = f.judg
 abbrev pub EnvelopeOf : List ℕ → EnvelopeSays → Type 0
 EnvelopeOf bytes said = SaysWhole IsEnvelope 0 bytes said
 
--- the bytes are refused as an envelope, for this reason
+-- the bytes are refused as an envelope, with this refusal
 abbrev pub RefusesBytes : List ℕ → Refusal → Type 0
 RefusesBytes bytes r = RefusesWhole RefusesEnvelope 0 bytes r

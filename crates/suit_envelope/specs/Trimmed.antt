@@ -1,10 +1,11 @@
--- The trimmed envelope: tag 107 round the map of the wrapper and the manifest alone.
+-- The trimmed envelope: tag 107 around a map with only the wrapper and the manifest.
 use Rattle.std.specs.Prelude.{ℕ, ◌+◌, true, List, length, None}
 use Rattle.det_cbor.specs.DataItem.{DataItem, UnsignedInteger, ByteString, MapOf, TaggedItem, NoPairs, PairThen, spell}
 use Rattle.suit_params.specs.Refusing.{content_place}
 use Rattle.suit_envelope.specs.Envelopes.{EnvelopeSays}
 use Rattle.suit_envelope.specs.Said.{EnvelopeOf}
 
+-- the envelope as an item
 abbrev pub trimmed_item : List ℕ → List ℕ → DataItem
 trimmed_item wrapper manifest =
     TaggedItem 107
@@ -12,11 +13,12 @@ trimmed_item wrapper manifest =
     (PairThen (UnsignedInteger 2) (ByteString wrapper)
     (PairThen (UnsignedInteger 3) (ByteString manifest) NoPairs)))
 
--- its bytes
+-- the bytes of the trimmed envelope
 unfoldable pub trimmed : List ℕ → List ℕ → List ℕ
 trimmed wrapper manifest = spell (trimmed_item wrapper manifest)
 
--- its parts: a tag of two bytes, the map's head and a key stand before the wrapper, and a key before the manifest
+-- what it says: before the wrapper are a tag of two bytes, the map's head and a key, and before the manifest
+-- a key
 abbrev pub trimmed_says : List ℕ → List ℕ → EnvelopeSays
 trimmed_says wrapper manifest = record {
   tagged = true;
@@ -31,6 +33,6 @@ trimmed_says wrapper manifest = record {
   text = None;
 }
 
--- the bytes spell the envelope of these two parts alone
+-- the bytes spell the envelope that has only these two parts
 abbrev pub IsTrimmed : List ℕ → List ℕ → List ℕ → Type 0
 IsTrimmed wrapper manifest bytes = EnvelopeOf bytes (trimmed_says wrapper manifest)

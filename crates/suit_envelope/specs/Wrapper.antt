@@ -9,23 +9,24 @@ use Rattle.suit_params.specs.declared.refusal.Why.TheVariants.{Shape}
 use Rattle.suit_params.specs.Refusing.{refused, IsByteString, RefusesHeld, SaysHeld, RefusesFirst}
 use Rattle.suit_params.specs.Digests.{IsDigest, RefusesDigest}
 
--- items and their places, from the place of the first
+-- the items with their places, the first of which is this one
 abbrev pub placed : ℕ → DataItems → List (ℕ × DataItem)
 placed place NoItems = []
 placed place (ItemThen x xs) = (place, x) ∷ placed (place + length (spell x)) xs
 
--- the place of the first element of an array with so many others
+-- the place of the first element of an array that has these other ones
 abbrev pub elements_place : ℕ → DataItems → ℕ
 elements_place place others = place + length (head_bytes 4 (item_count others + 1))
 
+-- the blocks with their places
 abbrev pub blocks_of : ℕ → DataItem → DataItems → List (ℕ × DataItem)
 blocks_of place first blocks = placed (elements_place place blocks + length (spell first)) blocks
 
--- a block is a byte string, whatever it holds
+-- a block is a byte string with any content
 abbrev pub IsBlock : ℕ × DataItem → Type 0
 IsBlock b = IsByteString b.1
 
--- the first element holds the digest, and each other is a block
+-- the first element holds the digest, and each of the others is a block
 pub record IsWrapper (place : ℕ) (x : DataItem) (digest : Digest) : Type 0 where
   pub first : DataItem
   pub blocks : DataItems
@@ -35,6 +36,7 @@ pub record IsWrapper (place : ℕ) (x : DataItem) (digest : Digest) : Type 0 whe
 
 -- ---- refusals
 
+-- an array that is not empty
 abbrev pub HasElements : DataItem → Type 0
 HasElements (ArrayOf (ItemThen x xs)) = Unit {0}
 HasElements _ = ⊥
@@ -42,7 +44,7 @@ HasElements _ = ⊥
 pub data RefusesBlock (b : ℕ × DataItem) : Refusal → Type 0 where
   NoBlock : (IsByteString b.1 → ⊥) → RefusesBlock b (refused b.0 Shape)
 
--- elements are judged in their order
+-- the refusals of a wrapper, whose elements are judged in their order
 pub data RefusesWrapper (place : ℕ) : DataItem → Refusal → Type 0 where
   NoElements : (x : DataItem) → (HasElements x → ⊥) → RefusesWrapper place x (refused place Shape)
   BadDigest : (first : DataItem) (blocks : DataItems) (r : Refusal)

@@ -1,4 +1,4 @@
--- How the elements of a wrapper are read, of an item that was judged before.
+-- How the elements of a wrapper are read, from an item that was judged before.
 use Rattle.std.specs.Prelude.{ℕ, zero, suc, ◌-◌, ◌==◌, if◌then◌else◌, Result, Ok, Err}
 use Rattle.det_cbor.specs.declared.head.HeadKind.{HeadKind}
 use Rattle.det_cbor.specs.declared.head.HeadKind.TheVariants as kinds
@@ -15,7 +15,7 @@ abbrev pub blocks_from : ℕ → Position → Result Unit Refusal
 blocks_from zero p = Ok tt
 blocks_from (suc n) p = content_from p >>= λ c. blocks_from n c.1
 
--- the next item as a byte string that holds a digest
+-- the digest that the next item, a byte string, holds
 abbrev pub digest_held_from : Position → Result (Digest × Position) Refusal
 digest_held_from p =
     content_from p >>= λ c. only_from c.0 >>= λ item. digest_at item >>= λ digest. Ok (digest, c.1)
@@ -26,6 +26,6 @@ elements_after place n p kinds.Array =
     else (digest_held_from p >>= λ d. blocks_from (n - 1) d.1 >>= λ _. Ok d.0)
 elements_after place n p _ = Err (refused place Shape)
 
--- a whole item, as a wrapper
+-- a whole item, read as a wrapper
 unfoldable pub wrapper_at : Position → Result Digest Refusal
 wrapper_at p = head_from p >>= λ h. elements_after p.place h.0.value h.1 h.0.kind

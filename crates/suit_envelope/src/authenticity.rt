@@ -14,20 +14,21 @@ use det_cbor::Cursor;
 use hmac_mac0::{MacTag, MacVerdict};
 use suit_params::{Digest, Refusal, bytes_left, read_content, read_head};
 
-/// Whether an envelope is authentic, or why not.
+/// Whether an envelope is authentic, and if not, why.
 #[derive(Clone, Copy, Debug, PartialEq, Eq)]
 pub enum Authenticity<'a> {
-    /// The wrapper's digest is the manifest's, and some block verifies.
+    /// The wrapper's digest is the manifest's, and one of the blocks verifies.
     Yes,
-    /// The digest that the wrapper states, and that of the manifest's byte string.
+    /// The wrapper states another digest than that of the manifest's byte string.
     DigestDiffers { stated: Digest, found: Digest },
     /// No block is a Mac0 block.
     NoMac,
-    /// No block verifies: of the first Mac0 block the tag that was computed, and the block's.
+    /// No block verifies. These are the tag computed for the first Mac0 block, and that block's
+    /// tag.
     MacDiffers { expected: MacTag, found: &'a [u8] },
 }
 
-/// The first byte string of a wrapper, and the blocks after it.
+/// Reads the first byte string of a wrapper, and returns a cursor over the blocks after it too.
 pub(crate) fn first_string(wrapper: &[u8]) -> Result<(Cursor<'_>, Cursor<'_>), Refusal>
     ensures { result ≡ first_from wrapper.now }
 {
@@ -37,7 +38,7 @@ pub(crate) fn first_string(wrapper: &[u8]) -> Result<(Cursor<'_>, Cursor<'_>), R
     Ok((content, elements))
 }
 
-// The judgement of the blocks, for the first byte string as their payload.
+// Verifies the blocks, with the first byte string as their payload.
 fn macs<'a>(wrapper: &'a [u8], key: &[u8]) -> Result<MacVerdict<'a>, Refusal>
     ensures says { IfOk result
         (λ answer. (digest : Digest) (blocks : List (List ℕ))
@@ -70,8 +71,9 @@ fn answer<'a>(envelope: &Envelope<'a>, key: &[u8]) -> Authenticity<'a>
 
 /// Whether the envelope is authentic under a key (draft-ietf-suit-manifest-25, section 8.3).
 ///
-/// The wrapper's digest is judged first, against the manifest's whole byte string under its own hash
-/// function, and then the blocks, whose payload is the content of the wrapper's first byte string. Takes no memory.
+/// The wrapper's digest comes first: it must be that of the manifest's whole byte string, by the
+/// digest's own hash function. Then come the blocks, whose payload is the content of the wrapper's
+/// first byte string. Allocates nothing.
 pub fn authentic<'a>(envelope: &Envelope<'a>, key: &[u8]) -> Authenticity<'a>
     requires { HasWrapper envelope.now.wrapper.now }
     ensures yes { result ≡ Yes

@@ -23,11 +23,11 @@ fn read_envelope(bytes: &[u8]) -> Result<Envelope<'_>, Refusal>
     envelope_of(item, bytes)
 }
 
-/// The envelope that the bytes spell (draft-ietf-suit-manifest-25, section 8.2), tagged or not.
+/// Decodes an envelope, tagged or not (draft-ietf-suit-manifest-25, section 8.2).
 ///
-/// The bytes are judged as one item first, and the envelope's map then: unknown keys, missing keys,
-/// and values in their order. The wrapper and its digest are judged with the values; no block,
-/// manifest or member is entered. Takes no memory.
+/// The bytes are judged as one CBOR item first, and then the envelope's map: unknown keys, missing
+/// keys, and the values in their order. The wrapper and its digest are judged with the values, but
+/// no block, manifest or member is entered. Allocates nothing.
 pub fn decode_envelope(bytes: &[u8]) -> Result<Envelope<'_>, Refusal>
     ensures ok { IfOk result (λ e. EnvelopeOf bytes.now (said_by e)) }
     ensures whole { IfOk result (λ e. e.whole.now ≡ bytes.now) }

@@ -13,7 +13,7 @@ use crate::{EnvelopeParts, PayloadList};
 use det_cbor::{Bytes, push_string, push_text};
 use std::alloc::{AllocError, Global};
 
-// How many members there are: one or none.
+// The number of pairs that a member takes: one or none.
 fn count(member: &Option<Bytes>) -> u64
     ensures is { (key : ℕ) (others : DataPairs)
         → pair_count (member_then key member.now others) ≡ pair_count others + result }
@@ -32,7 +32,7 @@ fn pairs(parts: &EnvelopeParts<'_>) -> u64
     2 + members + parts.payloads.as_slice().len() as u64
 }
 
-// Adds the pair of a member that is there, after which others may follow.
+// Appends the pair of a member that is there. Other pairs may follow.
 fn push_member(out: &mut Bytes, key: u64, member: &Option<Bytes>) -> Result<(), AllocError>
     ensures ok { (others : DataPairs)
         → OnOk result
@@ -57,11 +57,11 @@ fn push_payloads(out: &mut Bytes, payloads: &PayloadList<'_>) -> Result<(), Allo
     Ok(())
 }
 
-/// The envelope of these parts behind tag 107, in its one spelling
+/// Encodes an envelope with these parts and tag 107 in its one spelling
 /// (draft-ietf-suit-manifest-25, section 8.2).
 ///
-/// The wrapper must be one, and the payloads' keys must ascend in the order of their spellings,
-/// none twice. Manifest and members are taken as they are.
+/// The wrapper must be valid. The keys of the payloads must ascend in the order of their spellings,
+/// without repetition. The manifest and the members are taken as they are.
 pub fn encode_envelope(alloc: Global, parts: &EnvelopeParts<'_>) -> Result<Bytes, AllocError>
     requires wrapper { HasWrapper parts.now.wrapper }
     requires payloads { AreAscending None parts.now.payloads }

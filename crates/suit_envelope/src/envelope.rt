@@ -1,13 +1,13 @@
-//! An envelope, as its parts in the bytes that spell it.
+//! An envelope, as its parts within the bytes that spell it.
 
 /// The parts of an envelope (draft-ietf-suit-manifest-25, section 8.2). Each slice but the first is
-/// the content of a byte string, and a place is that of the content, from the envelope's first byte.
-/// The place of a member that is not there is 0.
+/// the content of a byte string, and its place is that of the content, in bytes from the start of
+/// the envelope. The place of an absent member is 0.
 #[derive(Clone, Copy, Debug)]
 pub struct Envelope<'a> {
-    /// All bytes of the envelope.
+    /// The whole envelope.
     pub whole: &'a [u8],
-    /// Whether it stands behind tag 107.
+    /// Whether the envelope has tag 107.
     pub tagged: bool,
     /// The authentication wrapper.
     pub wrapper: &'a [u8],
@@ -15,7 +15,7 @@ pub struct Envelope<'a> {
     /// The manifest.
     pub manifest: &'a [u8],
     pub manifest_place: u64,
-    /// The severed members that are there.
+    /// The severed members that are present.
     pub payload_fetch: Option<&'a [u8]>,
     pub install: Option<&'a [u8]>,
     pub text: Option<&'a [u8]>,

@@ -9,7 +9,7 @@ ghost use Rattle.suit_envelope.specs.Judging.{known_key};
 use det_cbor::{Cursor, HeadKind};
 use suit_params::{Refusal, Why, read_bytes, read_head, refused};
 
-/// The member that a key of an envelope's map names.
+/// The member that a key of an envelope's map stands for.
 #[derive(Clone, Copy, Debug, PartialEq, Eq)]
 pub(crate) enum Key {
     Wrapper,
@@ -41,8 +41,8 @@ fn numbered(number: u64) -> Key
     }
 }
 
-/// Reads the next key, of an item judged before, by its head. The bytes of a text are passed over;
-/// an unknown key is passed no further than its head.
+/// Reads the next key. The bytes of a text are skipped; of an unknown key, only the head is read.
+/// The item was judged before.
 #[tactic(auto, unfolding(crate::specs::EnvelopeReading::key_from))]
 pub(crate) fn read_key(map: &mut Cursor<'_>) -> Result<Key, Refusal>
     ensures { map_ok (λ key. (key, map.new)) result ≡ key_from map.old }
@@ -58,7 +58,7 @@ pub(crate) fn read_key(map: &mut Cursor<'_>) -> Result<Key, Refusal>
     }
 }
 
-/// Refuses an unknown key, which stands at a place.
+/// Refuses an unknown key. `place` is that of the key.
 pub(crate) fn known(place: u64, key: Key) -> Result<(), Refusal>
     ensures { result ≡ known_key place key }
 {
@@ -68,7 +68,7 @@ pub(crate) fn known(place: u64, key: Key) -> Result<(), Refusal>
     }
 }
 
-/// The keys that are seen, with one more.
+/// Adds a key to those that were seen.
 pub(crate) fn see(seen: Seen, key: Key) -> Seen
     ensures { result ≡ see seen key }
 {
@@ -85,7 +85,7 @@ pub(crate) fn see(seen: Seen, key: Key) -> Seen
     }
 }
 
-/// Refuses a map, which stands at a place, where a required key is missing.
+/// Refuses a map that lacks a required key. `place` is that of the map.
 pub(crate) fn require(place: u64, seen: Seen) -> Result<(), Refusal>
     ensures { result ≡ all_seen place seen }
 {

@@ -1,22 +1,23 @@
-//! Laws of all envelopes, whatever reads them.
+//! Laws of all envelopes, whichever function reads them.
 
 ghost use Rattle.suit_envelope.specs.EnvelopeLaws.{EnvelopeLaws, AuthenticityLaw, PayloadOrderLaw};
 
-/// Does nothing. Its contract has the laws. All bytes have one envelope or one refusal, and never
-/// both. An envelope says what stands under the numbers of its map: a wrapper and a manifest, and
-/// each member exactly where its number is there. Its parts end within its bytes, and are byte
-/// strings. The trimmed envelope says its two parts, each at its place, and no members.
+/// Does nothing. Its contract has the laws. Any bytes are exactly one envelope or have exactly one
+/// refusal, and never both. An envelope says what is under the numbers of its map: a wrapper and a
+/// manifest, and each member if and only if its number is there. Its parts end within its bytes,
+/// and are byte strings. The trimmed envelope says its two parts, each at its place, and no
+/// members.
 pub fn envelope_laws()
     ensures { EnvelopeLaws }
 {}
 
-/// Does nothing. Its contract has the law: a wrapper, a manifest and a key have one answer.
+/// Does nothing. Its contract is the law: for a wrapper, a manifest and a key there is one answer.
 pub fn authenticity_laws()
     ensures { AuthenticityLaw }
 {}
 
-/// Does nothing. Its contract has the law: payloads whose keys ascend still do with one more put among
-/// them.
+/// Does nothing. Its contract is the law: payloads whose keys ascend still do once another payload
+/// is put among them.
 pub fn payload_order_laws()
     ensures { PayloadOrderLaw }
 {}

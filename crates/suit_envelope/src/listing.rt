@@ -11,15 +11,15 @@ use det_cbor::{Cursor, as_text};
 use std::alloc::{AllocError, Global};
 use suit_params::{Refusal, bytes_left, read_content};
 
-/// An integrated payload (draft-ietf-suit-manifest-25, section 8.2): its key, and the content of its
-/// byte string.
+/// An integrated payload (draft-ietf-suit-manifest-25, section 8.2): its key, and the content of
+/// its byte string.
 #[derive(Clone, Copy, Debug)]
 pub struct KeyedPayload<'a> {
     pub key: &'a str,
     pub content: &'a [u8],
 }
 
-// A payload, where its key is a text.
+// The payload with this key, if the key is a text.
 fn keyed<'a>(key: Option<&'a [u8]>, content: &'a [u8]) -> Option<KeyedPayload<'a>>
     ensures { option_map said_payload result
         ≡ keyed (option_map (λ k. k.now) key.entry) content.now }
@@ -33,7 +33,7 @@ fn keyed<'a>(key: Option<&'a [u8]>, content: &'a [u8]) -> Option<KeyedPayload<'a
     }
 }
 
-// Passes a pair, which is a payload where its key is a text.
+// Reads a pair, which is a payload if its key is a text.
 fn pair<'a>(map: &mut Cursor<'a>) -> Result<Option<KeyedPayload<'a>>, Refusal>
     ensures { map_ok (λ found. (option_map said_payload found, map.new)) result
         ≡ listed_pair map.old }
@@ -58,7 +58,7 @@ fn add<'a>(
     }
 }
 
-// The payloads among so many pairs.
+// Lists the payloads among the next `count` pairs.
 fn listed<'a>(
     alloc: Global,
     mut pairs: Cursor<'a>,
@@ -86,9 +86,9 @@ fn listed_in(alloc: Global, whole: &[u8]) -> Result<Vec<KeyedPayload<'_>>, Alloc
     }
 }
 
-/// All integrated payloads of an envelope, in its order: shorter keys first, and keys of one length by
-/// their bytes. Keys and contents are lent. They are read of `whole`, once; where those bytes spell no
-/// envelope, nothing is promised.
+/// Lists all integrated payloads of an envelope, in their order: shorter keys come first, and keys
+/// of the same length are in bytewise order. Keys and contents borrow from `whole`, which is read
+/// once. Nothing is promised if `whole` does not spell an envelope.
 pub fn all_payloads<'a>(
     alloc: Global,
     envelope: &Envelope<'a>,

@@ -1,4 +1,4 @@
-//! The blocks of a wrapper, judged together.
+//! Verifying the blocks of a wrapper together.
 
 ghost use Rattle.std.specs.Prelude.{◌≡◌, List, ℕ, Ok, IfOk, IfErr};
 ghost use Rattle.suit_envelope.specs.Macs.{BlocksSay, contents_from, kept, last_answer};
@@ -7,7 +7,7 @@ use det_cbor::Cursor;
 use hmac_mac0::{MacTag, MacVerdict, verify};
 use suit_params::{Refusal, bytes_left, read_content};
 
-/// A block's tag, and the one that was computed, which is another.
+/// The tag of a block, and the one that was computed and differs.
 #[derive(Clone, Copy, Debug)]
 pub(crate) struct Difference<'a> {
     pub(crate) expected: MacTag,
@@ -35,10 +35,10 @@ fn last<'a>(first: Option<Difference<'a>>) -> MacVerdict<'a>
     }
 }
 
-/// The judgement of so many blocks, of which a Mac0 block is the first that is left.
+/// Verifies the next `count` blocks.
 ///
-/// Verified where some block verifies, of another kind where no block is a Mac0 block, and else how
-/// the first Mac0 block differs.
+/// The verdict is `Verified` if one of them verifies, and `OtherKind` if none is a Mac0 block.
+/// Otherwise it is how the first Mac0 block differs.
 pub(crate) fn scan<'a>(
     mut elements: Cursor<'a>,
     count: u64,

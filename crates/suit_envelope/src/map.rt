@@ -12,7 +12,7 @@ use crate::pairs::pairs;
 use det_cbor::{Cursor, HeadKind};
 use suit_params::{Refusal, Why, read_head, read_kind, refused};
 
-// An envelope of these bytes that says nothing yet.
+// An envelope over these bytes, without any parts yet.
 fn nothing(whole: &[u8], tagged: bool) -> Envelope<'_>
     ensures says { said_by result ≡ says_nothing tagged }
     ensures whole { result.whole.now ≡ whole.now }
@@ -32,8 +32,8 @@ fn nothing(whole: &[u8], tagged: bool) -> Envelope<'_>
     }
 }
 
-// The map that stands at a place, of so many pairs: keys that are not known are refused first, then
-// one that is missing, and then the first value that is refused.
+// Reads a map of `count` pairs whose place is `place`. Unknown keys are refused first, then a
+// missing key, and then the first bad value.
 fn map<'a>(
     map: Cursor<'a>,
     count: u64,
@@ -49,7 +49,7 @@ fn map<'a>(
     Ok(found.envelope)
 }
 
-// The item that stands behind tag 107, as an envelope.
+// Reads the content of tag 107 as an envelope.
 #[tactic(auto, unfolding(crate::specs::EnvelopeReading::behind_tag))]
 fn behind_tag<'a>(mut item: Cursor<'a>, whole: &'a [u8]) -> Result<Envelope<'a>, Refusal>
     ensures says { map_ok said_by result ≡ behind_tag item.entry }
@@ -60,7 +60,7 @@ fn behind_tag<'a>(mut item: Cursor<'a>, whole: &'a [u8]) -> Result<Envelope<'a>,
     map(item, count, place, nothing(whole, true))
 }
 
-/// Reads a whole item, judged as one before, as an envelope of these bytes.
+/// Reads a whole item that was judged before as an envelope over these bytes.
 #[tactic(auto, unfolding(crate::specs::EnvelopeReading::envelope_at))]
 pub(crate) fn envelope_of<'a>(
     mut item: Cursor<'a>,

@@ -1,4 +1,4 @@
-//! The pairs of an envelope's map, in one pass.
+//! The pairs of an envelope's map, read in one pass.
 
 ghost use Rattle.std.specs.Prelude.{◌≡◌, ℕ, Some, IfOk};
 ghost use Rattle.det_cbor.specs.HeadReading.{map_ok};
@@ -14,7 +14,7 @@ use suit_params::{
     Refusal, Why, bytes_left, only_item, read_content, read_item, refused, same_place,
 };
 
-// The content of the wrapper's byte string, judged.
+// Judges the content of the wrapper's byte string.
 fn wrapper_held(content: Cursor<'_>) -> Result<(), Refusal>
     ensures { result ≡ wrapper_held content.entry }
 {
@@ -23,7 +23,7 @@ fn wrapper_held(content: Cursor<'_>) -> Result<(), Refusal>
     Ok(())
 }
 
-// The first of two refusals.
+// The first of two refusals, if there is one.
 fn first_refusal(judged: Result<(), Refusal>, next: Result<(), Refusal>) -> Result<(), Refusal>
     ensures { result ≡ first_refusal judged next }
 {
@@ -31,7 +31,7 @@ fn first_refusal(judged: Result<(), Refusal>, next: Result<(), Refusal>) -> Resu
     next
 }
 
-// The first refusal, after the content of a value: the wrapper is judged, and no other.
+// The first refusal once this content is judged. Only the wrapper's content is.
 fn judge(judged: Result<(), Refusal>, key: Key, content: Cursor<'_>) -> Result<(), Refusal>
     ensures { result ≡ content_judged judged key content.entry }
 {
@@ -41,7 +41,7 @@ fn judge(judged: Result<(), Refusal>, key: Key, content: Cursor<'_>) -> Result<(
     }
 }
 
-// Puts a value's content where its key has it.
+// Puts the content of a value into the envelope, by its key.
 fn put<'a>(envelope: &mut Envelope<'a>, key: Key, content: Cursor<'a>)
     ensures says { said_by envelope.new
         ≡ put (said_by envelope.old) key content.entry.left content.entry.place }
@@ -71,16 +71,16 @@ fn put<'a>(envelope: &mut Envelope<'a>, key: Key, content: Cursor<'a>)
     }
 }
 
-/// The pairs of a map that were passed.
+/// What the pairs read so far say.
 #[derive(Clone, Copy, Debug)]
 pub(crate) struct Found<'a> {
     pub(crate) seen: Seen,
     pub(crate) envelope: Envelope<'a>,
-    /// The first refusal of a value.
+    /// The first refusal of a value, if there was one.
     pub(crate) judged: Result<(), Refusal>,
 }
 
-// The next value, of an item that was judged before: its content, where it is a byte string.
+// Reads the next value, and returns its content if it is a byte string. The item was judged before.
 fn read_value<'a>(map: &mut Cursor<'a>) -> Result<Option<Cursor<'a>>, Refusal>
     ensures { map_ok (λ value. (value, map.new)) result ≡ value_from map.old }
 {
@@ -108,8 +108,8 @@ fn take_content<'a>(found: &mut Found<'a>, key: Key, mut content: Cursor<'a>)
     put(&mut found.envelope, key, content);
 }
 
-// Takes a key and its value, which stands at a place. Payloads, of which there may be many, come
-// first: of them nothing is kept.
+// Takes a key and its value, whose place is `place`. Payloads come first, since there may be many;
+// nothing is kept of them.
 fn take<'a>(found: &mut Found<'a>, key: Key, place: u64, value: Option<Cursor<'a>>)
     ensures says { pairs_say found.new ≡ pair_more (pairs_say found.old) key place value.entry }
     ensures whole { found.new.envelope.whole.now ≡ found.old.envelope.whole.now }
@@ -126,7 +126,7 @@ fn take<'a>(found: &mut Found<'a>, key: Key, place: u64, value: Option<Cursor<'a
     }
 }
 
-// Passes a pair whose key is known.
+// Reads a pair, and refuses an unknown key.
 fn pair_turn<'a>(map: &mut Cursor<'a>, found: &mut Found<'a>) -> Result<(), Refusal>
     ensures says { map_ok (λ _. (pairs_say found.new, map.new)) result
         ≡ pair_turn map.old (pairs_say found.old) }
@@ -141,7 +141,8 @@ fn pair_turn<'a>(map: &mut Cursor<'a>, found: &mut Found<'a>) -> Result<(), Refu
     Ok(())
 }
 
-/// The content of so many pairs, of a map that was judged as an item before; or the first key that is not known.
+/// Reads the next `count` pairs of a map that was judged as CBOR before, or else returns the
+/// refusal of the first unknown key.
 pub(crate) fn pairs<'a>(
     mut map: Cursor<'a>,
     count: u64,

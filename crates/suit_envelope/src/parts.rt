@@ -1,15 +1,15 @@
-//! The parts of an envelope that is made.
+//! The parts of an envelope to be made.
 
 use crate::PayloadList;
 use det_cbor::Bytes;
 
-/// The parts of an envelope: the contents of its byte strings.
+/// The parts of an envelope to be made, as the contents of its byte strings.
 #[derive(Debug, Drop)]
 pub struct EnvelopeParts<'a> {
     /// The authentication wrapper.
     pub wrapper: Bytes,
     pub manifest: Bytes,
-    /// The members that are severed from the manifest.
+    /// The members severed from the manifest.
     pub payload_fetch: Option<Bytes>,
     pub install: Option<Bytes>,
     pub text: Option<Bytes>,

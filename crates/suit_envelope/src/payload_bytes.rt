@@ -6,7 +6,7 @@ use det_cbor::Bytes;
 use std::borrow::CowSlice;
 use std::marker::Model;
 
-/// The bytes of a payload, lent or its own.
+/// The bytes of a payload, borrowed or owned.
 #[derive(Debug, Drop)]
 pub struct PayloadBytes<'a> {
     held: CowSlice<'a, u8>,
@@ -22,7 +22,7 @@ impl<'a> Model for PayloadBytes<'a> {
 }
 
 impl<'a> PayloadBytes<'a> {
-    /// Bytes that are lent. Takes no memory and copies nothing.
+    /// Borrows the bytes. Allocates and copies nothing.
     pub fn lent(bytes: &'a [u8]) -> PayloadBytes<'a>
         ensures { result ≡ bytes.now }
     {
@@ -31,7 +31,7 @@ impl<'a> PayloadBytes<'a> {
         }
     }
 
-    /// Bytes that the payload holds itself. Takes no memory and copies nothing.
+    /// Takes the bytes over. Allocates and copies nothing.
     pub fn owned(bytes: Bytes) -> PayloadBytes<'a>
         ensures { result ≡ bytes }
     {
@@ -40,7 +40,7 @@ impl<'a> PayloadBytes<'a> {
         }
     }
 
-    /// The bytes, lent.
+    /// Borrows the bytes.
     pub fn as_slice(&self) -> &[u8]
         ensures { result.now ≡ self.now }
     {

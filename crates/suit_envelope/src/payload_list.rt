@@ -1,4 +1,4 @@
-//! The integrated payloads of an envelope that is made.
+//! The integrated payloads of an envelope to be made.
 
 ghost use Rattle.std.specs.Prelude.{◌≡◌, [], None, OnOk, OnErr};
 ghost use Rattle.suit_envelope.specs.PayloadOrder.{AreAscending, put_payload};
@@ -9,9 +9,8 @@ use det_cbor::Text;
 use std::alloc::{AllocError, Global};
 use std::marker::Model;
 
-/// Integrated payloads, which stand in the envelope under keys that are texts
-/// (draft-ietf-suit-manifest-25, section 8.2): each a key and its bytes. The keys ascend in the order
-/// of their spellings.
+/// Integrated payloads, each with its key, which is a text in the envelope
+/// (draft-ietf-suit-manifest-25, section 8.2). The keys ascend in the order of their spellings.
 #[derive(Debug, Drop)]
 pub struct PayloadList<'a> {
     held: Vec<(Text, PayloadBytes<'a>)>,
@@ -29,7 +28,7 @@ impl<'a> Model for PayloadList<'a> {
 }
 
 impl<'a> PayloadList<'a> {
-    /// A list of no payloads, which grows by this allocator. Takes no memory.
+    /// An empty list; allocates nothing until it grows.
     pub fn new(alloc: Global) -> PayloadList<'a>
         ensures { result ≡ [] }
     {
@@ -38,8 +37,8 @@ impl<'a> PayloadList<'a> {
         }
     }
 
-    /// Puts a payload in its place among those whose keys ascend in the order of their spellings. One under the same
-    /// key goes.
+    /// Puts a payload at its place, so that the keys still ascend in the order of their spellings.
+    /// Replaces a payload with the same key.
     #[tactic(auto, using(crate::proofs::PayloadPlaces::put_ascends))]
     pub fn put(&mut self, key: Text, payload: PayloadBytes<'a>) -> Result<(), AllocError>
         ensures ok { OnOk result (self.new ≡ put_payload (key, payload.entry) self.old) }
@@ -53,7 +52,7 @@ impl<'a> PayloadList<'a> {
         Ok(())
     }
 
-    /// The payloads, lent.
+    /// Borrows the payloads.
     pub fn as_slice(&self) -> &[(Text, PayloadBytes<'a>)]
         ensures { result.now ≡ self.now }
     {

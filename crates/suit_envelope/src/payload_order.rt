@@ -7,7 +7,7 @@ use crate::PayloadBytes;
 use det_cbor::Text;
 use std::cmp::Ordering;
 
-// The bytewise order of the spellings of two texts: the shorter one comes first.
+// Compares the spellings of two texts bytewise: the shorter text comes first.
 #[tactic(auto, using(crate::proofs::PayloadPlaces::by_bytes, crate::proofs::PayloadPlaces::by_length))]
 fn key_order(left: &str, right: &str) -> Ordering
     ensures { result ≡ key_order left.now right.now }
@@ -18,7 +18,7 @@ fn key_order(left: &str, right: &str) -> Ordering
     }
 }
 
-/// Where a key is among payloads whose keys ascend, or else where it is put.
+/// The index of a key among payloads whose keys ascend, or else the index to insert it at.
 pub(crate) fn place_of(list: &[(Text, PayloadBytes<'_>)], key: &str) -> Result<usize, usize>
     requires { AreAscending None list.now }
     ensures { IsPlaceOf list.now key.now result }

@@ -1,4 +1,4 @@
-//! Integrated payloads, found by their keys.
+//! Finding integrated payloads by their keys.
 
 ghost use Rattle.std.specs.Prelude.{◌≡◌, ℕ, List, Some, IfSome, option_map};
 ghost use Rattle.std.specs.List.{Contains};
@@ -10,7 +10,8 @@ use crate::Envelope;
 use det_cbor::{Cursor, HeadKind};
 use suit_params::{Refusal, bytes_left, read_bytes, read_content, read_head};
 
-/// The next key, if it is a text. Any other key of an envelope is a number.
+/// Reads the next key, and returns its bytes if it is a text. All other keys of an envelope are
+/// numbers.
 #[tactic(auto, unfolding(crate::specs::PayloadReading::text_from))]
 pub(crate) fn text_key<'a>(map: &mut Cursor<'a>) -> Result<Option<&'a [u8]>, Refusal>
     ensures { map_ok (λ text. (option_map (λ t. t.now) text, map.new)) result ≡ text_from map.old }
@@ -34,7 +35,7 @@ fn is_wanted(text: Option<&[u8]>, key: &[u8]) -> bool
     }
 }
 
-// Passes a pair: its content, where its key is the one that is looked for.
+// Reads a pair, and returns its content if it has the key that is looked for.
 fn pair<'a>(map: &mut Cursor<'a>, key: &[u8]) -> Result<Option<&'a [u8]>, Refusal>
     ensures { map_ok (λ found. (option_map (λ c. c.now) found, map.new)) result
         ≡ pair_from key.now map.old }
@@ -48,7 +49,7 @@ fn pair<'a>(map: &mut Cursor<'a>, key: &[u8]) -> Result<Option<&'a [u8]>, Refusa
     }
 }
 
-// The content of the first of so many pairs with this key.
+// The content of the first of the next `count` pairs with this key.
 fn find<'a>(mut map: Cursor<'a>, count: u64, key: &[u8]) -> Result<Option<&'a [u8]>, Refusal>
     ensures { map_ok (option_map (λ c. c.now)) result ≡ found_from key.now count map.entry }
 {
@@ -60,7 +61,8 @@ fn find<'a>(mut map: Cursor<'a>, count: u64, key: &[u8]) -> Result<Option<&'a [u
     Ok(None)
 }
 
-/// How many pairs a map has, which may stand behind a tag, and the first of them.
+/// Reads the head of a map, which may be tagged. Returns the number of its pairs, and a cursor over
+/// them.
 #[tactic(auto, unfolding(crate::specs::PayloadReading::counted_from))]
 pub(crate) fn counted(mut item: Cursor<'_>) -> Result<(u64, Cursor<'_>), Refusal>
     ensures { result ≡ counted_from item.entry }
@@ -92,10 +94,10 @@ fn look_up<'a>(envelope: &Envelope<'a>, key: &str) -> Option<&'a [u8]>
     }
 }
 
-/// The integrated payload of this key, the content of its byte string; none where the envelope has
-/// no such key (draft-ietf-suit-manifest-25, section 8.2). Takes no memory.
+/// The content of the integrated payload with this key, or `None` if the envelope has no such key
+/// (draft-ietf-suit-manifest-25, section 8.2). Allocates nothing.
 ///
-/// It is looked for in `whole`. Where those bytes spell no envelope, nothing is promised.
+/// The payload is looked up in `whole`. Nothing is promised if `whole` does not spell an envelope.
 pub fn payload<'a>(envelope: &Envelope<'a>, key: &str) -> Option<&'a [u8]>
     ensures found { IfSome result
         (λ content. (payloads : List (List ℕ × List ℕ))

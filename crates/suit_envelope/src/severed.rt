@@ -1,4 +1,4 @@
-//! Severed members of an envelope, taken by their digests.
+//! The severed members of an envelope, checked against their digests.
 
 ghost use Rattle.std.specs.Prelude.{◌≡◌, ◌↔◌, ℕ, List, Some, option_map};
 ghost use Rattle.suit_envelope.specs.Members.{member_of, string_like, AnswersMember, IsGot};
@@ -8,7 +8,7 @@ use crate::Envelope;
 use crate::string_hash::string_like;
 use suit_params::Digest;
 
-/// The members that may stand in the envelope apart from the manifest.
+/// The members that an envelope can hold apart from the manifest.
 #[derive(Clone, Copy, Debug, PartialEq, Eq)]
 pub enum MemberName {
     PayloadFetch,
@@ -16,14 +16,14 @@ pub enum MemberName {
     Text,
 }
 
-/// A severed member, or why there is none.
+/// A severed member, or why it cannot be had.
 #[derive(Clone, Copy, Debug, PartialEq, Eq)]
 pub enum MemberBytes<'a> {
     /// The content of its byte string.
     Got(&'a [u8]),
     /// The envelope has no such member.
     Severed,
-    /// The digest that was stated, and the one of the member's byte string.
+    /// The digest that was stated is not that of the member's byte string.
     Differs { stated: Digest, found: Digest },
 }
 
@@ -37,7 +37,7 @@ fn content<'a>(envelope: &Envelope<'a>, name: MemberName) -> Option<&'a [u8]>
     }
 }
 
-// The answer for a member whose digest is stated.
+// The answer for a member, given the digest stated for it.
 fn judged<'a>(member: Option<&'a [u8]>, stated: &Digest) -> MemberBytes<'a>
     ensures { AnswersMember (option_map (λ s. s.now) member.entry) stated.now result }
 {
@@ -57,8 +57,9 @@ fn judged<'a>(member: Option<&'a [u8]>, stated: &Digest) -> MemberBytes<'a>
     }
 }
 
-/// The severed member whose digest the manifest states (draft-ietf-suit-manifest-25, section 8.3).
-/// The digest is that of the whole byte string, its head and its content, under its own hash function.
+/// The severed member, checked against the digest that the manifest states
+/// (draft-ietf-suit-manifest-25, section 8.3). That digest is of the whole byte string, its head
+/// and its content, by the digest's own hash function.
 #[tactic(auto, using(crate::proofs::MemberAnswers::got_alone))]
 pub fn member<'a>(envelope: &Envelope<'a>, name: MemberName, stated: &Digest) -> MemberBytes<'a>
     ensures answers { AnswersMember (member_of (said_by envelope.now) name) stated.now

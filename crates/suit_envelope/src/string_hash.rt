@@ -1,4 +1,4 @@
-//! The digest of a byte string, its head and its content, without memory.
+//! The digest of a byte string, its head and its content, without allocating.
 
 ghost use Rattle.std.specs.Prelude.{◌≡◌, ◌++◌, ◌∷◌, List, ℕ};
 ghost use Rattle.det_cbor.specs.Heads.{head_bytes};
@@ -9,7 +9,7 @@ ghost use Rattle.suit_envelope.specs.Members.{string_digest, string_like};
 use det_cbor::{HeadKind, ShortHead};
 use suit_params::{Digest, DigestKind, Hasher};
 
-// Adds a first byte and what follows it.
+// Adds a first byte and the bytes after it.
 fn add_parts(hasher: &mut Hasher, first: u8, rest: &[u8])
     ensures { (kind : DigestKind) (message : List ℕ) → HasHashed hasher.old kind message
         → HasHashed hasher.new kind (message ++ first ∷ rest.now) }
@@ -28,7 +28,7 @@ fn add_head(hasher: &mut Hasher, length: u64)
     add_parts(hasher, first, behind);
 }
 
-/// The digest of the byte string of this content.
+/// The digest of the byte string with this content.
 pub fn string_digest(kind: DigestKind, content: &[u8]) -> Digest
     ensures { result ≡ string_digest kind content.now }
 {
@@ -38,7 +38,7 @@ pub fn string_digest(kind: DigestKind, content: &[u8]) -> Digest
     hasher.finish()
 }
 
-/// The digest of the byte string of this content by the hash function of a digest.
+/// The digest of the byte string with this content, by the hash function of another digest.
 pub fn string_like(digest: &Digest, content: &[u8]) -> Digest
     ensures { result ≡ string_like digest.now content.now }
 {

@@ -1,4 +1,4 @@
-//! The trimmed envelope, of the wrapper and the manifest alone.
+//! The trimmed envelope, which has only the wrapper and the manifest.
 
 ghost use Rattle.std.specs.Prelude.{◌≡◌, ◌-◌, ◌^◌, length, min, IfOk};
 ghost use Rattle.det_cbor.specs.Heads.{head_bytes};
@@ -11,7 +11,7 @@ use crate::writing::{push_pair, push_start};
 use det_cbor::Bytes;
 use std::alloc::{AllocError, Global};
 
-// The spelling of the trimmed envelope.
+// Spells the trimmed envelope.
 #[tactic(auto, using(crate::proofs::TrimLaws::trimmed_parts))]
 fn spelling(alloc: Global, envelope: &Envelope<'_>) -> Result<Bytes, AllocError>
     ensures is { IfOk result
@@ -26,7 +26,7 @@ fn spelling(alloc: Global, envelope: &Envelope<'_>) -> Result<Bytes, AllocError>
     Ok(out)
 }
 
-/// The trimmed envelope: tag 107 around the map of the wrapper and the manifest alone.
+/// Makes the trimmed envelope: tag 107 around a map with only the wrapper and the manifest.
 #[tactic(auto, using(crate::proofs::TrimSays::says_trimmed))]
 pub fn trim(alloc: Global, envelope: &Envelope<'_>) -> Result<Bytes, AllocError>
     ensures spelling { IfOk result
@@ -37,7 +37,7 @@ pub fn trim(alloc: Global, envelope: &Envelope<'_>) -> Result<Bytes, AllocError>
     spelling(alloc, envelope)
 }
 
-// The length of a byte string's head.
+// The length of the head of a byte string with `content` bytes.
 #[tactic(auto, using(crate::proofs::TrimLaws::long_small, crate::proofs::TrimLaws::long_8, crate::proofs::TrimLaws::long_16, crate::proofs::TrimLaws::long_32, crate::proofs::TrimLaws::long_64))]
 fn head_length(content: u64) -> u64
     ensures { result ≡ length (head_bytes 2 content) }
@@ -51,7 +51,7 @@ fn head_length(content: u64) -> u64
     }
 }
 
-// The length of a byte string.
+// The length of the byte string with this content. Saturates at 64 bits.
 #[tactic(auto, using(crate::proofs::TrimLaws::string_long))]
 fn string_length(content: &[u8]) -> u64
     ensures { result ≡ min (length (spell (ByteString content.now))) (2 ^ 64 - 1) }

@@ -1,4 +1,4 @@
-//! The blocks of an envelope, one after another.
+//! Going through the blocks of an envelope.
 
 ghost use Rattle.std.specs.Prelude.{◌≡◌, ℕ, List, drop, option_map};
 ghost use Rattle.std.specs.List.{slice_get};
@@ -12,8 +12,8 @@ use det_cbor::Cursor;
 use std::marker::Model;
 use suit_params::{bytes_left, read_content};
 
-/// The authentication blocks of an envelope that are left, in their order. Going over all of them
-/// passes the wrapper once.
+/// The authentication blocks of an envelope that are still to come, in their order. Going through
+/// all of them reads the wrapper once.
 #[derive(Debug, Drop)]
 pub struct BlockWalk<'a> {
     rest: Cursor<'a>,
@@ -30,7 +30,7 @@ impl<'a> Model for BlockWalk<'a> {
 }
 
 impl<'a> BlockWalk<'a> {
-    /// All authentication blocks of an envelope.
+    /// Starts before the first authentication block of the envelope.
     pub fn new(envelope: &Envelope<'a>) -> BlockWalk<'a>
         ensures { (digest : Digest) (blocks : List (List ℕ))
             → WrapperSays envelope.now.wrapper.now digest blocks → result ≡ blocks }
@@ -47,7 +47,7 @@ impl<'a> BlockWalk<'a> {
         }
     }
 
-    /// The next block; none after the last.
+    /// The next block, or `None` after the last one.
     pub fn next_block(&mut self) -> Option<&'a [u8]>
         ensures first { option_map (λ b. b.now) result ≡ slice_get self.old 0 }
         ensures rest { self.new ≡ drop 1 self.old }

@@ -7,7 +7,7 @@ ghost use Rattle.suit_envelope.specs.WrapperReading.{blocks_from, digest_held_fr
 use det_cbor::{Cursor, HeadKind};
 use suit_params::{Digest, Refusal, Why, digest_of, only_item, read_content, read_head, refused};
 
-// The next byte string, as the digest that it holds.
+// Reads the next byte string, and returns the digest that it holds.
 fn digest_held(elements: &mut Cursor<'_>) -> Result<Digest, Refusal>
     ensures { map_ok (λ d. (d, elements.new)) result ≡ digest_held_from elements.old }
 {
@@ -16,7 +16,7 @@ fn digest_held(elements: &mut Cursor<'_>) -> Result<Digest, Refusal>
     digest_of(item)
 }
 
-// The next byte strings, as many as there are blocks.
+// Reads the next `count` byte strings, which are the blocks.
 fn blocks(mut elements: Cursor<'_>, count: u64) -> Result<(), Refusal>
     ensures { result ≡ blocks_from count elements.entry }
 {
@@ -26,7 +26,7 @@ fn blocks(mut elements: Cursor<'_>, count: u64) -> Result<(), Refusal>
     Ok(())
 }
 
-/// Reads a whole item, judged as one before, as a wrapper: its digest.
+/// Reads a whole item that was judged before as a wrapper, and returns its digest.
 #[tactic(auto, unfolding(crate::specs::WrapperReading::wrapper_at))]
 pub(crate) fn wrapper_of(mut item: Cursor<'_>) -> Result<Digest, Refusal>
     ensures { result ≡ wrapper_at item.entry }

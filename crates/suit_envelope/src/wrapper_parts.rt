@@ -45,7 +45,7 @@ fn nth(wrapper: &[u8], number: u64) -> Result<Cursor<'_>, Refusal>
     read_content(&mut rest)
 }
 
-/// The digest that the envelope's wrapper states, of the manifest's whole byte string.
+/// The digest that the envelope's wrapper states. It is that of the manifest's whole byte string.
 pub fn stated_digest(envelope: &Envelope<'_>) -> Digest
     requires { HasWrapper envelope.now.wrapper.now }
     ensures { (digest : Digest) (blocks : List (List ℕ))
@@ -66,7 +66,7 @@ pub fn blocks(envelope: &Envelope<'_>) -> u64
     count(envelope.wrapper)
 }
 
-/// The authentication block of a number, counted from 0; none past the last.
+/// The authentication block with this number, counted from 0, or `None` past the last one.
 pub fn block<'a>(envelope: &Envelope<'a>, number: u64) -> Option<&'a [u8]>
     ensures { (digest : Digest) (blocks : List (List ℕ))
         → WrapperSays envelope.now.wrapper.now digest blocks

@@ -1,4 +1,4 @@
-//! Writing an envelope, piece by piece.
+//! Writing the parts of an envelope.
 
 ghost use Rattle.std.specs.Prelude.{◌≡◌, ◌++◌, OnOk};
 ghost use Rattle.det_cbor.specs.DataItem.{ByteString, spell, IsString};
@@ -7,7 +7,7 @@ ghost use Rattle.det_cbor.specs.Heads.{head_bytes};
 use det_cbor::{Bytes, HeadKind, push_kind, push_number, push_string};
 use std::alloc::AllocError;
 
-/// Adds tag 107, and the head of a map of so many pairs.
+/// Appends tag 107 and the head of a map of `pairs` pairs.
 pub(crate) fn push_start(out: &mut Bytes, pairs: u64) -> Result<(), AllocError>
     ensures { OnOk result (out.new ≡ out.old ++ (head_bytes 6 107 ++ head_bytes 5 pairs)) }
 {
@@ -15,7 +15,7 @@ pub(crate) fn push_start(out: &mut Bytes, pairs: u64) -> Result<(), AllocError>
     push_kind(out, HeadKind::Map, pairs)
 }
 
-/// Adds a pair: a number, and a byte string of this content.
+/// Appends a pair of a number and a byte string with this content.
 pub(crate) fn push_pair(out: &mut Bytes, key: u64, content: &[u8]) -> Result<(), AllocError>
     ensures ok { OnOk result
         (out.new ≡ out.old ++ (head_bytes 0 key ++ spell (ByteString content.now))) }

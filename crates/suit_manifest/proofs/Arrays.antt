@@ -1,4 +1,4 @@
--- Arrays and maps, and all other items.
+-- Arrays and maps, and items of all other kinds.
 use Rattle.std.proofs.Common.{◌≡◌, ℕ, suc, ◌+◌, List, [], ◌++◌, Result, Ok, Err, refl, sym, ◌∙◌, append_assoc, arith}
 use Rattle.std.proofs.lemmas.List.{append-nil}
 use Rattle.det_cbor.specs.Heads.{head_bytes}
@@ -43,17 +43,17 @@ pub by_map : (A : Type 0) (P : DataItem → Type 0) → ((pairs : DataPairs) →
 by_map A P map other (MapOf ps) = map ps
 by_map A P map other x = other x (record { other = λ h. h; judged = λ inner place. refl; read = λ place p. refl })
 
--- ---- how they are read
+-- ---- reading
 
--- the position of an item by itself
+-- the position of an item on its own
 abbrev pub at : ℕ → DataItem → Position
 at place x = record { left = spell x; place = place }
 
--- the position after the head of such an item
+-- the position after the head of an item
 abbrev pub behind : ℕ → DataItem → List ℕ → Position
 behind place x head = after (at place x) head (spell_parts x ++ [])
 
--- where the inside of an item of a kind is read as it is judged, each item is
+-- if the inside of items of this kind is read as it is judged, so is each item
 abbrev ReadsKind : (A Inner : Type 0) (make : Inner → DataItem) (major : ℕ) (count : Inner → ℕ) (from : Position → Result (ℕ × Position) Refusal) (judge : (ℕ → Inner → Result A Refusal) → ℕ → DataItem → Result A Refusal) → Type 0
 ReadsKind A Inner make major count from judge =
     (read : Position → ℕ → Position → Result A Refusal) (inner : ℕ → Inner → Result A Refusal)
@@ -80,7 +80,7 @@ pub map_is : {A : Type 0} → ReadsKind A DataPairs MapOf 5 pair_count map_from 
 unfolding map_from
 map_is {A} = kind_is kinds.Map IsMap MapOf 5 pair_count map_from judge_map (by_map A) (λ p. refl) (λ pairs. refl) (λ place p pairs. refl) (λ inner place pairs. refl)
 
--- elements are read as they are judged
+-- reading elements agrees with judging them
 pub all_read : {A : Type 0} (read : Position → Result A Refusal) (judge : ℕ → DataItem → Result A Refusal) → ReadsAs read judge → (levels : ℕ) (p : Position) (items : DataItems) (rest : List ℕ)
     → AreValidWithin levels items → p.left ≡ spell_items items ++ rest → all_from read (item_count items) p ≡ judge_all judge p.place items
 all_read read judge law levels p NoItems rest valid is = refl

@@ -1,4 +1,4 @@
--- Payload-fetch and install together: what was answered, and that an envelope has one answer or one fault.
+-- Payload-fetch and install together: what is answered, and that an envelope has one answer or one fault.
 use Rattle.std.proofs.Common.{◌≡◌, ℕ, List, Option, Some, None, Result, Ok, Err, refl, ap, ◌∙◌, ◌⊎◌, inl, inr}
 use Rattle.std.specs.Prelude.{IfOk, IfErr, IfSome}
 use Rattle.det_cbor.specs.DataItem.{IsString}

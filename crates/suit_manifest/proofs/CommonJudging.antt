@@ -1,4 +1,4 @@
--- The judgement of the common part is that of the grammar and the refusals.
+-- Judging the common part agrees with the grammar and the refusals.
 use Rattle.std.proofs.Common.{◌≡◌, ℕ, ◌+◌, Bool, true, List, [], ◌∷◌, length, Result, Ok, Err, refl, ap, subst, ◌∙◌}
 use Rattle.std.specs.List.{AllByRecursion}
 use Rattle.det_cbor.specs.DataItem.{DataItem, IsValidWithin}
@@ -25,7 +25,7 @@ use Rattle.suit_manifest.proofs.ComponentsJudging.{components_judge}
 use Rattle.suit_manifest.proofs.KeyedMaps.{map_ok, none_lacks_last, BadEntries, ItLacks, ItRefuses, map_err, map_refused}
 use Rattle.suit_manifest.proofs.MapLaws.{known_again, none_lacks, some_has, lacks_none, needed_ok, needed_err, Fits, at_ok, at_err, need_again, need_refused, may_ok, may_again, may_err, may_refused}
 
--- a byte string that holds a sequence, for so many components
+-- a byte string that holds a sequence, for this number of components
 pub held_sequence_judges : (shared : Bool) (count : ℕ) → Judges (judge_held (judge_sequence shared count 7)) (SaysHeld (SaysSequence shared count 8)) (RefusesHeld (RefusesSequence shared count 8))
 held_sequence_judges shared count = held_judges (judge_sequence shared count 7) (SaysSequence shared count 8) (RefusesSequence shared count 8) (sequence_judges shared count 7)
 
@@ -78,7 +78,7 @@ values_err levels place es r all e =
     (may_err (judge_shared (length ids)) (ShareSays (length ids)) (ShareForm (length ids)) (held_sequence_judges true (length ids)) levels 4 es r all h)))
     (λ shared shared-is h. absurd cc)))
 
--- the identifiers that were judged, and what follows
+-- the identifiers have been judged, and what follows decides
 after_ids : (place : ℕ) (es : List Entry) (z : Result CommonSays Refusal) (ids : List (List (List ℕ))) → (needed place 2 (entry_under 2 es) >>= judge_at judge_components) ≡ Ok ids
     → (may (judge_at (judge_shared (length ids))) (entry_under 4 es) >>= λ shared. Ok (record { components = ids; shared = shared })) ≡ z → judge_common_values place es ≡ z
 after_ids place es z ids e f = both (needed place 2 (entry_under 2 es)) e ∙ f

@@ -1,4 +1,4 @@
--- The common part is read as it is judged.
+-- Reading the common part agrees with judging it.
 use Rattle.std.proofs.Common.{◌≡◌, ℕ, ◌+◌, Bool, true, List, [], length, Option, None, Result, Ok, Err, refl, sym, ap, ◌∙◌, arith}
 use Rattle.std.specs.Prelude.{option_map}
 use Rattle.det_cbor.specs.DataItem.{MapOf, DataPairs, IsValidWithin}
@@ -32,7 +32,7 @@ use Rattle.suit_manifest.proofs.MapLaws.{known_ok, may_read, need_read, held_rea
 pub held_sequence_reads : (shared : Bool) (count : ℕ) → ReadsAs (held_at (whole_sequence shared count 7)) (judge_held (judge_sequence shared count 7))
 held_sequence_reads shared count = held_reads (whole_sequence shared count 7) (judge_sequence shared count 7) (λ p fits. sequence_read shared count 7 p fits)
 
--- the pairs of a map, of which none was taken
+-- the pairs of a map, before any was taken
 pub all_left : (levels place : ℕ) (pairs : DataPairs) → IsValidWithin levels (MapOf pairs)
     → AreLeft (levels + 1) (entries_of place pairs) (all_pairs place pairs)
 all_left levels place pairs valid = record { pairs = pairs; before = None; rest = []; valid = valid.2; bytes = refl; are = refl; count = refl }
@@ -40,7 +40,7 @@ all_left levels place pairs valid = record { pairs = pairs; before = None; rest 
 abbrev pub given : {V : Type 0} → V → Result V Refusal
 given v = Ok v
 
--- the values picked are those under the numbers, where all keys are known
+-- the values that are picked are those under the numbers, if all keys are known
 pub picked_is : {V : Type 0} (keys : List ℕ) (es : List Entry) (picked looked : V) → KeysAscend 0 keys → NumbersAscend es → (AllPicked keys es es → picked ≡ looked)
     → (ending (left_over keys es) >>= λ _. given picked) ≡ (judge_each (judge_entry keys) es >>= λ _. given looked)
 picked_is {V} keys es picked looked up ascend same =

@@ -1,4 +1,4 @@
--- The judgement of identifiers is that of the grammar and the refusals.
+-- Judging identifiers agrees with the grammar and the refusals.
 use Rattle.std.proofs.Common.{◌≡◌, ◌≢◌, ℕ, ◌+◌, ◌-◌, ◌<◌, ◌≤◌, Bool, true, false, cond, eqb, ltb, List, [], ◌∷◌, length, Result, Ok, Err, refl, sym, ap, subst, ◌∙◌, inl, inr, arith}
 use Rattle.std.specs.List.{AllByRecursion}
 use Rattle.std.proofs.lemmas.Bool.{eqb-true, eqb-false, ne_eqb, lt-ltb, le-ltb, ltb-true, ltb-false}
@@ -123,7 +123,7 @@ id_refused place x r (NoIdentifier y other) =
 id_refused place x r (BadPart items s bad) = rw (parts_refused (elements_place place items) items s bad) refl
 id_refused place x r (TooLong id long) = rw (parts_again (elements_place place (string_items id)) id) (size_long place (length (spell (identifier_item id))) id long)
 
--- ---- identifiers in turn
+-- ---- one identifier after another
 
 ids_ok : (place : ℕ) (items : DataItems) (ids : List (List (List ℕ))) → judge_all judge_identifier place items ≡ Ok ids → (items ≡ identifier_items ids) × AllByRecursion IsShort ids
 ids_ok place NoItems ids e = subst (λ (l : List (List (List ℕ))). (NoItems ≡ identifier_items l) × AllByRecursion IsShort l) (same_ok [] ids e) (refl, tt)
@@ -168,7 +168,7 @@ no_items (ItemThen x others) none = absurd (omega arith)
 abbrev Ids : Type 0
 Ids = Result (List (List (List ℕ))) Refusal
 
--- which way the tests of the count went
+-- which branches the tests on the count took
 by_count : {P : Type 0} (place : ℕ) (items : DataItems) (z : Ids) → judge_count place items ≡ z
     → (1 ≤ item_count items → item_count items ≤ 8 → judge_ids (elements_place place items) items ≡ z → P)
     → (items ≡ NoItems → Err (refused place Shape) ≡ z → P)
@@ -200,7 +200,7 @@ components_ok levels place x ids valid e =
     (λ y o f. let never = sym (o.judged judge_count place) ∙ f in absurd cc)
     x e
 
--- an array with as many as may be
+-- an array with an allowed number of elements
 count_judged : (place : ℕ) (items : DataItems) → 1 ≤ item_count items → item_count items ≤ 8 → judge_count place items ≡ judge_ids (elements_place place items) items
 count_judged place items some few =
     let not_zero : eqb (item_count items) 0 ≡ false = ne_eqb _ _ (λ none. absurd (omega (arith, some, none))) in
@@ -216,7 +216,7 @@ components_again place x ids so =
     let judged : judge_ids from items ≡ Ok ids = rw (ids_again from ids so.short, apart) refl in
     ap (judge_components place) so.is ∙ count_judged place items (omega (arith, so.some, long)) (omega (arith, so.few, long)) ∙ judged
 
--- identifiers that were judged one by one, of which two are alike
+-- identifiers that were judged one by one, two of which are equal
 alike : (place : ℕ) (items : DataItems) (ids : List (List (List ℕ))) (r : Refusal) → items ≡ identifier_items ids → item_count items ≤ 8 → AllByRecursion IsShort ids
     → judge_apart ids 0 (elements_place place items) items ≡ Err r → RefusesComponents place (ArrayOf items) r
 alike place items ids r is few short e =
@@ -248,7 +248,7 @@ components_err levels place x r valid e =
     (λ y o f. subst (RefusesComponents place y) (same_err _ r (sym (o.judged judge_count place) ∙ f)) (NoArray y o.other))
     x e
 
--- an identifier that is refused is one of some
+-- there is an identifier for each refusal of one
 some_bad : (place : ℕ) (items : DataItems) (r : Refusal) → RefusesIdentifiers place items r → 1 ≤ item_count items
 some_bad place items r (BadIdentifier at x others s bad) = omega arith
 some_bad place items r (LaterIdentifier at id others s short bad) = omega arith

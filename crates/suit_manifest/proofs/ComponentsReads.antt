@@ -1,4 +1,4 @@
--- Identifiers are read as they are judged.
+-- Reading identifiers agrees with judging them.
 use Rattle.std.proofs.Common.{◌≡◌, ℕ, suc, ◌+◌, ◌-◌, cond, eqb, ltb, List, [], ◌++◌, length, Result, Ok, Err, refl, sym, ap, ◌∙◌, append_assoc, arith}
 use Rattle.std.proofs.lemmas.List.{append-nil}
 use Rattle.det_cbor.specs.Heads.{head_bytes}
@@ -35,7 +35,7 @@ id_read = array_is read_id judge_parts (λ levels place items valid.
     let q = behind place x (head_bytes 4 (item_count items)) in
     ap (λ (r : Result (List (List ℕ)) Refusal). r >>= short_enough place (length (spell x))) (all_read part_at judge_part part_read (levels + 1) q items [] valid.2 refl))
 
--- those behind one
+-- the identifiers after one
 apart_read : (ids : List (List (List ℕ))) (last levels : ℕ) (p : Position) (x : DataItem) (items : DataItems) (rest : List ℕ) → AreValidWithin levels (ItemThen x items) → p.left ≡ spell_items (ItemThen x items) ++ rest
     → apart_from ids (suc last) (item_count items) p ≡ judge_apart ids (suc last) (place_after p.place x) items
 apart_read ids last levels p x NoItems rest valid is = refl

@@ -10,7 +10,7 @@ use Rattle.suit_manifest.specs.Elements.{all_from}
 use Rattle.suit_manifest.specs.ComponentsJudging.{first_like}
 use Rattle.suit_manifest.specs.ComponentsReading.{apart_from}
 
--- those that were read before, in front of what is read
+-- the elements read before, in front of those that are read
 abbrev pub with_front : {A : Type 0} → List A → Result (List A) Refusal → Result (List A) Refusal
 with_front front r = r >>= λ rest. Ok (front ++ rest)
 
@@ -27,7 +27,7 @@ all_step read front count done at next inner a total lt item is so_far =
     rw (one, ← item, is) (one_more front a (all_from read (count - (done + 1)) next)) in
     sym step ∙ so_far
 
--- ---- identifiers that are alike
+-- ---- equal identifiers
 
 pub apart_step : (ids : List (List (List ℕ))) (count last : ℕ) (at next inner : Position) (total : Result Unit Refusal) → last < count → Ok (inner, next) ≡ inner_from at → None ≡ first_like ids last
     → apart_from ids last (count - last) at ≡ total → apart_from ids (last + 1) (count - (last + 1)) next ≡ total

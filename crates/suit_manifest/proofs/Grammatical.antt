@@ -1,4 +1,4 @@
--- A manifest that an item says is one that the grammar allows.
+-- A manifest that an item says is allowed by the grammar.
 use Rattle.std.proofs.Common.{ℕ, Bool, true, false, List, Option, Some, None}
 use Rattle.std.specs.Prelude.{IfSome}
 use Rattle.det_cbor.specs.DataItem.{DataItem, Spells}

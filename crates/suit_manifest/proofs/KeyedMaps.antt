@@ -1,4 +1,5 @@
--- Maps of numbered keys: how their judgement is that of the refusals, and how they are read as they are judged.
+-- Maps whose keys are numbers: judging them agrees with the refusals, and reading them agrees with judging
+-- them.
 use Rattle.std.proofs.Common.{◌≡◌, ℕ, ◌+◌, true, List, [], None, Result, Ok, Err, refl, sym, ap, subst, ◌∙◌}
 use Rattle.std.specs.List.{AllByRecursion}
 use Rattle.det_cbor.specs.Heads.{head_bytes}
@@ -25,7 +26,7 @@ pairs_fit levels place pairs valid = entries_fit (levels + 1) (pairs_place place
 
 -- ---- what is said
 
--- the pairs of a map that was judged to say this: their keys are known, and so are their values judged
+-- the pairs of a map that was judged to say this: their keys are known, and their values were judged
 pub record MapSays {A : Type 0} (keys : List ℕ) (judge_values : ℕ → List Entry → Result A Refusal) (levels place : ℕ) (x : DataItem) (said : A) : Type 0 where
   pub pairs : DataPairs
   pub is : x ≡ MapOf pairs
@@ -44,11 +45,11 @@ map_ok {A} keys judge_values levels place x said valid e =
 
 -- ---- refusals
 
--- of no keys none lacks
+-- if no key is required, none is missing
 pub none_lacks_last : {P : Type 0} (place : ℕ) (es : List Entry) (r : Refusal) → RefusesFirst (RefusesLack place es) (λ n. has_key n es ≡ true) [] r → P
 none_lacks_last place es r lacks = elim lacks [ ]
 
--- of entries whose keys are known a required one lacks, or a value is refused
+-- among entries whose keys are known, a required one is missing or a value is refused
 pub data BadEntries (required : List ℕ) (values : List Entry → Refusal → Type 0) (place : ℕ) (es : List Entry) (r : Refusal) : Type 0 where
   ItLacks : RefusesFirst (RefusesLack place es) (λ n. has_key n es ≡ true) required r → BadEntries required values place es r
   ItRefuses : AllByRecursion (λ n. has_key n es ≡ true) required → values es r → BadEntries required values place es r
@@ -79,7 +80,7 @@ map_refused keys required judge_values values law place x r (BadValue pairs s kn
 
 -- ---- reading
 
--- the pairs of a map that is spelled, of which none was taken
+-- the pairs of a map, before any was taken
 abbrev pub all_pairs : ℕ → DataPairs → Pairs
 all_pairs place pairs = record { map = behind place (MapOf pairs) (head_bytes 5 (pair_count pairs)); left = pair_count pairs }
 
@@ -87,7 +88,8 @@ regroup : {V A : Type 0} (r : Result Unit Refusal) (v : V) (f : V → Result A R
 regroup (Ok done) v f = refl
 regroup (Err e) v f = refl
 
--- the map is read as it is judged, where the pairs give the values under its numbers, and these are read as they are judged
+-- reading the map agrees with judging it, if the pairs give the values under its numbers and those are read
+-- as they are judged
 pub keyed_read : {V A : Type 0} (keys : List ℕ) (judge_values : ℕ → List Entry → Result A Refusal) (found : Pairs → Result V Refusal) (looked : List Entry → V) (from : ℕ → V → Result A Refusal)
     → ((levels place : ℕ) (pairs : DataPairs) → IsValidWithin levels (MapOf pairs) → found (all_pairs place pairs) ≡ (judge_each (judge_entry keys) (entries_of place pairs) >>= λ _. Ok (looked (entries_of place pairs))))
     → ((levels place : ℕ) (pairs : DataPairs) → IsValidWithin levels (MapOf pairs) → from place (looked (entries_of place pairs)) ≡ judge_values place (entries_of place pairs))

@@ -1,4 +1,4 @@
--- The judgement of the values after common is that of the grammar and the refusals.
+-- Judging the values that follow the common part agrees with the grammar and the refusals.
 use Rattle.std.proofs.Common.{◌≡◌, ℕ, false, List, [], Option, Some, None, Result, Ok, Err, refl, subst}
 use Rattle.std.specs.List.{AllByRecursion}
 use Rattle.det_cbor.specs.DataItem.{DataItem}
@@ -20,7 +20,7 @@ use Rattle.suit_manifest.proofs.CommonJudging.{held_sequence_judges}
 use Rattle.suit_manifest.proofs.MapLaws.{Fits, may_ok, may_again, may_err, may_refused}
 use Rattle.suit_manifest.proofs.ValueJudging.{text_judges, severed_judges, text_member_judges}
 
--- ---- members that may be there
+-- ---- optional members
 
 severed_said : (n count : ℕ) (es : List Entry) (o : Option Member) → MaySayUnder n (SaysSevered count) es o → SeveredUnder n count es (member_or_empty o)
 severed_said n count es None so = so

@@ -1,4 +1,4 @@
--- The first two identifiers that are alike.
+-- The first two equal identifiers.
 use Rattle.std.proofs.Common.{◌≡◌, ◌≢◌, ℕ, zero, suc, ◌+◌, ◌-◌, ◌<◌, ◌≤◌, Bool, true, false, cond, List, [], length, get_or, Option, Some, None, Ok, Err, refl, sym, ap, subst, ◌∙◌, inl, inr, ◌⊎◌, arith}
 use Rattle.std.specs.Prelude.{slice_get, MatchOption}
 use Rattle.std.proofs.lemmas.Option.{slice_get-get_or}
@@ -85,7 +85,7 @@ none_least : (test : ℕ → Bool) (n i : ℕ) → ((m : ℕ) → i ≤ m → m 
 none_least test zero i fails = refl
 none_least test (suc n) i fails = ap (λ (b : Bool). cond b (Some i) (least test n (suc i))) (fails i (omega arith) (omega arith)) ∙ none_least test n (suc i) (λ m le lt. fails m (omega (arith, le)) (omega (arith, lt)))
 
--- ---- identifiers by their numbers
+-- ---- identifiers by index
 
 like_same : (ids : Ids) (last i : ℕ) → i < length ids → last < length ids → are_like ids last i ≡ true → slice_get ids i ≡ slice_get ids last
 like_same ids last i in_i in_last e =
@@ -108,7 +108,7 @@ differ_unlike ids last i in_i in_last differ = elim (either (are_like ids last i
   | inr unlike ↦ unlike
 ]
 
--- the answer of a search
+-- what a search answers
 pub first_told : (ids : Ids) (last : ℕ) (found : Option ℕ) → MatchOption found (HasNoLike (λ id. id) ids last) (IsFirstLike (λ id. id) ids last) → found ≡ first_like ids last
 first_told ids last None none = sym (none_least (are_like ids last) last 0 (λ m le lt. unlike_there m (omega (arith, lt))))
   where
@@ -157,7 +157,7 @@ alike_found ids i j two =
       λ m lt. none_least (are_like ids m) m 0 (λ k le lt_m. differ_unlike ids m k (omega (arith, lt_m, lt, inside)) (omega (arith, lt, inside)) (two.least_second k m (omega (arith, lt_m)) lt)),
     )
 
--- ---- the judgement of all
+-- ---- judging all of them
 
 like_ok : (place last : ℕ) (o : Option ℕ) → judge_like place last o ≡ Ok tt → o ≡ None
 like_ok place last None e = refl

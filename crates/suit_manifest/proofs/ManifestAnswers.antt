@@ -1,4 +1,4 @@
--- The answer of the call that decodes a manifest, by the grammar and the refusals.
+-- The answer of the call that decodes a manifest, in terms of the grammar and the refusals.
 use Rattle.std.proofs.Common.{◌≡◌, ◌≤◌, ℕ, List, length, Result, Ok, Err, refl, sym, ap, ◌∙◌, inl, inr}
 use Rattle.std.specs.Prelude.{IfOk, IfErr}
 use Rattle.det_cbor.specs.ArgumentLaws.{IsBytes}
@@ -45,7 +45,7 @@ err_refuses place bytes (Ok m) fits e = tt
 err_refuses place bytes (Err (Refused f)) fits e = whole_err judge_manifest IsManifest RefusesManifest manifest_judges place bytes f fits (sym (read_is place bytes fits) ∙ e)
 err_refuses place bytes (Err NoMemory) fits e = tt
 
--- the answer of the call if no memory were taken
+-- the answer of the call, unless memory ran out
 manifest_is : (place : ℕ) (bytes : List ℕ) (m : Manifest) → IsBytes bytes → SaysWhole IsManifest place bytes m → manifest_from (record { left = bytes; place = place }) ≡ Ok m
 manifest_is place bytes m fits so = read_is place bytes fits ∙ whole_read judge_manifest IsManifest RefusesManifest manifest_judges place bytes m so
 

@@ -1,4 +1,4 @@
--- The judgement of a manifest is that of the grammar and the refusals.
+-- Judging a manifest agrees with the grammar and the refusals.
 use Rattle.std.proofs.Common.{◌≡◌, ℕ, ◌+◌, true, List, [], ◌∷◌, length, Some, Ok, Err, refl, ap, subst, ◌∙◌}
 use Rattle.std.specs.List.{AllByRecursion}
 use Rattle.det_cbor.specs.DataItem.{DataItem, IsValidWithin}
@@ -56,7 +56,7 @@ values_ok levels place es said all e =
       later = later_ok (length common.components) es levels all later later-is;
     }))))))))
 
--- where the version and the number are good, the common part decides, and what follows it
+-- if the version and the sequence number are good, the common part and what follows it decide
 to_common : (place : ℕ) (es : List Entry) (n : ℕ) (c : Entry) → SaysUnder 1 IsVersion es 1 → SaysUnder 2 SaysNumber es n → entry_under 3 es ≡ Some c
     → judge_values place es ≡ (judge_at (judge_held judge_common) c >>= λ common. judge_later (length common.components) es >>= λ later. Ok (manifest_of n common later))
 to_common place es n c version number there =

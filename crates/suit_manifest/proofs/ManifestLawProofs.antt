@@ -1,4 +1,4 @@
--- Items say one manifest or have one refusal, and keys are in order.
+-- An item says exactly one manifest or has exactly one refusal, and keys are in order.
 use Rattle.std.proofs.Common.{◌≡◌, ℕ, Result, Ok, Err, refl, sym, ◌∙◌, inl, inr, ◌⊎◌}
 use Rattle.det_cbor.specs.DataItem.{DataItem, IsValid}
 use Rattle.det_cbor.specs.ResultLaws.{same_ok, same_err, not_both}

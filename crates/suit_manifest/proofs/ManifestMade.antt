@@ -1,4 +1,5 @@
--- An item that says a manifest is the one that the manifest is written as, and the manifest's places are those of its spelling.
+-- An item that says a manifest is the one that the manifest is written as, and the manifest's places are
+-- those in its spelling.
 use Rattle.std.proofs.Common.{◌≡◌, ℕ, Bool, true, false, List, [], ◌∷◌, Option, Some, None, refl, sym, ap, subst, ◌∙◌, arith}
 use Rattle.std.specs.Prelude.{option_map}
 use Rattle.det_cbor.specs.DataItem.{DataItem, UnsignedInteger, ByteString, TextString, MapOf, ArrayOf, DataPairs, spell, IsValid}
@@ -25,7 +26,7 @@ use Rattle.suit_manifest.proofs.KeyNumbers.{ordered}
 use Rattle.suit_manifest.proofs.MapRows.{value_among, says_among}
 use Rattle.suit_manifest.proofs.RowsAgain.{value_in, pairs_are, keyed, value_is}
 
--- ---- the values under numbers, of a said manifest
+-- ---- the values under the numbers of a manifest
 
 found : (n place : ℕ) (ps : DataPairs) (e : Entry) (x : DataItem) → entry_under n (entries place ps) ≡ Some e → e.value ≡ x → value_in n ps ≡ Some x
 found n place ps e x there is = value_is n place ps ∙ ap (option_map (λ (f : Entry). f.value)) there ∙ ap Some is
@@ -122,7 +123,7 @@ module _ (laws : SequenceLaws) where
   abbrev AtRow : ℕ → ℕ → List Row → Says (Unit {0})
   AtRow n place rows at x said = at ≡ place_among n place rows
 
-  -- an entry's value stands where its row has it
+  -- an entry's value is where its row has it
   row_place : (n place : ℕ) (rows : List Row) (x : DataItem) (e : Entry) → value_among n rows ≡ Some x → entry_under n (entries place (row_pairs rows)) ≡ Some e → e.value_place ≡ place_among n place rows
   row_place n place rows x e value there =
       let other : SaysUnder n (AtRow n place rows) (entries place (row_pairs rows)) tt = says_among (AtRow n place rows) n place rows x tt value refl in
@@ -192,7 +193,7 @@ module _ (laws : SequenceLaws) where
         install = install i;
       }
 
-  -- ---- manifests that are equal places apart
+  -- ---- manifests that differ only in their places
 
   held_alike : (a b : Option SequenceTree) → unplaced_held a ≡ unplaced_held b → held_item a ≡ held_item b
   held_alike None None e = refl

@@ -1,4 +1,4 @@
--- A manifest is read as it is judged.
+-- Reading a manifest agrees with judging it.
 use Rattle.std.proofs.Common.{◌≡◌, ℕ, ◌+◌, Bool, true, false, cond, eqb, List, [], ◌++◌, length, Option, Some, None, Result, Ok, Err, refl, sym, ap, ◌∙◌, arith}
 use Rattle.std.specs.Prelude.{option_map}
 use Rattle.std.specs.List.{AllByRecursion}
@@ -129,7 +129,7 @@ made_member m = Ok (member_or_empty m)
 abbrev made_text_member : Option TextMember → Result TextMember Refusal
 made_text_member m = Ok (text_of m)
 
--- steps of which each is read as it is judged
+-- steps, each of which is read as it is judged
 also : {A B : Type 0} (r s : Result A Refusal) (f g : A → Result B Refusal) → r ≡ s → ((a : A) → f a ≡ g a) → (r >>= f) ≡ (s >>= g)
 also {A} {B} r s f g is same = ap (λ (t : Result A Refusal). t >>= f) is ∙ by_answer s
   where
@@ -212,7 +212,7 @@ held_common = held_reads (only_at common_at) judge_common (λ p fits. whole_is c
 abbrev made_of : ℕ → CommonSays → Later → Result Manifest Refusal
 made_of n common later = Ok (manifest_of n common later)
 
--- an entry that is needed, read by itself
+-- a required entry, read on its own
 entry_read : {A : Type 0} (read : Position → Result A Refusal) (judge : ℕ → DataItem → Result A Refusal) → ReadsAs read judge → (levels : ℕ) (e : Entry) → Fits levels e → read (value_of e) ≡ judge_at judge e
 entry_read read judge law levels e fits = law levels e.value_place e.value fits
 

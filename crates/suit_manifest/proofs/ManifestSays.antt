@@ -28,7 +28,7 @@ use Rattle.suit_manifest.specs.ManifestWriting.{HeldFits, SeveredFits, TextFits,
 use Rattle.suit_manifest.proofs.MapRows.{Ascend, value_among, says_among, absent_among, rows_known}
 use Rattle.suit_manifest.proofs.ManifestValid.{common_ascends, manifest_ascends, common_valid}
 
--- ---- values that may stand under a number
+-- ---- optional values
 
 held_says : (shared : Bool) (count place : ℕ) (s : SequenceTree) → HeldFits s → IsHeldSequence shared count s
     → SaysHeld (SaysSequence shared count levels_allowed) place (inner_item s) (placed (first_code place s) s)

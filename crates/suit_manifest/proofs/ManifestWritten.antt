@@ -1,4 +1,4 @@
--- A written manifest says the manifest that was written, in its places.
+-- A written manifest says the manifest that was written, with its places.
 use Rattle.std.proofs.Common.{◌≡◌, ℕ, List, Option, Some, None, refl, ap}
 use Rattle.std.specs.Prelude.{IfSome}
 use Rattle.det_cbor.specs.DataItem.{spell}
@@ -12,7 +12,7 @@ use Rattle.suit_manifest.specs.ManifestWriting.{HeldFits, SeveredFits, ManifestF
 use Rattle.suit_manifest.proofs.ManifestValid.{manifest_valid}
 use Rattle.suit_manifest.proofs.ManifestSays.{manifest_says}
 
--- places apart it is the same manifest
+-- apart from its places it is the same manifest
 
 held_same : (place : ℕ) (o : Option SequenceTree) → IfSome o HeldFits → unplaced_held (placed_held place o) ≡ unplaced_held o
 held_same place None fits = refl

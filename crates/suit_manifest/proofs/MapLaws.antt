@@ -1,4 +1,4 @@
--- Maps of numbered keys: their keys, and what stands under a number.
+-- Maps whose keys are numbers: their keys, and what is under a number.
 use Rattle.std.proofs.Common.{◌≡◌, ℕ, ◌+◌, Bool, true, false, cond, eqb, List, [], ◌∷◌, length, Option, Some, None, Result, Ok, Err, refl, sym, ap, subst, ◌∙◌, inl, inr}
 use Rattle.std.specs.Prelude.{◌||◌, option_map}
 use Rattle.std.specs.List.{AllByRecursion}
@@ -146,7 +146,7 @@ pub needed_err : {A : Type 0} (place n : ℕ) (o : Option A) (r : Refusal) → n
 needed_err place n None r e = (refl, same_err _ r e)
 needed_err place n (Some b) r e = absurd cc
 
--- the entry that stands under a number is valid
+-- the entry under a number is valid
 abbrev pub Fits : ℕ → Entry → Type 0
 Fits levels e = IsValidWithin levels e.value
 
@@ -218,7 +218,7 @@ need_read {A} {B} read judge law levels place n es f g all same = by_entry (entr
     by_entry None fits = refl
     by_entry (Some a) fits = ap (λ (r : Result A Refusal). r >>= f) (law levels a.value_place a.value (fits a all refl)) ∙ by_said (judge_at judge a)
 
--- the contents of byte strings, by a reader of whole contents
+-- the contents of byte strings, given a reader of whole contents
 pub held_reads : {A : Type 0} (whole : Position → Result A Refusal) (judge : ℕ → DataItem → Result A Refusal) → ((p : Position) → IsBytes p.left → whole p ≡ whole_judged judge p.place p.left) → ReadsAs (held_at whole) (judge_held judge)
 held_reads {A} whole judge law levels place x valid =
     by_string (λ (y : DataItem). IsValidWithin levels y → held_at whole (record { left = spell y; place = place }) ≡ judge_held judge place y)

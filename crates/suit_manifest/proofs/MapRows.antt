@@ -1,4 +1,4 @@
--- Maps that are written by their rows: what stands under a number, and that they are valid.
+-- Maps that are written as rows: what is under a number, and that they are valid.
 use Rattle.std.proofs.Common.{◌≡◌, ◌⊎◌, ℕ, ◌+◌, ◌<◌, ◌≤◌, ◌^◌, Bool, true, false, List, [], ◌∷◌, length, Option, Some, None, refl, ap, ◌∙◌, arith, inl, inr}
 use Rattle.std.specs.Prelude.{◌==◌, if◌then◌else◌, IfSome}
 use Rattle.std.specs.List.{AllByRecursion}
@@ -31,7 +31,7 @@ other_number a b lt = elim (either (a == b)) [
   | inr e ↦ e
 ]
 
--- ---- a pair that may be there
+-- ---- an optional pair
 
 entry_skipped : (n key place : ℕ) (value : Option DataItem) (ps : DataPairs) → (key == n) ≡ false → entry_under n (entries place (pair_then key value ps)) ≡ entry_under n (entries (after_row place key value) ps)
 entry_skipped n key place None ps e = refl
@@ -63,7 +63,7 @@ says_among form n place (r ∷ rs) x said is so =
     said_by form n r.0 place r.1 (row_pairs rs) (value_among n rs) (place_among n (after_row place r.0 r.1) rs) x said (r.0 == n) refl is so
     (λ f g. says_among form n (after_row place r.0 r.1) rs x said f g)
 
--- ---- numbers under which nothing stands
+-- ---- numbers under which there is nothing
 
 absent_below : (n low place : ℕ) (rows : List Row) → n < low → Ascend low rows → entry_under n (entries place (row_pairs rows)) ≡ None
 absent_below n low place [] lt up = refl

@@ -1,4 +1,4 @@
--- A member is taken in one way or lacking for one reason, and never both.
+-- A member is taken in one way or is lacking for one reason, and never both.
 use Rattle.std.proofs.Common.{◌≡◌, ℕ, true, false, Bool, List, Option, Some, None, Result, Ok, Err, refl, sym, ap, subst, ◌∙◌, ◌⊎◌, inl, inr}
 use Rattle.det_cbor.specs.ArgumentLaws.{IsBytes}
 use Rattle.det_cbor.specs.DataItem.{ByteString, spell}

@@ -29,7 +29,7 @@ pub record Took (n levels : ℕ) (es : List Entry) (s : Pairs) : Type 0 where
   pub is : take_from n s ≡ Ok (option_map value_of (head_under n es), next)
   pub left : AreLeft levels (rest_after n es) next
 
--- whether a key is the number
+-- what reading a key says of whether it is the number
 record Told (n : ℕ) (p : Position) (key : DataItem) (rest : List ℕ) : Type 0 where
   behind : Position
   told : key_is n p ≡ Ok (is_number n key, behind)
@@ -79,7 +79,7 @@ take_pairs n levels before (PairThen key value ps) rest s valid is count = by_te
 pub take_read : (n levels : ℕ) (es : List Entry) (s : Pairs) → AreLeft levels es s → Took n levels es s
 take_read n levels es s left = subst (λ (l : List Entry). Took n levels l s) left.are (take_pairs n levels left.before left.pairs left.rest s left.valid left.bytes left.count)
 
--- the next number, behind one that was looked for
+-- taking the next number after one that was looked for
 pub then_read : (n : ℕ) {m levels : ℕ} {es : List Entry} {s : Pairs} (took : Took m levels es s) → Took n levels (rest_after m es) took.next
 then_read n {m} {levels} {es} took = take_read n levels (rest_after m es) took.next took.left
 

@@ -1,4 +1,5 @@
--- Looking for the numbers of a table one after another finds what stands under each, and leaves the first key that is none of them.
+-- Asking for the numbers of a table one after another finds what is under each, and stops at the first
+-- unknown key.
 use Rattle.std.proofs.Common.{◌≡◌, ℕ, ◌<◌, Bool, true, false, List, [], ◌∷◌, Option, Some, None, Result, Ok, Err, refl, sym, ap, subst, ◌∙◌, arith, inl, inr}
 use Rattle.std.specs.Prelude.{◌==◌, ◌⊎◌, if◌then◌else◌}
 use Rattle.std.specs.List.{AllByRecursion}
@@ -21,7 +22,7 @@ use Rattle.suit_manifest.proofs.RowsAgain.{KeysAscend, not_same, among_above}
 abbrev IsNumbered : Entry → Type 0
 IsNumbered e = (n : ℕ) × (e.key ≡ UnsignedInteger n)
 
--- the first entry, where it stands under a number, and those after it
+-- the first entry, if it is under this number, and the entries after it
 abbrev pub head_under : ℕ → List Entry → Option Entry
 head_under n [] = None
 head_under n (e ∷ es) = if is_number n e.key then Some e else None
@@ -45,7 +46,7 @@ either : (b : Bool) → (b ≡ true) ⊎ (b ≡ false)
 either true = inl refl
 either false = inr refl
 
--- a number that is no key's makes none of them known
+-- a number that is not the key's does not make the key known
 other_key : (k : ℕ) (ks : List ℕ) (place : ℕ) (key : DataItem) → is_number k key ≡ false → judge_key (k ∷ ks) place key ≡ judge_key ks place key
 other_key k ks place (UnsignedInteger m) other =
     let differs : (k == m) ≡ false = not_same k m (λ same. let never : true ≡ false = sym (eq-eqb m k (sym same)) ∙ other in absurd cc) in
@@ -61,7 +62,7 @@ same_key k ks place _ same = absurd cc
 no_number : (k m : ℕ) (key : DataItem) → key ≡ UnsignedInteger m → (m ≡ k → ⊥) → is_number k key ≡ false
 no_number k m key is other = subst (λ (x : DataItem). is_number k x ≡ false) (sym is) (not_same m k other)
 
--- where all numbers are above this one
+-- if all keys are above this number
 narrow : (k : ℕ) (ks : List ℕ) (es : List Entry) → AllByRecursion (IsAboveNumber k) es → judge_each (judge_entry (k ∷ ks)) es ≡ judge_each (judge_entry ks) es
 narrow k ks [] above = refl
 narrow k ks (e ∷ es) above =
@@ -79,7 +80,7 @@ above_more k m (e ∷ es) lt above = (λ n is. let next = above.0 n is in omega 
 abbrev known_one : ℕ → Result Unit Refusal
 known_one n = Ok tt
 
--- where the first key is another one
+-- if the first key is another one
 narrow_front : (k : ℕ) (ks : List ℕ) (e : Entry) (es : List Entry) → KeysAscend k ks → NumbersAscend (e ∷ es) → is_number k e.key ≡ false → judge_each (judge_entry (k ∷ ks)) (e ∷ es) ≡ judge_each (judge_entry ks) (e ∷ es)
 narrow_front k ks e es up ascend other = rw (other_key k ks e.key_place e.key other) (by_first (judge_key ks e.key_place e.key) refl)
   where
@@ -95,7 +96,7 @@ no_key : (place : ℕ) (key : DataItem) → judge_key [] place key ≡ Err (refu
 no_key place (UnsignedInteger m) = refl
 no_key place _ = refl
 
--- the keys of a map are known where none is left
+-- the keys of a map are known if no entry is left
 pub known_or_left : (ks : List ℕ) (low : ℕ) (es : List Entry) → KeysAscend low ks → NumbersAscend es → judge_each (judge_entry ks) es ≡ ending (left_over ks es)
 known_or_left [] low [] up ascend = refl
 known_or_left [] low (e ∷ es) up ascend = rw (no_key e.key_place e.key) refl
@@ -108,7 +109,7 @@ known_or_left (k ∷ ks) low (e ∷ es) up ascend =
 
 -- ---- what is found
 
--- one after another, what stands under each number among all entries
+-- asking one after another gives what is under each number among all entries
 abbrev pub AllPicked : List ℕ → List Entry → List Entry → Type 0
 AllPicked [] all es = Unit {0}
 AllPicked (k ∷ ks) all es = (head_under k es ≡ entry_under k all) × AllPicked ks all (rest_after k es)

@@ -40,7 +40,7 @@ shared_allowed : SequenceLaws → (n count : ℕ) (es : List Entry) (m : Option 
 shared_allowed laws n count es None so = tt
 shared_allowed laws n count es (Some s) so = as_shared count s (whole_allowed laws true count _ so.says_so.content s so.says_so.holds)
 
--- ---- members that may stand apart
+-- ---- severable members
 
 own_allowed : SequenceLaws → (count place : ℕ) (x : DataItem) (m : Member) (s : SequenceTree) → SaysSevered count place x m → m ≡ Here s → IsMember count s
 own_allowed laws count place x m s (SaysHere t so) is = let same : t ≡ s = cc in subst (IsMember count) same (held_allowed laws count place x t so)
@@ -54,7 +54,7 @@ severable_allowed laws n count es held place (Apart stated) (Some s) so has = as
 
 -- ---- the laws
 
--- three sequences behind the shared one
+-- three sequences, each after the shared one
 parts : SequenceLaws → (place : ℕ) (x : DataItem) (manifest : Manifest) → IsManifest place x manifest → (a b c : SequenceTree) → IsMember (count_said manifest) a → IsMember (count_said manifest) b → IsMember (count_said manifest) c
     → IsPlan (record { shared = tree_or_empty manifest.shared; first = a; second = b; third = c; count = count_said manifest })
 parts laws place x manifest is a b c first second third =

@@ -1,4 +1,4 @@
--- A map whose keys are numbers of a table, in order, is the map of its rows.
+-- A map whose keys are numbers from a table, in order, is the map of its rows.
 use Rattle.std.proofs.Common.{◌≡◌, ℕ, ◌+◌, ◌<◌, ◌≤◌, Bool, true, false, List, [], ◌∷◌, length, Option, Some, None, refl, sym, ap, subst, ◌∙◌, arith, inl, inr}
 use Rattle.std.specs.Prelude.{◌==◌, if◌then◌else◌, option_map}
 use Rattle.std.specs.List.{AllByRecursion}
@@ -73,7 +73,7 @@ nothing_in : (keys : List ℕ) → row_pairs (rows_in keys NoPairs) ≡ NoPairs
 nothing_in [] = refl
 nothing_in (k ∷ ks) = nothing_in ks
 
--- a number that stands below all keys is none of theirs
+-- a number below all keys is none of them
 narrowed : (k : ℕ) (ks : List ℕ) (low : ℕ) (ps : DataPairs) → k ≤ low → AreKeyed (k ∷ ks) low ps → AreKeyed ks low ps
 narrowed k ks low NoPairs le keyed = tt
 narrowed k ks low (PairThen key value ps) le keyed =
@@ -105,7 +105,7 @@ pairs_are (k ∷ ks) low (PairThen key value ps) up keyed = by_key (λ qs all. p
         let again : PairThen key value ps ≡ row_pairs (rows_in ks (PairThen key value ps)) = others (PairThen key value ps) (narrowed k ks k (PairThen key value ps) (omega arith) all) in
         again ∙ ap (λ (o : Option DataItem). pair_then k o (row_pairs (rows_in ks (PairThen key value ps)))) (sym absent)
 
--- ---- by entries
+-- ---- entries
 
 keyed_above : (keys : List ℕ) (low place : ℕ) (ps : DataPairs) → AllByRecursion (IsKeyAmong keys) (entries place ps) → NumbersAscend (entries place ps) → AllByRecursion (IsAboveNumber low) (entries place ps) → AreKeyed keys low ps
 keyed_above keys low place NoPairs known ascend above = tt

@@ -1,4 +1,4 @@
--- A member whose digest is stated, by what the envelope holds for it.
+-- A member whose digest is stated, given what the envelope holds for it.
 use Rattle.std.proofs.Common.{ℕ, ◌+◌, ◌<◌, ◌^◌, false, List, length, Option, Some, None, refl, sym, subst, Bor}
 use Rattle.suit_params.specs.declared.digest.Digest.{Digest}
 use Rattle.suit_params.specs.Refusing.{SaysWhole}

@@ -1,4 +1,4 @@
--- The judgement of a manifest's values is that of the grammar and the refusals.
+-- Judging a manifest's values agrees with the grammar and the refusals.
 use Rattle.std.proofs.Common.{◌≡◌, ℕ, false, eqb, List, Result, Ok, Err, refl, sym, ap, subst, ◌∙◌, ◌⊎◌, inl, inr}
 use Rattle.std.proofs.lemmas.Bool.{eqb-true, eqb-false, ne_eqb, eq-eqb}
 use Rattle.det_cbor.specs.DataItem.{DataItem, UnsignedInteger, ByteString, TextString, ArrayOf, DataItems, IsValidWithin}
@@ -30,7 +30,7 @@ use Rattle.suit_manifest.proofs.CommonJudging.{held_sequence_judges}
 
 -- ---- numbers and texts
 
--- an item is of the one kind that a judgement takes, as what is made of a value, or it is of another and refused
+-- an item is either of the kind that is accepted, and made from a value, or of another kind and refused
 IsJudged : {A : Type 0} → (ℕ → DataItem → Result A Refusal) → (DataItem → Type 0) → (A → DataItem) → DataItem → Type 0
 IsJudged {A} judge kind make x = ((a : A) × (x ≡ make a) × ((place : ℕ) → judge place x ≡ Ok a)) ⊎ ((kind x → ⊥) × ((place : ℕ) → judge place x ≡ Err (refused place Shape)))
 
@@ -62,7 +62,7 @@ unfolding IsJudged
 judged_other judge kind make place x is_kind (inl (b, is, ok)) other = absurd (other (subst kind (sym is) (is_kind b)))
 judged_other judge kind make place x is_kind (inr (wrong, err)) other = err place
 
--- the judgement is that of the kind, and of all other items
+-- judging agrees with the grammar for items of the kind, and for all others
 kind_judges : {A : Type 0} (judge : ℕ → DataItem → Result A Refusal) (kind : DataItem → Type 0) (make : A → DataItem) (form : Refuses)
     → ((x : DataItem) → IsJudged judge kind make x) → ((place : ℕ) (a : A) → judge place (make a) ≡ Ok a)
     → ((place : ℕ) (x : DataItem) → (kind x → ⊥) → form place x (refused place Shape)) → ((place : ℕ) (x : DataItem) (r : Refusal) → form place x r → judge place x ≡ Err r)
@@ -122,7 +122,7 @@ version_judges = record {
   refuses = version_refused;
 }
 
--- ---- arrays, and all else
+-- ---- arrays, and everything else
 
 pub record OtherKind (A : Type 0) (x : DataItem) : Type 0 where
   pub other : IsArray x → ⊥
@@ -133,7 +133,7 @@ pub by_kind : (A : Type 0) (P : DataItem → Type 0) → ((items : DataItems) �
 by_kind A P array other (ArrayOf xs) = array xs
 by_kind A P array other x = other x (record { other = λ h. h; judged = λ f g place. refl; read = λ a b. refl })
 
--- the meanings and refusals of both
+-- what is said, and what is refused, of both
 module _ (A B : Type 0) (make : Digest → A) (keep : B → A) (judge : ℕ → DataItem → Result B Refusal) (says : ℕ → DataItem → B → Type 0) (form : ℕ → DataItem → Refusal → Type 0) (law : Judges judge says form)
     (both : ℕ → DataItem → A → Type 0) (apart : (place : ℕ) (x : DataItem) (d : Digest) → IsDigest place x d → both place x (make d)) (here : (place : ℕ) (x : DataItem) (b : B) → says place x b → both place x (keep b)) where
   abbrev judge_digests : ℕ → DataItem → Result A Refusal

@@ -1,4 +1,4 @@
--- A value of a map that was judged is passed by its head.
+-- A value of a map that was judged is skipped by reading its head.
 use Rattle.std.proofs.Common.{◌≡◌, ℕ, ◌-◌, List, ◌++◌, length, Ok, refl, ap, arith}
 use Rattle.std.proofs.lemmas.List.{length-append}
 use Rattle.det_cbor.specs.Heads.{head_bytes}

@@ -1,4 +1,4 @@
--- How the common part of a manifest is judged, and read of an item that was judged before.
+-- How the common part of a manifest is judged, and how it is read from an item that was judged before.
 use Rattle.std.specs.Prelude.{ℕ, true, List, length, Result, Ok}
 use Rattle.det_cbor.specs.DataItem.{DataItem, DataPairs}
 use Rattle.det_cbor.specs.HeadReading.{◌>>=◌}
@@ -23,7 +23,7 @@ use Rattle.suit_manifest.specs.MapReading.{judge_keyed, needed, judge_at, may, t
 abbrev pub judge_shared : ℕ → ℕ → DataItem → Result SequenceTree Refusal
 judge_shared count = judge_held (judge_sequence true count levels_inside)
 
--- by entries whose keys are known
+-- the entries are judged once all keys are known
 abbrev pub judge_common_values : ℕ → List Entry → Result CommonSays Refusal
 judge_common_values place es =
     needed place 2 (entry_under 2 es) >>= λ a. judge_at judge_components a
@@ -47,7 +47,7 @@ common_found s =
     take_from 2 s >>= λ components. take_from 4 components.1 >>= λ shared. end_from shared.1
     >>= λ _. Ok (record { components = components.0; shared = shared.0 })
 
--- of a map at a place
+-- the values of a map at this place
 abbrev pub common_values_from : ℕ → CommonValues → Result CommonSays Refusal
 common_values_from place v =
     needed place 2 v.components >>= λ a. components_at a
@@ -58,6 +58,6 @@ abbrev pub common_pairs_from : ℕ → ℕ → Position → Result CommonSays Re
 common_pairs_from place pairs p =
     common_found (record { map = p; left = pairs }) >>= common_values_from place
 
--- a whole item
+-- a whole item, read as the common part
 abbrev pub common_at : Position → Result CommonSays Refusal
 common_at p = map_from p >>= λ h. common_pairs_from p.place h.0 h.1

@@ -8,11 +8,11 @@ pub use Rattle.suit_params.specs.Identifiers.{string_items, identifier_item, ide
 use Rattle.suit_params.specs.Refusing.{refused, IsByteString}
 use Rattle.suit_commands.specs.Sequences.{elements_place, place_after}
 
--- its spelling has at most 64 bytes (this project's own limit)
+-- the spelling has at most 64 bytes (this project's own limit)
 abbrev pub IsShort : List (List ℕ) → Type 0
 IsShort id = length (spell (identifier_item id)) ≤ 64
 
--- no two are equal
+-- no two identifiers are equal
 abbrev pub AreApart : List (List (List ℕ)) → Type 0
 AreApart ids = (i j : ℕ) → i < j → j < length ids → slice_get ids i ≢ slice_get ids j
 
@@ -30,12 +30,13 @@ abbrev pub IsArray : DataItem → Type 0
 IsArray (ArrayOf items) = Unit {0}
 IsArray _ = ⊥
 
--- the place of an element of those that are spelled from a place on
+-- the place of element i, where the first element has this place
 abbrev pub element_place : ℕ → DataItems → ℕ → ℕ
 element_place place items zero = place
 element_place place NoItems (suc i) = place
 element_place place (ItemThen x items) (suc i) = element_place (place_after place x) items i
 
+-- the refusals of an identifier's parts, each of which is judged before the next
 pub data RefusesParts : ℕ → DataItems → Refusal → Type 0 where
   NoPart : (place : ℕ) (x : DataItem) (others : DataItems) → (IsByteString x → ⊥)
       → RefusesParts place (ItemThen x others) (refused place Shape)
@@ -43,7 +44,7 @@ pub data RefusesParts : ℕ → DataItems → Refusal → Type 0 where
       → RefusesParts (place_after place (ByteString part)) others r
       → RefusesParts place (ItemThen (ByteString part) others) r
 
--- its form first, and then its length
+-- the refusals of an identifier: its form comes first, and then its length
 pub data RefusesIdentifier (place : ℕ) : DataItem → Refusal → Type 0 where
   NoIdentifier : (x : DataItem) → (IsArray x → ⊥) → RefusesIdentifier place x (refused place Shape)
   BadPart : (items : DataItems) (r : Refusal) → RefusesParts (elements_place place items) items r
@@ -51,7 +52,7 @@ pub data RefusesIdentifier (place : ℕ) : DataItem → Refusal → Type 0 where
   TooLong : (id : List (List ℕ)) → (IsShort id → ⊥)
       → RefusesIdentifier place (identifier_item id) (refused place LongIdentifier)
 
--- each before the next
+-- the refusals of identifiers, each of which is judged before the next
 pub data RefusesIdentifiers : ℕ → DataItems → Refusal → Type 0 where
   BadIdentifier : (place : ℕ) (x : DataItem) (others : DataItems) (r : Refusal)
       → RefusesIdentifier place x r → RefusesIdentifiers place (ItemThen x others) r
@@ -59,7 +60,7 @@ pub data RefusesIdentifiers : ℕ → DataItems → Refusal → Type 0 where
       → RefusesIdentifiers (place_after place (identifier_item id)) others r
       → RefusesIdentifiers place (ItemThen (identifier_item id) others) r
 
--- the first two that are alike: the least second one, and then the least first one
+-- the first two that are equal: the second is as low as possible, and then the first
 pub record AreAlike (ids : List (List (List ℕ))) (i j : ℕ) : Type 0 where
   pub below : i < j
   pub inside : j < length ids
@@ -67,7 +68,7 @@ pub record AreAlike (ids : List (List (List ℕ))) (i j : ℕ) : Type 0 where
   pub least_second : (k l : ℕ) → k < l → l < j → slice_get ids k ≢ slice_get ids l
   pub least_first : (k : ℕ) → k < i → slice_get ids k ≢ slice_get ids j
 
--- too many first, then each identifier, then two alike
+-- the refusals of components: too many come first, then each identifier, and then two that are equal
 pub data RefusesComponents (place : ℕ) : DataItem → Refusal → Type 0 where
   NoArray : (x : DataItem) → (IsArray x → ⊥) → RefusesComponents place x (refused place Shape)
   NoComponents : RefusesComponents place (ArrayOf NoItems) (refused place Shape)

@@ -1,4 +1,4 @@
--- How the identifiers of components are judged, by cases: what they say, or the first refusal.
+-- How the identifiers of components are judged, case by case: what they say, or the first refusal.
 use Rattle.std.specs.Prelude.{ℕ, zero, suc, ◌==◌, nat_lt, if◌then◌else◌, ◌&&◌, Bool, true, false, List, [], ◌∷◌, length, get_or, Option, Some, None, Result, Ok, Err}
 use Rattle.std.specs.Str.{bytes_eq}
 use Rattle.det_cbor.specs.DataItem.{DataItem, ArrayOf, DataItems, NoItems, ItemThen, item_count, spell}
@@ -13,7 +13,7 @@ use Rattle.suit_manifest.specs.Elements.{judge_all, judge_array}
 abbrev pub judge_part : ℕ → DataItem → Result (List ℕ) Refusal
 judge_part place x = judge_string place x >>= λ content. Ok content.left
 
--- an identifier whose spelling has so many bytes
+-- an identifier whose spelling has `size` bytes
 abbrev pub short_enough : ℕ → ℕ → List (List ℕ) → Result (List (List ℕ)) Refusal
 short_enough place size id = if nat_lt 64 size then Err (refused place LongIdentifier) else Ok id
 
@@ -25,9 +25,9 @@ judge_parts place items =
 abbrev pub judge_identifier : ℕ → DataItem → Result (List (List ℕ)) Refusal
 judge_identifier = judge_array judge_parts
 
--- ---- identifiers that are alike
+-- ---- equal identifiers
 
--- the first number from i on, of so many, that passes a test
+-- the first of n numbers from i on that passes the test
 abbrev pub least : (ℕ → Bool) → ℕ → ℕ → Option ℕ
 least test zero i = None
 least test (suc n) i = if test i then Some i else least test n (suc i)
@@ -41,16 +41,16 @@ same_id (a ∷ rest) (b ∷ others) = bytes_eq a b && same_id rest others
 abbrev pub are_like : List (List (List ℕ)) → ℕ → ℕ → Bool
 are_like ids last i = same_id (get_or ids i []) (get_or ids last [])
 
--- the first before another that is like it
+-- the first identifier before another one that equals it
 abbrev pub first_like : List (List (List ℕ)) → ℕ → Option ℕ
 first_like ids last = least (are_like ids last) last 0
 
--- an identifier, which stands at a place
+-- an identifier at this place that equals identifier i is refused
 abbrev pub judge_like : ℕ → ℕ → Option ℕ → Result Unit Refusal
 judge_like place last None = Ok tt
 judge_like place last (Some i) = Err (refused place (TwoAlike i last))
 
--- the identifiers from one on
+-- the identifiers from this one on
 abbrev pub judge_apart : List (List (List ℕ)) → ℕ → ℕ → DataItems → Result Unit Refusal
 judge_apart ids last place NoItems = Ok tt
 judge_apart ids last place (ItemThen x others) =
@@ -63,7 +63,7 @@ abbrev pub judge_ids : ℕ → DataItems → Result (List (List (List ℕ))) Ref
 judge_ids place items =
     judge_all judge_identifier place items >>= λ ids. judge_apart ids 0 place items >>= λ _. Ok ids
 
--- as many as may be
+-- the number of identifiers is judged first
 abbrev pub judge_count : ℕ → DataItems → Result (List (List (List ℕ))) Refusal
 judge_count place items =
     if item_count items == 0 then Err (refused place Shape)

@@ -1,4 +1,4 @@
--- How a manifest is judged, by cases: what it says, or the first refusal.
+-- How a manifest is judged, case by case: what it says, or the first refusal.
 use Rattle.std.specs.Prelude.{ℕ, ◌==◌, if◌then◌else◌, false, List, Option, Some, None, length, Result, Ok, Err}
 use Rattle.det_cbor.specs.DataItem.{DataItem, UnsignedInteger, TextString, ArrayOf, DataPairs}
 use Rattle.det_cbor.specs.HeadReading.{◌>>=◌}
@@ -43,7 +43,7 @@ judge_text place _ = Err (refused place Shape)
 abbrev pub judge_member : ℕ → ℕ → DataItem → Result SequenceTree Refusal
 judge_member count = judge_held (judge_sequence false count levels_inside)
 
--- an array in one way, and all else in another
+-- an array is judged one way, and anything else the other way
 abbrev pub judge_or : {A : Type 0} → (ℕ → DataItem → Result A Refusal)
     → (ℕ → DataItem → Result A Refusal) → ℕ → DataItem → Result A Refusal
 judge_or array other place (ArrayOf items) = array place (ArrayOf items)
@@ -64,7 +64,7 @@ judge_text_apart place x = judge_digest place x >>= λ d. Ok (texts.Apart d)
 abbrev pub judge_item : ℕ → DataItem → Result DataItem Refusal
 judge_item place x = Ok x
 
--- the content of a byte string that is to hold one item
+-- the content of a byte string that must hold one item
 abbrev pub judge_content : ℕ → DataItem → Result (List ℕ) Refusal
 judge_content place x =
     judge_string place x >>= λ c. whole_judged judge_item c.place c.left >>= λ _. Ok c.left
@@ -121,7 +121,7 @@ manifest_of n common later = record {
   text = later.text;
 }
 
--- by entries whose keys are known
+-- the entries are judged once all keys are known
 abbrev pub judge_values : ℕ → List Entry → Result Manifest Refusal
 judge_values place es =
     needed place 1 (entry_under 1 es) >>= λ a.

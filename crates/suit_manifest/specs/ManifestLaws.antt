@@ -12,15 +12,16 @@ use Rattle.suit_manifest.specs.Manifests.{IsManifest, RefusesManifest}
 use Rattle.suit_manifest.specs.ManifestMaking.{manifest_item, placed_manifest, unplaced_manifest}
 use Rattle.suit_manifest.specs.ManifestWriting.{IsGrammatical}
 
--- just one manifest is said, and nothing is refused
+-- the item says exactly one manifest, and has no refusal
 abbrev pub HasOneManifest : ℕ → DataItem → Type 0
 HasOneManifest place x = HoldsOfOne (IsManifest place x) (RefusesManifest place x)
 
--- there is just one refusal, and no manifest is said
+-- the item has exactly one refusal, and says no manifest
 abbrev pub HasOneRefusal : ℕ → DataItem → Type 0
 HasOneRefusal place x = HoldsOfOne (RefusesManifest place x) (IsManifest place x)
 
--- ---- the numbers of the keys of a map ascend: values that are judged by their numbers are judged in the order of their bytes
+-- ---- the numbers of a map's keys ascend, so values that are judged by number are judged in the order of
+-- their bytes
 
 abbrev pub IsAboveNumber : ℕ → Entry → Type 0
 IsAboveNumber n e = (m : ℕ) → e.key ≡ UnsignedInteger m → n < m
@@ -30,11 +31,10 @@ NumbersAscend [] = Unit {0}
 NumbersAscend (e ∷ es) =
     ((n : ℕ) → e.key ≡ UnsignedInteger n → AllByRecursion (IsAboveNumber n) es) × NumbersAscend es
 
--- the laws: each valid item says one manifest or has one refusal, and never both, and so do all
--- bytes. Each manifest that is said is one that the grammar allows; the item that says it is the
--- one that it is written as, its places are those of that item's spelling, and bytes that say it
--- are that spelling. Manifests that are equal places apart are written alike. And the keys of a map
--- are in order
+-- Each valid item says exactly one manifest or has exactly one refusal, and never both; so do any bytes. Each
+-- manifest that is said is allowed by the grammar. The item that says it is the one that it is written as,
+-- its places are those in that item's spelling, and bytes that say it are that spelling. Manifests that
+-- differ only in their places are written alike. The keys of a map are in order.
 pub record ManifestLaws : Type 0 where
   pub one_reading : (place : ℕ) (x : DataItem) → IsValid x
       → HasOneManifest place x ⊎ HasOneRefusal place x

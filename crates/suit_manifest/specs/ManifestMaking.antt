@@ -1,5 +1,5 @@
--- The item that a manifest is written as, and where its sequences then stand
--- (draft-ietf-suit-manifest-25, section 8.4).
+-- The item that a manifest is written as, and the places of its sequences (draft-ietf-suit-manifest-25,
+-- section 8.4).
 use Rattle.std.specs.Prelude.{ℕ, ◌+◌, ◌==◌, if◌then◌else◌, List, [], ◌∷◌, length, Option, Some, None}
 use Rattle.det_cbor.specs.DataItem.{DataItem, UnsignedInteger, ByteString, TextString, ArrayOf, MapOf, DataPairs, NoPairs, PairThen, spell}
 use Rattle.suit_params.specs.Refusing.{content_place}
@@ -14,9 +14,9 @@ use Rattle.suit_manifest.specs.declared.manifest.TextMember.{TextMember}
 use Rattle.suit_manifest.specs.declared.manifest.TextMember.TheVariants as texts
 use Rattle.suit_manifest.specs.Components.{identifier_items}
 
--- ---- maps by their rows
+-- ---- maps as rows
 
--- a number, and the value that stands under it, if one does
+-- a number, and the value under it, if there is one
 abbrev pub Row : Type 0
 Row = ℕ × Option DataItem
 
@@ -24,6 +24,7 @@ abbrev pub pair_then : ℕ → Option DataItem → DataPairs → DataPairs
 pair_then key None ps = ps
 pair_then key (Some value) ps = PairThen (UnsignedInteger key) value ps
 
+-- the pairs of those rows that have a value
 abbrev pub row_pairs : List Row → DataPairs
 row_pairs [] = NoPairs
 row_pairs (r ∷ rs) = pair_then r.0 r.1 (row_pairs rs)
@@ -33,20 +34,20 @@ abbrev pub pairs_of : Option DataItem → ℕ
 pairs_of None = 0
 pairs_of (Some value) = 1
 
--- where the next key is spelled
+-- the place of the next key
 abbrev pub after_row : ℕ → ℕ → Option DataItem → ℕ
 after_row place key None = place
 after_row place key (Some value) =
     place + length (spell (UnsignedInteger key)) + length (spell value)
 
--- the place of the value under a number, where the first key is spelled from a place on
+-- the place of the value under number n, where the first key has this place
 abbrev pub place_among : ℕ → ℕ → List Row → ℕ
 place_among n place [] = place
 place_among n place (r ∷ rs) =
     if r.0 == n then place + length (spell (UnsignedInteger r.0))
     else place_among n (after_row place r.0 r.1) rs
 
--- the same, where the map is spelled from a place on
+-- the same, where the map has this place
 abbrev pub place_under : ℕ → ℕ → List Row → ℕ
 place_under n place rows = place_among n (pairs_place place (row_pairs rows)) rows
 
@@ -70,7 +71,7 @@ text_member_item texts.Empty = None
 text_member_item (texts.Here content) = Some (ByteString content)
 text_member_item (texts.Apart digest) = Some (digest_item digest)
 
--- ---- the manifest, whose common part is an item of its own in a byte string
+-- ---- the manifest; its common part is an item of its own in a byte string
 
 abbrev pub common_rows : Manifest → List Row
 common_rows m = (2, Some (ArrayOf (identifier_items m.components))) ∷ (4, held_item m.shared) ∷ []
@@ -78,6 +79,7 @@ common_rows m = (2, Some (ArrayOf (identifier_items m.components))) ∷ (4, held
 abbrev pub common_item : Manifest → DataItem
 common_item m = MapOf (row_pairs (common_rows m))
 
+-- the rows of a manifest, with its keys in ascending order
 abbrev pub manifest_rows : Manifest → List Row
 manifest_rows m =
     (1, Some (UnsignedInteger 1))
@@ -92,7 +94,7 @@ manifest_rows m =
     ∷ (23, text_member_item m.text)
     ∷ []
 
--- the three pairs that each manifest has, before others
+-- the three pairs that every manifest has, followed by others
 abbrev pub start_pairs : Manifest → DataPairs → DataPairs
 start_pairs m others =
     PairThen (UnsignedInteger 1) (UnsignedInteger 1)
@@ -103,7 +105,7 @@ start_pairs m others =
 abbrev pub manifest_item : Manifest → DataItem
 manifest_item m = MapOf (row_pairs (manifest_rows m))
 
--- ---- places, where the manifest or the byte string of a sequence is spelled from a place on
+-- ---- places, for a manifest or for the byte string of a sequence at a given place
 
 abbrev pub placed_held : ℕ → Option SequenceTree → Option SequenceTree
 placed_held place None = None
@@ -133,7 +135,7 @@ placed_manifest place m =
       install = placed_severed (value_place 20 place m) m.install;
     }
 
--- ---- the same manifest without its places: each is 0
+-- ---- the same manifest with all places set to 0
 
 abbrev pub unplaced_held : Option SequenceTree → Option SequenceTree
 unplaced_held None = None

@@ -1,4 +1,4 @@
--- How a manifest is read, of an item that was judged before.
+-- How a manifest is read, from an item that was judged before.
 use Rattle.std.specs.Prelude.{ℕ, false, List, Option, length, Result, Ok, Err}
 use Rattle.det_cbor.specs.declared.head.HeadKind.{HeadKind}
 use Rattle.det_cbor.specs.declared.head.HeadKind.TheVariants as kinds
@@ -49,7 +49,7 @@ text_at p = head_from p >>= λ h. text_after p.place h.0.value h.1 h.0.kind
 abbrev pub member_at : ℕ → Position → Result SequenceTree Refusal
 member_at count = held_at (whole_sequence false count levels_inside)
 
--- an array in one way, and all else in another
+-- an array is read one way, and anything else the other way
 abbrev pub array_or : {A : Type 0} → Result A Refusal → Result A Refusal → HeadKind
     → Result A Refusal
 array_or array other kinds.Array = array
@@ -81,7 +81,7 @@ severed_in count o = may (severed_at count) o >>= λ m. Ok (member_or_empty m)
 abbrev pub text_in : Option Position → Result TextMember Refusal
 text_in o = may text_member_at o >>= λ m. Ok (text_of m)
 
--- where there are so many components
+-- the values that follow the common part, for this number of components
 abbrev pub later_from : ℕ → LaterValues → Result Later Refusal
 later_from count v =
     may text_at v.reference >>= λ reference.
@@ -104,7 +104,7 @@ later_from count v =
 
 -- ---- the map
 
--- the values after common, in the order of their keys
+-- the values that follow the common part, in the order of their keys
 abbrev pub later_found : Pairs → Result LaterValues Refusal
 later_found s =
     take_from 4 s >>= λ reference.
@@ -126,7 +126,7 @@ later_found s =
       text = text.0;
     })
 
--- all values
+-- all values of a manifest's map
 abbrev pub manifest_found : Pairs → Result ManifestValues Refusal
 manifest_found s =
     take_from 1 s >>= λ version. take_from 2 version.1 >>= λ sequence. take_from 3 sequence.1
@@ -139,7 +139,7 @@ manifest_found s =
       later = later;
     })
 
--- of a map at a place
+-- the values of a map at this place
 abbrev pub values_from : ℕ → ManifestValues → Result Manifest Refusal
 values_from place v =
     needed place 1 v.version >>= λ a.
@@ -154,10 +154,10 @@ values_from place v =
 abbrev pub pairs_from : ℕ → ℕ → Position → Result Manifest Refusal
 pairs_from place pairs p = manifest_found (record { map = p; left = pairs }) >>= values_from place
 
--- a whole item
+-- a whole item, read as a manifest
 abbrev pub manifest_at : Position → Result Manifest Refusal
 manifest_at p = map_from p >>= λ h. pairs_from p.place h.0 h.1
 
--- the whole of some bytes
+-- bytes as a whole, read as a manifest
 abbrev pub manifest_from : Position → Result Manifest Refusal
 manifest_from p = only_at manifest_at p

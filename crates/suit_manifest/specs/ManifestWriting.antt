@@ -1,4 +1,4 @@
--- A manifest that is written is read as that manifest (draft-ietf-suit-manifest-25, section 8.4).
+-- A manifest that is written reads back as that manifest (draft-ietf-suit-manifest-25, section 8.4).
 use Rattle.std.specs.Prelude.{◌≡◌, ◌≤◌, ℕ, Bool, true, false, List, length, IfSome}
 use Rattle.std.specs.List.{AllByRecursion}
 use Rattle.std.specs.Str.{IsUtf8}
@@ -18,7 +18,7 @@ use Rattle.suit_manifest.specs.Components.{IsShort, AreApart}
 use Rattle.suit_manifest.specs.Manifests.{IsManifest, count_said}
 use Rattle.suit_manifest.specs.ManifestMaking.{common_item, placed_manifest, unplaced_manifest}
 
--- ---- bounds by the types of the code, and of the sequences by the calls that write them
+-- ---- the bounds that the types of the code set, and for sequences those that the calls that write them give
 
 abbrev pub IsUtf8String : List ℕ → Type 0
 IsUtf8String text = IsString text × IsUtf8 text
@@ -29,7 +29,7 @@ IdentifierFits id = IsU64 (length id) × AllByRecursion IsString id
 abbrev pub ComponentsFit : List (List (List ℕ)) → Type 0
 ComponentsFit ids = IsU64 (length ids) × AllByRecursion IdentifierFits ids
 
--- of a sequence in a byte string
+-- the bounds of a sequence in a byte string
 abbrev pub HeldFits : SequenceTree → Type 0
 HeldFits s =
     IsString (spell (sequence_item s)) × IsWrittenSequence s (spell (sequence_item s))
@@ -63,21 +63,23 @@ pub record ManifestFits (m : Manifest) : Type 0 where
 
 -- ---- which manifests the grammar allows
 
--- for so many components, in the shared sequence or another one
+-- a sequence of the grammar, in the shared sequence or not, for this number of components
 abbrev pub IsHeldSequence : Bool → ℕ → SequenceTree → Type 0
 IsHeldSequence shared count s = IsSequence shared count levels_allowed s
 
+-- a sequence that the manifest holds is one of the grammar
 abbrev pub IsSevered : ℕ → Member → Type 0
 IsSevered count members.Empty = Unit {0}
 IsSevered count (members.Here s) = IsHeldSequence false count s
 IsSevered count (members.Apart digest) = Unit {0}
 
--- a text that is held is the spelling of one item
+-- a text that the manifest holds is the spelling of one item
 abbrev pub IsTextMember : TextMember → Type 0
 IsTextMember texts.Empty = Unit {0}
 IsTextMember (texts.Here content) = (x : DataItem) × Spells x content
 IsTextMember (texts.Apart digest) = Unit {0}
 
+-- the grammar allows the components, the sequences and the text
 pub record IsGrammatical (m : Manifest) : Type 0 where
   pub some : 1 ≤ length m.components
   pub few : length m.components ≤ 8
@@ -91,8 +93,8 @@ pub record IsGrammatical (m : Manifest) : Type 0 where
   pub install : IsSevered (count_said m) m.install
   pub text : IsTextMember m.text
 
--- ---- wherever the bytes stand, they say the manifest with the places that it has there, where the grammar allows it.
--- Places apart it is the same manifest.
+-- Wherever they are placed, the bytes say the manifest with the places that it has there, if the grammar
+-- allows it. Apart from its places it is the same manifest.
 pub record IsWrittenManifest (m : Manifest) (bytes : List ℕ) : Type 0 where
   pub says : (place : ℕ) → IsGrammatical m
       → SaysWhole IsManifest place bytes (placed_manifest place m)

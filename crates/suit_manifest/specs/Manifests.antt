@@ -21,14 +21,17 @@ use Rattle.suit_manifest.specs.Components.{IsArray}
 use Rattle.suit_manifest.specs.Common.{CommonSays, IsCommon, RefusesCommon}
 use Rattle.suit_manifest.specs.Maps.{entries_of, entry_under, HasKeys, SaysUnder, MaySayUnder, RefusesUnder, RefusesMap}
 
+-- the keys that a manifest may have here
 abbrev pub manifest_keys : List ℕ
 manifest_keys = 1 ∷ 2 ∷ 3 ∷ 4 ∷ 7 ∷ 8 ∷ 9 ∷ 16 ∷ 20 ∷ 23 ∷ []
 
+-- the keys of the version, the sequence number and the common part
 abbrev pub required_keys : List ℕ
 required_keys = 1 ∷ 2 ∷ 3 ∷ []
 
--- ---- values, where there are so many components
+-- ---- values, for a number of components
 
+-- the version must be 1
 pub record IsVersion (place : ℕ) (x : DataItem) (version : ℕ) : Type 0 where
   pub is : x ≡ UnsignedInteger version
   pub first : version ≡ 1
@@ -39,6 +42,7 @@ SaysNumber place x n = x ≡ UnsignedInteger n
 abbrev pub SaysText : Says (List ℕ)
 SaysText place x text = x ≡ TextString text
 
+-- a byte string that holds a command sequence
 abbrev pub SaysMember : ℕ → Says SequenceTree
 SaysMember count place x s = SaysHeld (SaysSequence false count levels_allowed) place x s
 
@@ -49,7 +53,7 @@ pub data SaysSevered (count place : ℕ) (x : DataItem) : Member → Type 0 wher
   SaysApart : (digest : Digest) → IsDigest place x digest
       → SaysSevered count place x (members.Apart digest)
 
--- any one item
+-- any item, which says itself
 abbrev pub SaysItem : Says DataItem
 SaysItem place x said = x ≡ said
 
@@ -60,10 +64,12 @@ pub data SaysTextMember (place : ℕ) (x : DataItem) : TextMember → Type 0 whe
   SaysTextApart : (digest : Digest) → IsDigest place x digest
       → SaysTextMember place x (texts.Apart digest)
 
+-- the value under this number, which may be absent, says this severable member
 abbrev pub SeveredUnder : ℕ → ℕ → List Entry → Member → Type 0
 SeveredUnder n count es members.Empty = entry_under n es ≡ None
 SeveredUnder n count es said = SaysUnder n (SaysSevered count) es said
 
+-- the same for the text, whose key is 23
 abbrev pub TextUnder : List Entry → TextMember → Type 0
 TextUnder es texts.Empty = entry_under 23 es ≡ None
 TextUnder es said = SaysUnder 23 SaysTextMember es said
@@ -76,6 +82,8 @@ common_said m = record { components = m.components; shared = m.shared }
 abbrev pub count_said : Manifest → ℕ
 count_said m = length m.components
 
+-- the item is a manifest that says this: a map with known keys, the required ones, and values that say its
+-- parts
 pub record IsManifest (place : ℕ) (x : DataItem) (said : Manifest) : Type 0 where
   pub map : HasKeys manifest_keys required_keys place x
   pub version : SaysUnder 1 IsVersion (entries_of place map.pairs) 1
@@ -107,21 +115,21 @@ pub data RefusesText (place : ℕ) : DataItem → Refusal → Type 0 where
 abbrev pub RefusesMember : ℕ → Refuses
 RefusesMember count place x r = RefusesHeld (RefusesSequence false count levels_allowed) place x r
 
--- an array is judged as a digest, and all else as a byte string
+-- an array is judged as a digest, and anything else as a byte string
 pub data RefusesApart (held : Refuses) (place : ℕ) : DataItem → Refusal → Type 0 where
   BadDigest : (x : DataItem) (r : Refusal) → IsArray x → RefusesDigest place x r
       → RefusesApart held place x r
   BadHeld : (x : DataItem) (r : Refusal) → (IsArray x → ⊥) → held place x r
       → RefusesApart held place x r
 
--- of one item nothing more is refused
+-- an item is not refused for anything more
 abbrev pub RefusesNothing : Refuses
 RefusesNothing place x r = ⊥
 
 abbrev pub RefusesItem : Refuses
 RefusesItem place x r = RefusesHeld RefusesNothing place x r
 
--- the values after common, which may be there
+-- the keys that follow the common part, all of which are optional
 pub data LaterKey : Type 0 where
   ReferenceKey : LaterKey
   ValidateKey : LaterKey
@@ -131,7 +139,7 @@ pub data LaterKey : Type 0 where
   InstallKey : LaterKey
   TextKey : LaterKey
 
--- the values said and refused under one, where there are so many components
+-- the value under such a key, if there is one, says something for this number of components
 abbrev pub SaysLater : ℕ → List Entry → LaterKey → Type 0
 SaysLater count es ReferenceKey = (said : Option (List ℕ)) × MaySayUnder 4 SaysText es said
 SaysLater count es ValidateKey =
@@ -152,10 +160,12 @@ RefusesLater count es PayloadFetchKey r = RefusesUnder 16 (RefusesApart (Refuses
 RefusesLater count es InstallKey r = RefusesUnder 20 (RefusesApart (RefusesMember count)) es r
 RefusesLater count es TextKey r = RefusesUnder 23 (RefusesApart RefusesItem) es r
 
+-- those keys in the order in which their values are judged
 abbrev pub later_keys : List LaterKey
 later_keys =
     ReferenceKey ∷ ValidateKey ∷ LoadKey ∷ InvokeKey ∷ PayloadFetchKey ∷ InstallKey ∷ TextKey ∷ []
 
+-- the refusals of the values: version, sequence number, common part, and then the optional ones
 pub data RefusesManifestValues (es : List Entry) (r : Refusal) : Type 0 where
   BadVersion : RefusesUnder 1 RefusesVersion es r → RefusesManifestValues es r
   BadNumber : SaysUnder 1 IsVersion es 1 → RefusesUnder 2 RefusesNumber es r

@@ -1,4 +1,4 @@
--- Maps whose keys are numbers of a table: what is said and refused of them.
+-- Maps whose keys are numbers from a table: what they say, and how they are refused.
 use Rattle.std.specs.Prelude.{◌≡◌, ℕ, true, List, [], ◌∷◌, Option, Some, None, if◌then◌else◌}
 use Rattle.std.specs.List.{AllByRecursion}
 use Rattle.det_cbor.specs.DataItem.{DataItem, UnsignedInteger, MapOf, DataPairs}
@@ -17,38 +17,38 @@ entries_of place pairs = entries (pairs_place place pairs) pairs
 abbrev pub IsKeyAmong : List ℕ → Entry → Type 0
 IsKeyAmong keys e = (n : ℕ) × Among n keys × (e.key ≡ UnsignedInteger n)
 
--- the entry that stands under a number
+-- the entry under this number, if there is one
 abbrev pub entry_under : ℕ → List Entry → Option Entry
 entry_under n [] = None
 entry_under n (e ∷ es) = if is_number n e.key then Some e else entry_under n es
 
--- a map of these keys that has the required ones among them
+-- a map with only these keys, and with all the required ones
 pub record HasKeys (keys required : List ℕ) (place : ℕ) (x : DataItem) : Type 0 where
   pub pairs : DataPairs
   pub is : x ≡ MapOf pairs
   pub known : AllByRecursion (IsKeyAmong keys) (entries_of place pairs)
   pub complete : AllByRecursion (λ n. has_key n (entries_of place pairs) ≡ true) required
 
--- the value under a number says this
+-- the value under this number says this
 pub record SaysUnder {A : Type 0} (n : ℕ) (form : Says A) (es : List Entry) (said : A)
     : Type 0 where
   pub entry : Entry
   pub there : entry_under n es ≡ Some entry
   pub says_so : form entry.value_place entry.value said
 
--- the same, where something may stand there
+-- the same for an optional number
 abbrev pub MaySayUnder : {A : Type 0} → ℕ → Says A → List Entry → Option A → Type 0
 MaySayUnder n form es None = entry_under n es ≡ None
 MaySayUnder n form es (Some said) = SaysUnder n form es said
 
--- the value under a number is refused for this reason
+-- the value under this number has this refusal
 pub record RefusesUnder (n : ℕ) (bad : Refuses) (es : List Entry) (r : Refusal) : Type 0 where
   pub entry : Entry
   pub there : entry_under n es ≡ Some entry
   pub refuses : bad entry.value_place entry.value r
 
--- ---- refusals: unknown keys first, then missing ones, then values in their order. Keys ascend in a map, so the order
--- of the values is that of the numbers of their keys
+-- ---- refusals: unknown keys first, then missing ones, and then the values in their order, which is that of
+-- the numbers of their keys, since keys ascend in a map
 
 pub data RefusesOtherKey (keys : List ℕ) (e : Entry) : Refusal → Type 0 where
   OtherKey : (IsKeyAmong keys e → ⊥) → RefusesOtherKey keys e (refused e.key_place UnknownKey)

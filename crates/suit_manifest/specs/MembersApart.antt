@@ -1,5 +1,4 @@
--- The members that stand apart from a manifest, in its envelope (draft-ietf-suit-manifest-25,
--- sections 8.4 and 8.5).
+-- The severed members of a manifest, in its envelope (draft-ietf-suit-manifest-25, sections 8.4 and 8.5).
 use Rattle.std.specs.Prelude.{◌≡◌, ◌≢◌, ◌<◌, ◌⊎◌, ◌^◌, ℕ, false, length, List, Option, Some, None, Result, MatchResult, IsErrAnd}
 use Rattle.suit_params.specs.declared.refusal.Fault.{Fault}
 use Rattle.suit_params.specs.declared.refusal.Fault.TheVariants as faults
@@ -38,14 +37,14 @@ pub record IsTaken (count : ℕ) (held : Option (List ℕ)) (place : ℕ) (state
   pub matches : string_like stated content ≡ stated
   pub says_so : SaysWhole (SaysSequence false count levels_allowed) place content s
 
--- a member is taken where the manifest states its digest, and nowhere else
+-- a member is taken if and only if the manifest states its digest
 abbrev pub HasMember : ℕ → Option (List ℕ) → ℕ → Member → Option SequenceTree → Type 0
 HasMember count held place (Apart stated) (Some s) = IsTaken count held place stated s
 HasMember count held place (Apart stated) None = ⊥
 HasMember count held place Empty apart = apart ≡ None
 HasMember count held place (Here own) apart = apart ≡ None
 
--- why a member whose digest is stated is not taken
+-- why a member whose digest is stated cannot be taken
 pub data LacksTaken (name : MemberName) (count : ℕ) (held : Option (List ℕ)) (place : ℕ)
     (stated : Digest) : MemberFault → Type 0 where
   IsSevered : held ≡ None → LacksTaken name count held place stated (Severed name)
@@ -57,6 +56,7 @@ pub data LacksTaken (name : MemberName) (count : ℕ) (held : Option (List ℕ))
       → RefusesWhole (RefusesSequence false count levels_allowed) place content r
       → LacksTaken name count held place stated (Refused r)
 
+-- why a member cannot be taken; only one whose digest is stated is taken at all
 abbrev pub LacksMember : MemberName → ℕ → Option (List ℕ) → ℕ → Member → MemberFault → Type 0
 LacksMember name count held place (Apart stated) fault =
     LacksTaken name count held place stated fault
@@ -86,17 +86,17 @@ LacksInstall said manifest fault =
 
 -- ---- both members
 
--- the manifest's number of components fits 32 bits, and each place in the envelope's members fits
--- 64
+-- the manifest's number of components fits 32 bits, and the places in the envelope's members fit 64
 abbrev pub CanTakeMembers : EnvelopeSays → Manifest → Type 0
 CanTakeMembers said manifest =
     (length manifest.components < 2 ^ 32) × MembersEndBelow (2 ^ 64) said
 
+-- both members are taken as the manifest states
 pub record HasMembers (said : EnvelopeSays) (manifest : Manifest) (members : Members) : Type 0 where
   pub payload_fetch : HasPayloadFetch said manifest members.payload_fetch
   pub install : HasInstall said manifest members.install
 
--- payload-fetch is judged whole before install
+-- payload-fetch is judged completely before install
 pub data LacksMembers (said : EnvelopeSays) (manifest : Manifest) (fault : MemberFault)
     : Type 0 where
   ByPayloadFetch : LacksPayloadFetch said manifest fault → LacksMembers said manifest fault
@@ -105,7 +105,7 @@ pub data LacksMembers (said : EnvelopeSays) (manifest : Manifest) (fault : Membe
 
 -- ---- answers
 
--- the content of a member is refused as a sequence, or memory ran out for it
+-- the content of a member is refused as a sequence, or memory ran out
 abbrev pub RefusesContent : ℕ → ℕ → List ℕ → MemberFault → Type 0
 RefusesContent count place content (Refused r) =
     RefusesWhole (RefusesSequence false count levels_allowed) place content r
@@ -117,17 +117,17 @@ abbrev pub content_fault : Fault → MemberFault
 content_fault (faults.Refused r) = Refused r
 content_fault faults.NoMemory = NoMemory
 
--- a fault by such a cause, or because memory ran out
+-- there was such a fault, or memory ran out
 abbrev pub IsLackBy : (MemberFault → Type 0) → MemberFault → Type 0
 IsLackBy lacks (Severed name) = lacks (Severed name)
 IsLackBy lacks (Differs name stated found) = lacks (Differs name stated found)
 IsLackBy lacks (Refused r) = lacks (Refused r)
 IsLackBy lacks NoMemory = Unit {0}
 
--- this was taken, unless memory ran out
+-- this was taken, or memory ran out
 abbrev pub IsTakenAs : {A : Type 0} → A → Result A MemberFault → Type 0
 IsTakenAs wanted answer = MatchResult answer (λ found. found ≡ wanted) (λ fault. fault ≡ NoMemory)
 
--- this was the fault, unless memory ran out
+-- this was the fault, or memory ran out
 abbrev pub IsLackedAs : {A : Type 0} → MemberFault → Result A MemberFault → Type 0
 IsLackedAs wanted answer = IsErrAnd answer (λ fault. (fault ≡ wanted) ⊎ (fault ≡ NoMemory))

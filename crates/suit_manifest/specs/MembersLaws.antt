@@ -1,4 +1,4 @@
--- Laws of the members that stand apart, whatever reads them.
+-- Laws of severed members, whichever function takes them.
 use Rattle.std.specs.Prelude.{◌⊎◌, ℕ, List}
 use Rattle.suit_envelope.specs.Envelopes.{EnvelopeSays}
 use Rattle.suit_envelope.specs.Said.{EnvelopeOf}
@@ -6,15 +6,15 @@ use Rattle.suit_manifest.specs.declared.manifest.Manifest.{Manifest}
 use Rattle.suit_manifest.specs.JustOne.{HoldsOfOne}
 use Rattle.suit_manifest.specs.MembersApart.{HasMembers, LacksMembers}
 
--- just one answer, and nothing is lacking
+-- there is exactly one answer, and no fault
 abbrev pub HasOneAnswer : EnvelopeSays → Manifest → Type 0
 HasOneAnswer said manifest = HoldsOfOne (HasMembers said manifest) (LacksMembers said manifest)
 
--- just one fault, and no answer
+-- there is exactly one fault, and no answer
 abbrev pub HasOneFault : EnvelopeSays → Manifest → Type 0
 HasOneFault said manifest = HoldsOfOne (LacksMembers said manifest) (HasMembers said manifest)
 
--- the law: an envelope has one answer of members or one fault for each manifest, and never both
+-- for each manifest, an envelope gives exactly one answer or has exactly one fault, and never both
 pub record MembersLaws : Type 0 where
   pub one_answer : (bytes : List ℕ) (said : EnvelopeSays) (manifest : Manifest)
       → EnvelopeOf bytes said → HasOneAnswer said manifest ⊎ HasOneFault said manifest

@@ -13,12 +13,12 @@ use Rattle.suit_manifest.specs.Manifests.{IsManifest}
 use Rattle.suit_manifest.specs.MembersApart.{HasMembers}
 use Rattle.suit_manifest.specs.Procedures.{update_tree, invocation_tree}
 
--- a procedure has this sequence for one that may be there: that one, or else an empty one
+-- a procedure has this sequence for an optional one: the sequence itself, or else an empty one
 pub record StandsFor (held : Option SequenceTree) (s : SequenceTree) : Type 0 where
   pub there : (t : SequenceTree) → held ≡ Some t → s ≡ t
   pub absent : held ≡ None → s ≡ NoSteps
 
--- the like for a member that may stand apart, with what stands apart
+-- the same for a severable member, given the severed one
 pub record StandsForMember (member : Member) (apart : Option SequenceTree) (s : SequenceTree)
     : Type 0 where
   pub here : (t : SequenceTree) → member ≡ Here t → s ≡ t
@@ -42,8 +42,8 @@ pub record InvokesInOrder (manifest : Manifest) (plan : PlanTree) : Type 0 where
   pub third : StandsFor manifest.invoke plan.third
   pub count : plan.count ≡ length manifest.components
 
--- the laws: each procedure has its members in their order, and is one of the grammar, the update
--- procedure with whatever members an envelope has
+-- Each procedure has its members in their order, and is one of the grammar; for the update procedure this
+-- holds with whatever members an envelope has.
 pub record ProcedureLaws : Type 0 where
   pub update : (place : ℕ) (x : DataItem) (said : EnvelopeSays) (manifest : Manifest)
       (members : Members)

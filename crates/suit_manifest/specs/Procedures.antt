@@ -7,18 +7,18 @@ use Rattle.suit_manifest.specs.declared.manifest.Member.TheVariants.{Empty, Here
 use Rattle.suit_manifest.specs.declared.manifest.Members.{Members}
 use Rattle.suit_manifest.specs.Manifests.{count_said}
 
--- an absent sequence is an empty one
+-- an absent sequence counts as empty
 abbrev pub tree_or_empty : Option SequenceTree → SequenceTree
 tree_or_empty None = NoSteps
 tree_or_empty (Some s) = s
 
--- a member that may stand apart: the manifest's own, or else the one that stands apart
+-- the sequence of a severable member: the manifest's own, or else the severed one
 abbrev pub member_tree : Member → Option SequenceTree → SequenceTree
 member_tree Empty apart = NoSteps
 member_tree (Here s) apart = s
 member_tree (Apart digest) apart = tree_or_empty apart
 
--- three members, each behind the manifest's shared sequence
+-- three members, each after the manifest's shared sequence
 abbrev pub behind_shared : Manifest → SequenceTree → SequenceTree → SequenceTree → PlanTree
 behind_shared manifest first second third = record {
   shared = tree_or_empty manifest.shared;
@@ -28,13 +28,13 @@ behind_shared manifest first second third = record {
   count = count_said manifest;
 }
 
--- payload-fetch, install and validate
+-- the update procedure: payload-fetch, install and validate
 abbrev pub update_tree : Manifest → Members → PlanTree
 update_tree manifest members =
     behind_shared manifest (member_tree manifest.payload_fetch members.payload_fetch)
     (member_tree manifest.install members.install) (tree_or_empty manifest.validate)
 
--- validate, load and invoke
+-- the invocation procedure: validate, load and invoke
 abbrev pub invocation_tree : Manifest → PlanTree
 invocation_tree manifest =
     behind_shared manifest (tree_or_empty manifest.validate) (tree_or_empty manifest.load)

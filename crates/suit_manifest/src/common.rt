@@ -1,4 +1,4 @@
-//! The common part of a manifest, read from an item judged before.
+//! Reading the common part of a manifest, from an item that was judged before.
 
 ghost use Rattle.std.specs.Prelude.{◌≡◌, ◌≤◌, length, IfOk};
 ghost use Rattle.suit_params.specs.Answering.{Gives};
@@ -22,7 +22,7 @@ pub(crate) struct Common {
     pub(crate) shared: Option<Sequence>,
 }
 
-/// Reads a byte string that holds a sequence, for so many components.
+/// Reads a byte string that holds a sequence. Component indices must be below `count`.
 pub(crate) fn read_sequence(
     alloc: Global,
     mut item: Cursor<'_>,
@@ -37,7 +37,7 @@ pub(crate) fn read_sequence(
     decode_sequence(alloc, bytes_left(content), place, shared, count)
 }
 
-/// The same, if there is one.
+/// Reads a byte string that holds a sequence, if there is one.
 pub(crate) fn read_optional(
     alloc: Global,
     item: Option<Cursor<'_>>,
@@ -53,15 +53,15 @@ pub(crate) fn read_optional(
     }
 }
 
-/// The values of the common part's map, each as an item by itself.
+/// The values in the common part's map, each as a cursor over its item.
 #[derive(Debug, Drop)]
 pub struct CommonValues<'a> {
     pub components: Option<Cursor<'a>>,
     pub shared: Option<Cursor<'a>>,
 }
 
-/// The values of a map of so many pairs that has no other keys; or the first key that is not known.
-/// The map was judged before, and the cursor stands behind its head. Takes no memory.
+/// Finds the values in a map of `count` pairs, and refuses the first unknown key. The map was
+/// judged before, and the cursor is after its head. Allocates nothing.
 pub fn common_values<'a>(map: Cursor<'a>, count: u64) -> Result<CommonValues<'a>, Refusal>
     ensures { result ≡ common_found (record { map = map.entry; left = count }) }
 {
@@ -72,7 +72,7 @@ pub fn common_values<'a>(map: Cursor<'a>, count: u64) -> Result<CommonValues<'a>
     Ok(CommonValues { components, shared })
 }
 
-// Reads the common part from the values of a map.
+// Reads the common part from the values of its map.
 fn read_values(alloc: Global, place: u64, values: CommonValues<'_>) -> Result<Common, Fault>
     ensures says { Gives (λ c. record { components = c.components; shared = c.shared }) result
         (common_values_from place values.entry) }
@@ -84,7 +84,7 @@ fn read_values(alloc: Global, place: u64, values: CommonValues<'_>) -> Result<Co
     Ok(Common { components, shared })
 }
 
-// Reads the common part from a map of so many pairs.
+// Reads the common part from a map of `pairs` pairs.
 fn read_pairs(alloc: Global, map: Cursor<'_>, place: u64, pairs: u64) -> Result<Common, Fault>
     ensures says { Gives (λ c. record { components = c.components; shared = c.shared }) result
         (common_pairs_from place pairs map.entry) }
@@ -94,8 +94,8 @@ fn read_pairs(alloc: Global, map: Cursor<'_>, place: u64, pairs: u64) -> Result<
     read_values(alloc, place, values)
 }
 
-/// Reads a whole item as the common part: unknown keys are refused first, then missing ones, and
-/// then the first value that is refused.
+/// Reads a whole item as the common part. Unknown keys are refused first, then missing ones, and
+/// then the first bad value.
 pub(crate) fn read_common(alloc: Global, mut item: Cursor<'_>) -> Result<Common, Fault>
     ensures says { Gives (λ c. record { components = c.components; shared = c.shared }) result
         (common_at item.entry) }

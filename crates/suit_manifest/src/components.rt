@@ -1,4 +1,4 @@
-//! The identifiers of a manifest's components, read from an item judged before.
+//! Reading the identifiers of a manifest's components, from an item that was judged before.
 
 ghost use Rattle.std.specs.Prelude.{◌≡◌, ◌-◌, ◌<◌, ◌≤◌, length, IfOk};
 ghost use Rattle.suit_params.specs.Answering.{Gives};
@@ -12,10 +12,10 @@ use suit_params::{
     read_item, refused, same_place,
 };
 
-/// How many components a manifest may have.
+/// The most components that a manifest may have.
 pub const MAX_COMPONENTS: u64 = 8;
 
-// Reads a byte string's content.
+// Reads a byte string, and copies its content.
 fn read_part(alloc: Global, mut item: Cursor<'_>) -> Result<Bytes, Fault>
     ensures { Gives (λ b. b) result (part_at item.entry) }
 {
@@ -23,7 +23,7 @@ fn read_part(alloc: Global, mut item: Cursor<'_>) -> Result<Bytes, Fault>
     Ok(copy_left(alloc, content)?)
 }
 
-// Reads so many byte strings.
+// Reads the next `count` byte strings.
 fn read_parts(alloc: Global, mut items: Cursor<'_>, count: u64) -> Result<Identifier, Fault>
     ensures { Gives (λ id. id) result (all_from part_at count items.entry) }
 {
@@ -35,7 +35,7 @@ fn read_parts(alloc: Global, mut items: Cursor<'_>, count: u64) -> Result<Identi
     Ok(parts)
 }
 
-// Reads a whole item as an identifier, which has at most 64 bytes.
+// Reads a whole item as an identifier, which must take at most 64 bytes.
 fn read_identifier(alloc: Global, mut item: Cursor<'_>) -> Result<Identifier, Fault>
     ensures { Gives (λ id. id) result (identifier_at item.entry) }
 {
@@ -50,7 +50,7 @@ fn read_identifier(alloc: Global, mut item: Cursor<'_>) -> Result<Identifier, Fa
     }
 }
 
-// Reads so many identifiers.
+// Reads the next `count` identifiers.
 fn read_identifiers(alloc: Global, mut items: Cursor<'_>, count: u64) -> Result<Identifiers, Fault>
     ensures says { Gives (λ ids. ids) result (all_from identifier_at count items.entry) }
     ensures all { IfOk result (λ ids. length ids ≡ count) }
@@ -63,8 +63,8 @@ fn read_identifiers(alloc: Global, mut items: Cursor<'_>, count: u64) -> Result<
     Ok(ids)
 }
 
-// Refuses two that are alike: the second is found first, and then the first that it is like. No
-// identifier is before the first.
+// Refuses two equal identifiers: the second is as early as possible, and then the first. The first
+// identifier has none before it.
 fn judge_apart(ids: &Identifiers, mut items: Cursor<'_>) -> Result<(), Refusal>
     ensures { result ≡ apart_from ids.now 1 (length ids.now - 1) items.entry }
 {
@@ -87,7 +87,7 @@ fn read_apart(alloc: Global, mut items: Cursor<'_>, count: u64) -> Result<Identi
     Ok(ids)
 }
 
-// Reads so many identifiers of an array at a place.
+// Reads the next `count` identifiers of an array whose place is `place`.
 fn read_counted(
     alloc: Global,
     items: Cursor<'_>,
@@ -106,8 +106,8 @@ fn read_counted(
     }
 }
 
-/// Reads a whole item as the identifiers of components: too many are refused first, then the first
-/// that is no identifier or too long, and then two that are alike.
+/// Reads a whole item as the identifiers of components. Too many are refused first, then the first
+/// one that is malformed or too long, and then two that are equal.
 pub(crate) fn read_components(alloc: Global, mut item: Cursor<'_>) -> Result<Identifiers, Fault>
     ensures says { Gives (λ ids. ids) result (components_at item.entry) }
     ensures few { IfOk result (λ ids. length ids ≤ 8) }

@@ -21,7 +21,7 @@ use det_cbor::Cursor;
 use std::alloc::Global;
 use suit_params::{Fault, only_item, read_content, read_map};
 
-// Reads the common part, which a byte string holds.
+// Reads the common part that a byte string holds.
 fn held_common(alloc: Global, mut item: Cursor<'_>) -> Result<Common, Fault>
     ensures says { Gives (λ c. record { components = c.components; shared = c.shared }) result
         (held_at (only_at common_at) item.entry) }
@@ -32,7 +32,7 @@ fn held_common(alloc: Global, mut item: Cursor<'_>) -> Result<Common, Fault>
     read_common(alloc, item)
 }
 
-// The manifest of these parts.
+// Makes a manifest from its parts.
 fn manifest_of(sequence: u64, common: Common, later: Later) -> Manifest
     ensures { result
         ≡ manifest_of sequence (record { components = common.components; shared = common.shared })
@@ -52,7 +52,7 @@ fn manifest_of(sequence: u64, common: Common, later: Later) -> Manifest
     }
 }
 
-// Reads a manifest from the values of a map.
+// Reads a manifest from the values of its map.
 fn read_values(alloc: Global, place: u64, values: ManifestValues<'_>) -> Result<Manifest, Fault>
     ensures { Gives (λ m. m) result (values_from place values.entry) }
 {
@@ -66,7 +66,7 @@ fn read_values(alloc: Global, place: u64, values: ManifestValues<'_>) -> Result<
     Ok(manifest_of(sequence, common, later))
 }
 
-// Reads a manifest from a map of so many pairs.
+// Reads a manifest from a map of `pairs` pairs.
 fn read_pairs(alloc: Global, map: Cursor<'_>, place: u64, pairs: u64) -> Result<Manifest, Fault>
     ensures { Gives (λ m. m) result (pairs_from place pairs map.entry) }
 {
@@ -83,7 +83,7 @@ fn read_manifest(alloc: Global, mut item: Cursor<'_>) -> Result<Manifest, Fault>
     read_pairs(alloc, item, place, pairs)
 }
 
-// See `decode_manifest`.
+// Does the work of `decode_manifest`.
 fn whole_manifest(alloc: Global, bytes: &[u8], place: u64) -> Result<Manifest, Fault>
     requires { place + length bytes.now < 2 ^ 64 }
     ensures { Gives (λ m. m) result (manifest_from (record { left = bytes.now; place = place })) }
@@ -92,11 +92,11 @@ fn whole_manifest(alloc: Global, bytes: &[u8], place: u64) -> Result<Manifest, F
     read_manifest(alloc, item)
 }
 
-/// Decodes the manifest that the bytes spell (draft-ietf-suit-manifest-25, section 8.4). The bytes
-/// start at this place in the envelope, from which the places of commands and refusals count.
+/// Decodes a manifest (draft-ietf-suit-manifest-25, section 8.4). `place` is where the bytes begin
+/// in the envelope; the places of commands and refusals are counted from the envelope's start.
 ///
-/// The bytes are judged as one item first, and the map then: unknown keys, missing keys, and values
-/// in their order. Allocates only for the manifest, and frees it all after a fault.
+/// The bytes are judged as one CBOR item first, and then the map: unknown keys, missing keys, and
+/// the values in their order. Allocates only for the manifest, and frees all of it after a fault.
 pub fn decode_manifest(alloc: Global, bytes: &[u8], place: u64) -> Result<Manifest, Fault>
     requires { place + length bytes.now < 2 ^ 64 }
     ensures ok { IfOk result (λ m. SaysWhole IsManifest place bytes.now m) }

@@ -15,10 +15,9 @@ use det_cbor::{Bytes, push_number};
 use std::alloc::{AllocError, Global};
 
 /// Encodes a manifest's map in its one spelling (draft-ietf-suit-manifest-25, section 8.4). The
-/// common part and each sequence are first written to bytes of their own, which stand in byte
-/// strings.
+/// common part and each sequence are encoded on their own first, and put into byte strings.
 ///
-/// Any manifest is written, even one that the grammar refuses. The places of its sequences are
+/// Any manifest is written, even one that the grammar refuses. The places in its sequences are
 /// ignored.
 pub fn encode_manifest(alloc: Global, manifest: &Manifest) -> Result<Bytes, AllocError>
     ensures spelling { IfOk result (λ bytes. bytes ≡ spell (manifest_item manifest.now)) }
@@ -38,7 +37,7 @@ pub fn encode_manifest(alloc: Global, manifest: &Manifest) -> Result<Bytes, Allo
     Ok(out)
 }
 
-// Adds the three pairs that each manifest has.
+// Appends the three pairs that every manifest has.
 fn push_start(alloc: Global, out: &mut Bytes, manifest: &Manifest) -> Result<(), AllocError>
     ensures ok { (others : DataPairs)
         → OnOk result

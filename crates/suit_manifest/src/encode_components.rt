@@ -40,7 +40,7 @@ fn push_identifiers(out: &mut Bytes, identifiers: &[Identifier]) -> Result<(), A
     Ok(())
 }
 
-/// Adds the array of the components' identifiers.
+/// Appends the array of the components' identifiers.
 pub(crate) fn push_components(out: &mut Bytes, components: &Identifiers) -> Result<(), AllocError>
     ensures ok { OnOk result
         (out.new ≡ out.old ++ spell (ArrayOf (identifier_items components.now))) }

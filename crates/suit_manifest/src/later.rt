@@ -1,4 +1,5 @@
-//! The values of a manifest's map after common, read from an item judged before.
+//! Reading the values that follow the common part in a manifest's map, from items that were judged
+//! before.
 
 ghost use Rattle.std.specs.Prelude.{◌≡◌};
 ghost use Rattle.suit_params.specs.Answering.{Gives};
@@ -25,7 +26,7 @@ pub(crate) struct Later {
     pub(crate) text: TextMember,
 }
 
-/// Reads the values in their order, for so many components.
+/// Reads the values in their order. Component indices must be below `count`.
 pub(crate) fn read_later(alloc: Global, values: LaterValues<'_>, count: u32) -> Result<Later, Fault>
     ensures { Gives (λ l. l) result (later_from count values.entry) }
 {

@@ -1,5 +1,5 @@
 //! Manifests (draft-ietf-suit-manifest-25, section 8.4): how they are read and written, their
-//! members that stand apart, and their two procedures.
+//! severable members, and their two procedures.
 #![tactic(auto)]
 
 mod common;

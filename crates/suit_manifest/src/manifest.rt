@@ -4,18 +4,19 @@ use det_cbor::{Bytes, Text};
 use suit_commands::Sequence;
 use suit_params::{Digest, Identifiers};
 
-/// A member that may stand in the manifest, or apart in the envelope.
+/// A severable member, which is in the manifest or severed into the envelope.
 #[derive(Debug, Drop)]
 pub enum Member {
-    /// There is none.
+    /// There is no such member.
     Empty,
-    /// The manifest holds it.
+    /// The manifest holds the member.
     Here(Sequence),
-    /// The manifest states its digest: that of the member's whole byte string in the envelope.
+    /// The member is severed. The manifest states the digest of its whole byte string in the
+    /// envelope.
     Apart(Digest),
 }
 
-/// The text, which is kept as the bytes of one item and passed on unread.
+/// The text, which is kept as the bytes of one item and not read.
 #[derive(Debug, Drop)]
 pub enum TextMember {
     Empty,
@@ -23,11 +24,11 @@ pub enum TextMember {
     Apart(Digest),
 }
 
-/// A manifest (draft-ietf-suit-manifest-25, section 8.4). Places are counted in bytes from the
-/// envelope's first.
+/// A manifest (draft-ietf-suit-manifest-25, section 8.4). Places are in bytes from the start of the
+/// envelope.
 #[derive(Debug, Drop)]
 pub struct Manifest {
-    /// The number that grows with each manifest of a device.
+    /// The sequence number, which grows with each manifest of a device.
     pub sequence: u64,
     pub components: Identifiers,
     /// The commands that are run before each member.
@@ -41,7 +42,7 @@ pub struct Manifest {
     pub text: TextMember,
 }
 
-/// The members that stand apart, as the envelope holds them.
+/// The severed members, as the envelope holds them.
 #[derive(Debug, Drop)]
 pub struct Members {
     pub payload_fetch: Option<Sequence>,

@@ -1,4 +1,4 @@
-//! The values of a manifest's map, as they stand in it.
+//! The values in a manifest's map.
 
 ghost use Rattle.std.specs.Prelude.{◌≡◌};
 ghost use Rattle.suit_manifest.specs.ManifestReading.{later_found, manifest_found};
@@ -7,8 +7,8 @@ use crate::pairs::Pairs;
 use det_cbor::Cursor;
 use suit_params::Refusal;
 
-/// The values of a manifest's map (draft-ietf-suit-manifest-25, section 8.4), each as an item by
-/// itself.
+/// The values in a manifest's map (draft-ietf-suit-manifest-25, section 8.4), each as a cursor over
+/// its item.
 #[derive(Debug, Drop)]
 pub struct ManifestValues<'a> {
     pub version: Option<Cursor<'a>>,
@@ -17,7 +17,7 @@ pub struct ManifestValues<'a> {
     pub later: LaterValues<'a>,
 }
 
-/// The values after common, each as an item by itself.
+/// The values that follow the common part, each as a cursor over its item.
 #[derive(Debug, Drop)]
 pub struct LaterValues<'a> {
     pub reference: Option<Cursor<'a>>,
@@ -29,7 +29,7 @@ pub struct LaterValues<'a> {
     pub text: Option<Cursor<'a>>,
 }
 
-// The values after common, which are the last of the map.
+// Finds the values that follow the common part, which are the last of the map.
 fn find_later<'a>(mut pairs: Pairs<'a>) -> Result<LaterValues<'a>, Refusal>
     ensures { result ≡ later_found pairs.entry }
 {
@@ -52,8 +52,8 @@ fn find_later<'a>(mut pairs: Pairs<'a>) -> Result<LaterValues<'a>, Refusal>
     })
 }
 
-/// The values of a map of so many pairs that has no other keys; or the first key that is not known.
-/// The map was judged before, and the cursor stands behind its head. Takes no memory.
+/// Finds the values in a map of `count` pairs, and refuses the first unknown key. The map was
+/// judged before, and the cursor is after its head. Allocates nothing.
 pub fn manifest_values<'a>(map: Cursor<'a>, count: u64) -> Result<ManifestValues<'a>, Refusal>
     ensures { result ≡ manifest_found (record { map = map.entry; left = count }) }
 {

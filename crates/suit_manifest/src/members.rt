@@ -1,4 +1,4 @@
-//! The members that stand apart from their manifest, taken from its envelope.
+//! The severed members of a manifest, taken from its envelope.
 
 ghost use Rattle.std.specs.Prelude.{◌≡◌, IfOk, IfErr};
 ghost use Rattle.suit_envelope.specs.Said.{said_by};
@@ -13,20 +13,19 @@ use std::alloc::Global;
 use suit_envelope::{Envelope, MemberName};
 use suit_params::{Digest, Fault, Refusal};
 
-/// Why a member that stands apart is not there, or why there is no answer.
+/// Why a severed member cannot be had.
 #[derive(Clone, Copy, Debug, PartialEq, Eq)]
 pub enum MemberFault {
-    /// The manifest states the member's digest, and the envelope does not hold it.
+    /// The manifest states the member's digest, but the envelope does not hold the member.
     Severed(MemberName),
-    /// The digest that the manifest states, and the one of the member's byte string in the
-    /// envelope.
+    /// The digest that the manifest states is not that of the member's byte string in the envelope.
     Differs {
         name: MemberName,
         stated: Digest,
         found: Digest,
     },
-    /// The member has the stated digest, and its content is refused as a sequence. Its place is
-    /// counted from the envelope's first byte.
+    /// The member has the stated digest, but its content is refused as a sequence. The place is in
+    /// bytes from the start of the envelope.
     Refused(Refusal),
     NoMemory,
 }
@@ -42,7 +41,7 @@ impl From<Fault> for MemberFault {
     }
 }
 
-// See `members_of`.
+// Does the work of `members_of`.
 #[tactic(auto, using(crate::proofs::BothMembers::fetch_lacks))]
 fn both(alloc: Global, envelope: &Envelope<'_>, manifest: &Manifest) -> Result<Members, MemberFault>
     requires { CanTakeMembers (said_by envelope.now) manifest.now }
@@ -62,16 +61,16 @@ fn both(alloc: Global, envelope: &Envelope<'_>, manifest: &Manifest) -> Result<M
     })
 }
 
-/// The members whose digests the manifest states, taken from its envelope
-/// (draft-ietf-suit-manifest-25, sections 8.4 and 8.5): each has the stated digest, and its content
-/// is decoded as a sequence for the manifest's number of components, at its place in the envelope.
-/// A member that the envelope holds, and whose digest the manifest does not state, is passed over.
+/// Takes the members whose digests the manifest states from its envelope
+/// (draft-ietf-suit-manifest-25, sections 8.4 and 8.5). Each must have the stated digest. Its
+/// content is decoded as a sequence for the manifest's number of components, at its place in the
+/// envelope. A member that the envelope holds is ignored if the manifest does not state its digest.
 ///
-/// Payload-fetch is judged whole before install, each by its presence, then by its digest, then by
-/// the grammar. Allocates only for the sequences.
+/// Payload-fetch is judged completely before install. Of each, the order is: it is present, it has
+/// the digest, it follows the grammar. Allocates only for the sequences.
 ///
-/// Needs fewer than 2^32 components, and an envelope whose members end at places below 2^64, as
-/// those of `decode_envelope` do.
+/// The manifest must have fewer than 2^32 components, and the envelope's members must end at places
+/// below 2^64, as those of `decode_envelope` do.
 pub fn members_of(
     alloc: Global,
     envelope: &Envelope<'_>,

@@ -1,11 +1,11 @@
-//! Laws of members that stand apart, whatever takes them.
+//! Laws of severed members, whichever function takes them.
 
 ghost use Rattle.suit_manifest.specs.MembersLaws.{MembersLaws};
 
 use suit_envelope::envelope_laws;
 
-/// Does nothing. Its contract has the law: for each manifest an envelope has just one answer of
-/// members or just one fault.
+/// Does nothing. Its contract is the law: for each manifest, an envelope gives exactly one pair of
+/// members or has exactly one fault.
 pub fn members_laws()
     ensures { MembersLaws }
 {

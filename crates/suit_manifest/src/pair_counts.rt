@@ -1,4 +1,4 @@
-//! How many pairs a manifest's maps have.
+//! The number of pairs in a manifest's maps.
 
 ghost use Rattle.std.specs.Prelude.{◌≡◌};
 ghost use Rattle.det_cbor.specs.DataItem.{pair_count};
@@ -8,7 +8,8 @@ use crate::{Manifest, Member, TextMember};
 use det_cbor::Text;
 use suit_commands::Sequence;
 
-// 1 if there is a sequence, else 0. The next three do the same for their values.
+// How many pairs a sequence takes: 1 if there is one, and otherwise 0. The next three functions do
+// the same for their values.
 fn held_count(sequence: &Option<Sequence>) -> u64
     ensures { result ≡ pairs_of (held_item sequence.now) }
 {
@@ -45,7 +46,7 @@ fn text_count(text: &TextMember) -> u64
     }
 }
 
-/// The pairs of the common part.
+/// The number of pairs in the map of the common part.
 #[tactic(auto, using(crate::proofs::RowCounts::row_counted, crate::proofs::RowCounts::few_pairs))]
 pub(crate) fn common_count(manifest: &Manifest) -> u64
     ensures { result ≡ pair_count (row_pairs (common_rows manifest.now)) }
@@ -53,7 +54,7 @@ pub(crate) fn common_count(manifest: &Manifest) -> u64
     1 + held_count(&manifest.shared)
 }
 
-/// The pairs of the manifest.
+/// The number of pairs in the map of the manifest.
 #[tactic(auto, using(crate::proofs::RowCounts::row_counted, crate::proofs::RowCounts::few_pairs))]
 pub(crate) fn manifest_count(manifest: &Manifest) -> u64
     ensures { result ≡ pair_count (row_pairs (manifest_rows manifest.now)) }

@@ -1,6 +1,7 @@
-//! The pairs of a map of numbered keys, read in one pass from an item judged before.
+//! Reading the pairs of a map whose keys are numbers in one pass, from an item that was judged
+//! before.
 //!
-//! Keys ascend in such a map, so its values are found by asking for one number after another.
+//! The keys of such a map ascend, so its values are found by asking for one number after another.
 
 ghost use Rattle.std.specs.Prelude.{◌≡◌};
 ghost use Rattle.det_cbor.specs.HeadReading.{map_ok};
@@ -10,7 +11,7 @@ ghost use Rattle.suit_manifest.specs.MapReading.{key_is, up_to, value_from, valu
 use det_cbor::{Cursor, HeadKind};
 use suit_params::{Refusal, Why, read_bytes, read_head, read_item, refused, same_place};
 
-// The next bytes, as many as are asked for, as an item by itself.
+// Takes the next `count` bytes, as a cursor over them.
 fn piece<'a>(map: &mut Cursor<'a>, count: u64) -> Result<Cursor<'a>, Refusal>
     ensures { map_ok (λ inner. (inner, map.new)) result ≡ string_from count map.old }
 {
@@ -19,15 +20,15 @@ fn piece<'a>(map: &mut Cursor<'a>, count: u64) -> Result<Cursor<'a>, Refusal>
     Ok(Cursor::new(bytes, place))
 }
 
-// The next item up to another cursor, by itself.
+// Takes the bytes up to another cursor, as a cursor over them.
 fn up_to<'a>(map: &mut Cursor<'a>, end: &Cursor<'_>) -> Result<Cursor<'a>, Refusal>
     ensures { map_ok (λ inner. (inner, map.new)) result ≡ up_to map.old end.now }
 {
     piece(map, map.left().saturating_sub(end.left()) as u64)
 }
 
-// The next value of a map judged before, as an item by itself. A number or a string is passed by
-// its head.
+// Takes the next value of a map that was judged before, as a cursor over its item. Of a number or a
+// string, only the head is read.
 #[tactic(auto, unfolding(crate::specs::MapReading::value_from))]
 fn read_value<'a>(map: &mut Cursor<'a>) -> Result<Cursor<'a>, Refusal>
     ensures { map_ok (λ inner. (inner, map.new)) result ≡ value_from map.old }
@@ -44,7 +45,7 @@ fn read_value<'a>(map: &mut Cursor<'a>) -> Result<Cursor<'a>, Refusal>
     }
 }
 
-// Whether the next key is this number. The cursor passes its head.
+// Reads the head of the next key, and returns whether it is this number.
 #[tactic(auto, unfolding(crate::specs::MapReading::key_is))]
 fn key_is(map: &mut Cursor<'_>, number: u64) -> Result<bool, Refusal>
     ensures { map_ok (λ is. (is, map.new)) result ≡ key_is number map.old }
@@ -56,7 +57,7 @@ fn key_is(map: &mut Cursor<'_>, number: u64) -> Result<bool, Refusal>
     }
 }
 
-/// The remaining pairs of a map.
+/// The pairs of a map that are left.
 #[derive(Debug, Drop)]
 pub(crate) struct Pairs<'a> {
     pub(crate) map: Cursor<'a>,
@@ -64,7 +65,7 @@ pub(crate) struct Pairs<'a> {
 }
 
 impl<'a> Pairs<'a> {
-    // The next value, behind its key.
+    // Takes the next value. `behind` is the cursor after its key.
     fn value(&mut self, mut behind: Cursor<'a>) -> Result<Option<Cursor<'a>>, Refusal>
         ensures { map_ok (λ value. (value, self.new)) result
             ≡ value_then self.old.left behind.entry }
@@ -75,7 +76,8 @@ impl<'a> Pairs<'a> {
         Ok(Some(value))
     }
 
-    /// The value of the next pair, as an item by itself, where its key is this number.
+    /// Takes the value of the next pair, as a cursor over its item, if the pair's key is this
+    /// number.
     pub(crate) fn take(&mut self, number: u64) -> Result<Option<Cursor<'a>>, Refusal>
         ensures { map_ok (λ value. (value, self.new)) result ≡ take_from number self.old }
     {
@@ -90,7 +92,7 @@ impl<'a> Pairs<'a> {
         }
     }
 
-    /// Refuses a remaining pair: its key is none of those asked for.
+    /// Refuses a pair that is left, since its key is unknown.
     pub(crate) fn end(&self) -> Result<(), Refusal>
         ensures { result ≡ end_from self.now }
     {
@@ -102,7 +104,7 @@ impl<'a> Pairs<'a> {
     }
 }
 
-/// A value required under a number, in the map at a place.
+/// The value under a required number, or the refusal of the map, whose place is `place`.
 pub fn needed<'a>(place: u64, number: u64, value: Option<Cursor<'a>>) -> Result<Cursor<'a>, Refusal>
     ensures { result ≡ needed place number value.entry }
 {

@@ -14,7 +14,7 @@ fn lent(sequence: &Option<Sequence>) -> Option<&Sequence>
     sequence.as_ref()
 }
 
-// A member that may stand apart, wherever it stands.
+// The sequence of a severable member, wherever it is.
 fn lent_member<'a>(member: &'a Member, apart: &'a Option<Sequence>) -> Option<&'a Sequence>
     ensures { lent_tree result ≡ member_tree member.now apart.now }
 {
@@ -34,9 +34,9 @@ pub(crate) fn component_count(manifest: &Manifest) -> u32
 }
 
 /// The update procedure (draft-ietf-suit-manifest-25, section 6.4): payload-fetch, install and
-/// validate, each after the shared sequence. An absent member is an empty one, and a member that
-/// the manifest holds is never taken from those that stand apart. Takes no memory. Needs fewer than
-/// 2^32 components; a manifest of the grammar has at most eight.
+/// validate, each after the shared sequence. An absent member counts as empty, and a member that
+/// the manifest holds is never taken from the severed ones. Allocates nothing. The manifest must
+/// have fewer than 2^32 components; one of the grammar has at most eight.
 pub fn update_plan<'a>(manifest: &'a Manifest, members: &'a Members) -> Plan<'a>
     requires { length manifest.now.components < 2 ^ 32 }
     ensures { plan_tree result ≡ update_tree manifest.now members.now }
@@ -51,8 +51,8 @@ pub fn update_plan<'a>(manifest: &'a Manifest, members: &'a Members) -> Plan<'a>
 }
 
 /// The invocation procedure (draft-ietf-suit-manifest-25, section 6.4): validate, load and invoke,
-/// each behind the shared sequence. An absent member is an empty one. Takes no memory. Needs fewer
-/// than 2^32 components; a manifest of the grammar has at most eight.
+/// each after the shared sequence. An absent member counts as empty. Allocates nothing. The
+/// manifest must have fewer than 2^32 components; one of the grammar has at most eight.
 pub fn invocation_plan<'a>(manifest: &'a Manifest) -> Plan<'a>
     requires { length manifest.now.components < 2 ^ 32 }
     ensures { plan_tree result ≡ invocation_tree manifest.now }

@@ -14,7 +14,7 @@ use std::alloc::{AllocError, Global};
 use suit_commands::{Sequence, encode_sequence};
 use suit_params::{Digest, push_digest};
 
-// Adds a number, and a sequence in a byte string.
+// Appends a number, and a byte string that holds a sequence.
 fn push_here(
     alloc: Global,
     out: &mut Bytes,
@@ -31,7 +31,7 @@ fn push_here(
     Ok(())
 }
 
-// Adds a number, and the array of a digest.
+// Appends a number, and the array of a digest.
 fn push_apart(out: &mut Bytes, key: u64, digest: &Digest) -> Result<(), AllocError>
     ensures ok { OnOk result
         (out.new
@@ -43,7 +43,7 @@ fn push_apart(out: &mut Bytes, key: u64, digest: &Digest) -> Result<(), AllocErr
     Ok(())
 }
 
-/// Adds the pair of a text that is there, after which others may follow.
+/// Appends the pair of a reference text, if there is one. Other pairs may follow.
 pub(crate) fn push_reference(
     out: &mut Bytes,
     key: u64,
@@ -65,7 +65,7 @@ pub(crate) fn push_reference(
     }
 }
 
-/// Adds the pair of a sequence that is there, after which others may follow.
+/// Appends the pair of a sequence, if there is one. Other pairs may follow.
 pub(crate) fn push_held(
     alloc: Global,
     out: &mut Bytes,
@@ -87,7 +87,7 @@ pub(crate) fn push_held(
     }
 }
 
-/// Adds the pair of a member that is there, after which others may follow.
+/// Appends the pair of a severable member, if there is one. Other pairs may follow.
 pub(crate) fn push_severed(
     alloc: Global,
     out: &mut Bytes,
@@ -113,7 +113,7 @@ pub(crate) fn push_severed(
     }
 }
 
-/// Adds the pair of the text where it is there, after which others may follow.
+/// Appends the pair of the text, if there is one. Other pairs may follow.
 pub(crate) fn push_text_member(
     out: &mut Bytes,
     key: u64,

@@ -1,4 +1,4 @@
-//! One member that may stand apart from its manifest.
+//! A single severed member of a manifest.
 
 ghost use Rattle.std.specs.Prelude.{◌<◌, ◌^◌, ◌+◌, false, length, IfOk, IfErr};
 ghost use Rattle.suit_params.specs.Refusing.{SaysWhole};
@@ -13,7 +13,7 @@ use suit_commands::{Sequence, decode_sequence};
 use suit_envelope::{Envelope, MemberBytes, MemberName, member};
 use suit_params::Digest;
 
-// The sequence that a member's content spells.
+// Decodes a member's content as a sequence.
 fn decoded(alloc: Global, content: &[u8], place: u64, count: u32) -> Result<Sequence, MemberFault>
     requires { place + length content.now < 2 ^ 64 }
     ensures ok { IfOk result
@@ -23,7 +23,7 @@ fn decoded(alloc: Global, content: &[u8], place: u64, count: u32) -> Result<Sequ
     Ok(decode_sequence(alloc, content, place, false, count)?)
 }
 
-// The sequence of a member whose digest is stated, where its content stands at this place.
+// The sequence of a member whose digest is stated. `place` is that of its content.
 #[tactic(auto, using(crate::proofs::Taking::got_place, crate::proofs::Taking::got_taken, crate::proofs::Taking::got_refused, crate::proofs::Taking::severed, crate::proofs::Taking::differs))]
 fn taken(
     alloc: Global,
@@ -49,7 +49,7 @@ fn taken(
     }
 }
 
-/// A member, where it stands apart: its content stands at this place.
+/// The sequence of a member, if it is severed. `place` is that of its content.
 pub(crate) fn apart(
     alloc: Global,
     envelope: &Envelope<'_>,

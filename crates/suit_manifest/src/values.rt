@@ -1,4 +1,4 @@
-//! Values of a manifest's map, read from items judged before.
+//! Reading the values in a manifest's map, from items that were judged before.
 
 ghost use Rattle.std.specs.Prelude.{◌≡◌};
 ghost use Rattle.det_cbor.specs.HeadReading.{map_ok};
@@ -15,7 +15,7 @@ use suit_params::{
     refused, same_place,
 };
 
-/// Reads an unsigned number, of an item that was judged before.
+/// Reads an unsigned number, from an item that was judged before.
 #[tactic(auto, unfolding(crate::specs::ManifestReading::number_at))]
 pub fn read_number(mut item: Cursor<'_>) -> Result<u64, Refusal>
     ensures { result ≡ number_at item.entry }
@@ -28,7 +28,7 @@ pub fn read_number(mut item: Cursor<'_>) -> Result<u64, Refusal>
     }
 }
 
-/// Reads the version, which is 1, of an item that was judged before.
+/// Reads the version, which must be 1, from an item that was judged before.
 pub fn read_version(item: Cursor<'_>) -> Result<u64, Refusal>
     ensures { result ≡ version_at item.entry }
 {
@@ -41,7 +41,7 @@ pub fn read_version(item: Cursor<'_>) -> Result<u64, Refusal>
     }
 }
 
-/// Reads a text, of an item that was judged before. Takes no memory.
+/// Reads a text, from an item that was judged before. Allocates nothing.
 #[tactic(auto, unfolding(crate::specs::ManifestReading::text_at))]
 pub fn read_text<'a>(mut item: Cursor<'a>) -> Result<&'a str, Refusal>
     ensures { map_ok (λ t. t.now) result ≡ text_at item.entry }
@@ -57,7 +57,7 @@ pub fn read_text<'a>(mut item: Cursor<'a>) -> Result<&'a str, Refusal>
     }
 }
 
-/// Reads a text, if there is one.
+/// Reads and copies a text, if there is one.
 pub(crate) fn read_reference(alloc: Global, item: Option<Cursor<'_>>) -> Result<Option<Text>, Fault>
     ensures { Gives (λ t. t) result (may text_at item.entry) }
 {
@@ -92,7 +92,7 @@ fn read_severed(alloc: Global, mut item: Cursor<'_>, count: u32) -> Result<Membe
     }
 }
 
-/// The same, if there is one.
+/// Reads a severable member, if there is one.
 pub(crate) fn read_member(
     alloc: Global,
     item: Option<Cursor<'_>>,
@@ -134,7 +134,7 @@ fn read_text_item(alloc: Global, mut item: Cursor<'_>) -> Result<TextMember, Fau
     }
 }
 
-/// The same, if there is one.
+/// Reads the text, if there is one.
 pub(crate) fn read_text_member(alloc: Global, item: Option<Cursor<'_>>) -> Result<TextMember, Fault>
     ensures { Gives (λ m. m) result (text_in item.entry) }
 {

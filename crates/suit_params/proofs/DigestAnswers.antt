@@ -1,4 +1,4 @@
--- The answer of a call that reads a digest, by the grammar and the refusals.
+-- The answer of a call that reads a digest, in terms of the grammar and the refusals.
 use Rattle.std.proofs.Common.{◌≡◌, Result, Ok, Err, refl, sym, ap, ◌∙◌}
 use Rattle.std.specs.Prelude.{IfOk, IfErr}
 use Rattle.det_cbor.specs.DataItem.{DataItem}

@@ -1,4 +1,4 @@
--- The kinds of items, as far as a digest's reader looks at them.
+-- The kinds of items that a digest's reader tells apart.
 use Rattle.std.proofs.Common.{◌≡◌, ℕ, ◌+◌, false, eqb, List, Err, refl, arith}
 use Rattle.std.proofs.lemmas.Bool.{ne_eqb}
 use Rattle.det_cbor.specs.DataItem.{DataItem, UnsignedInteger, NegativeInteger, ByteString, ArrayOf, NoItems, ItemThen, item_count}

@@ -1,4 +1,4 @@
--- An item that is read as a digest is judged so, and the judgement is that of the grammar and the refusals.
+-- Reading an item as a digest agrees with judging it, and judging agrees with the grammar and the refusals.
 use Rattle.std.proofs.Common.{◌≡◌, ◌≢◌, ℕ, ◌+◌, Bool, true, false, cond, eqb, List, [], ◌++◌, length, Option, Some, None, Result, Ok, Err, refl, sym, ap, subst, ◌∙◌, inl, inr}
 use Rattle.std.proofs.lemmas.Bool.{eqb-true, eqb-false, ne_eqb}
 use Rattle.std.proofs.lemmas.List.{append-nil}
@@ -31,7 +31,7 @@ use Rattle.suit_params.proofs.DigestCases.{by_pair, by_number, by_bytes}
 abbrev at_place : List ℕ → ℕ → Position
 at_place left place = record { left = left; place = place }
 
--- a step that hangs on a test
+-- a step that depends on a test
 by_test : {A B : Type 0} (t : Bool) (r : Result A Refusal) (e : Refusal) (f : A → Result B Refusal) (z : Result B Refusal) → (r >>= f) ≡ z → (cond t r (Err e) >>= f) ≡ cond t z (Err e)
 by_test true r e f z is = is
 by_test false r e f z is = refl
@@ -78,7 +78,7 @@ digest_read levels x place valid =
 
 -- ---- judging
 
--- the parts of a digest that is judged so
+-- the parts of a digest that was judged
 record Value (b : DataItem) (kind : DigestKind) (d : Digest) : Type 0 where
   bytes : List ℕ
   content : b ≡ ByteString bytes

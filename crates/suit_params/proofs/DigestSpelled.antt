@@ -57,7 +57,7 @@ digest_string d fits = by_string (digest_kind d) (digest_bytes d) fits.0 fits.1
 pub digest_valid : (levels : ℕ) (d : Digest) → levels < 16 → IsDigestBytes d → IsValidWithin levels (digest_item d)
 digest_valid levels d inside fits = by_valid levels (digest_kind d) (digest_bytes d) inside fits.0 fits.1
 
--- the pieces of its array
+-- the pieces of a digest's array
 pub array_written : (out : List ℕ) (kind : DigestKind) (bytes : List ℕ)
     → ((out ++ head_bytes 4 2) ++ head_bytes 1 (argument_of kind)) ++ spell (ByteString bytes) ≡ out ++ spell (array_of kind bytes)
 array_written out kind bytes =
@@ -65,7 +65,7 @@ array_written out kind bytes =
     let all : spell (array_of kind bytes) ≡ head_bytes 4 2 ++ (number ++ spell (ByteString bytes)) = ap (λ (r : List ℕ). head_bytes 4 2 ++ (number ++ r)) (append-nil (spell (ByteString bytes))) in
     regrouped out (head_bytes 4 2) number (spell (ByteString bytes)) ∙ sym (ap (λ (r : List ℕ). out ++ r) all)
 
--- the head of a byte string that holds it, and its array
+-- the head of a byte string that holds a digest, and the digest's array
 pub held_written : (out : List ℕ) (d : Digest) → IsDigestBytes d
     → (out ++ head_bytes 2 (spelled_size (digest_kind d))) ++ spell (digest_item d) ≡ out ++ spell (ByteString (spell (digest_item d)))
 held_written out d fits =

@@ -15,7 +15,7 @@ use Rattle.suit_params.proofs.Overriding.{within, in_force_is, at_same, at_other
 
 -- ---- cells
 
--- the keys stand in the order of their cells
+-- the keys are in the order of their cells
 key_again : (key : ParamKey) → slice_get all_keys (rank key) ≡ Some key
 key_again keys.Vendor = refl
 key_again _ = refl
@@ -37,7 +37,7 @@ others ps component p key full low apart = at_other ps component component p key
 
 -- ---- values
 
--- a parameter made in one of three ways has the value that it was made of
+-- a parameter made in one of three ways has the value that it was made from
 made_of : {V : Type 0} (value : Option Param → Option V) (p : Param) (v : V) (first second third : V → Param) → value (Some (first v)) ≡ Some v → value (Some (second v)) ≡ Some v → value (Some (third v)) ≡ Some v
     → (p ≡ first v) ⊎ (p ≡ second v) ⊎ (p ≡ third v) → value (Some p) ≡ Some v
 made_of value p v first second third one two three (inl e) = ap (λ (q : Param). value (Some q)) e ∙ one

@@ -7,7 +7,7 @@ use Rattle.suit_params.specs.declared.param.Param.{Param}
 use Rattle.suit_params.specs.declared.refusal.Refusal.{Refusal}
 use Rattle.suit_params.specs.ParamReading.{param_from, params_from}
 
--- whether a list is read, whatever it is
+-- whether a list can be read, without the list
 abbrev pub judged : Result (List Param) Refusal → Result ⊤ Refusal
 judged r = map_ok (λ _. tt) r
 

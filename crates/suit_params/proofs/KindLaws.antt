@@ -17,7 +17,7 @@ kind_again kinds.Sha512 = refl
 same_some : (a b : DigestKind) → ◌≡◌ {A = Option DigestKind} (Some a) (Some b) → a ≡ b
 same_some a b e = cc
 
--- a number that is that of a hash function
+-- a number that stands for a hash function
 pub number_is : (n : ℕ) (kind : DigestKind) → kind_of n ≡ Some kind → n ≡ argument_of kind
 number_is n kind e =
     elim (chosen (eqb n 15) (Some kinds.Sha256) _ (Some kind) e) [

@@ -90,7 +90,7 @@ is_overridden ps component list full low other key small = ⊎_elim
     (λ h. rw h.0 (others_in_force ps component other list key full small h.1))
     (eqb_tells other component)
 
--- ---- what is lent
+-- ---- what is borrowed
 
 pub set_lent : (cells : List (Option (Bor Param))) (i : ℕ) (p : Bor Param) → lent_params (slice_set cells i (Some p)) ≡ slice_set (lent_params cells) i (Some p.now)
 set_lent cells i p = map-set option_copied cells i (Some p)

@@ -1,4 +1,4 @@
--- The answer of a call that reads parameters, by the grammar and the refusals.
+-- The answer of a call that reads parameters, in terms of the grammar and the refusals.
 use Rattle.std.proofs.Common.{◌≡◌, ℕ, List, Result, Ok, Err, refl, sym, ap, ◌∙◌, inl, inr}
 use Rattle.std.specs.Prelude.{IfOk, IfErr}
 use Rattle.det_cbor.specs.DataItem.{DataItem}
@@ -48,7 +48,7 @@ err_refuses count p q (Ok list) fits e = tt
 err_refuses count p q (Err (Refused s)) fits e = next_err (judge_params count) (IsParams count) (RefusesParams count) (params_judge count) p s fits (sym (judged count p fits) ∙ e)
 err_refuses count p q (Err NoMemory) fits e = tt
 
--- the answer of the call if no memory were taken
+-- the answer of the call, unless memory ran out
 list_is : (count : ℕ) (p new : Position) (ps : List Param) → IsBytes p.left → (takes : TakesNext (IsParams count) p new ps) → (z : Position) × (next_params count p ≡ Ok (ps, z))
 list_is count p new ps fits takes = (_, judged count p fits ∙ next_read (judge_params count) (IsParams count) (RefusesParams count) (params_judge count) p takes.item new.left ps takes.valid takes.taken.parts takes.says_so)
 

@@ -1,4 +1,4 @@
--- The judgement of a map of parameters is that of the grammar and the refusals.
+-- Judging a map of parameters agrees with the grammar and the refusals.
 use Rattle.std.proofs.Common.{◌≡◌, ℕ, ◌+◌, List, ◌∷◌, Option, Some, Ok, Err, refl, sym, subst, ◌∙◌}
 use Rattle.det_cbor.specs.DataItem.{DataItem, MapOf, DataPairs, NoPairs, PairThen, spell, IsValidWithin, ArePairsWithin}
 use Rattle.det_cbor.specs.ResultLaws.{bind_ok, bind_err, same_ok, same_err}

@@ -16,7 +16,7 @@ pub numbered_again : (key : ParamKey) → numbered (key_number key) ≡ Some key
 numbered_again keys.Vendor = refl
 numbered_again _ = refl
 
--- the one found has the number
+-- a key that was found has the number
 pub numbered_ok : (n : ℕ) (key : ParamKey) → numbered n ≡ Some key → n ≡ key_number key
 numbered_ok n key e = numbered_has key_number all_keys n key e
 

@@ -1,4 +1,4 @@
--- The item that says a list of parameters is the map that is made of the list.
+-- The item that says a list of parameters is the map made from the list.
 use Rattle.std.proofs.Common.{◌≡◌, ℕ, List, refl, sym, ap, ◌∙◌}
 use Rattle.det_cbor.specs.DataItem.{DataItem, DataPairs, ByteString, MapOf, PairThen, spell}
 use Rattle.suit_params.specs.declared.param.Param.{Param}
@@ -7,7 +7,7 @@ use Rattle.suit_params.specs.ParamKeys.{key_of, key_item}
 use Rattle.suit_params.specs.Params.{SaysValue, SaysVendor, SaysDigest, SayParams, NoMore, ParamThen, IsParams, ParamMap}
 use Rattle.suit_params.specs.ParamMaking.{value_item, param_pairs, params_item}
 
--- a value says a parameter of its key
+-- a value under a key says a parameter with that key
 pub said_key : (count place : ℕ) (key : ParamKey) (x : DataItem) (p : Param) → SaysValue count place key x p → key_of p ≡ key
 said_key count place key x p (SaysVendor id long) = refl
 said_key count place key x p _ = refl

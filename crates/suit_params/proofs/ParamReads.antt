@@ -1,4 +1,4 @@
--- A map of parameters that is read is judged so.
+-- Reading a map of parameters agrees with judging it.
 use Rattle.std.proofs.Common.{◌≡◌, ℕ, suc, ◌+◌, Bool, true, false, cond, eqb, List, [], ◌∷◌, ◌++◌, length, Option, Some, None, Result, Ok, Err, refl, sym, ap, ◌∙◌, append_assoc, arith}
 use Rattle.std.proofs.lemmas.List.{length-append, append-nil}
 use Rattle.det_cbor.specs.Heads.{head_bytes}
@@ -34,9 +34,9 @@ unfolding key_from
 key_read levels p (UnsignedInteger n) rest valid is = rw (item_head_read levels p (UnsignedInteger n) rest valid is) refl
 key_read levels p x rest valid is = rw (item_head_read levels p x rest valid is) refl
 
--- ---- values by their kinds
+-- ---- values, by kind
 
--- the string behind a head
+-- the string after a head
 string_again : (p : Position) (head bytes rest : List ℕ) → bytes_from (length bytes) (after p head (bytes ++ rest)) ≡ Ok (bytes, after p (head ++ bytes) rest)
 string_again p head bytes rest =
     let q = after p head (bytes ++ rest) in
@@ -81,7 +81,7 @@ unfolding number_from
 number_read levels p (UnsignedInteger n) rest valid is = rw (item_head_read levels p (UnsignedInteger n) rest valid is) refl
 number_read levels p x rest valid is = rw (item_head_read levels p x rest valid is) refl
 
--- an item that has no parts behind its head
+-- an item whose head is all of it
 head_alone : (x : DataItem) → spell_parts x ≡ [] → spelled (item_head x) ≡ spell x
 head_alone x none = sym (item_spelled x ∙ ap (λ (l : List ℕ). spelled (item_head x) ++ l) none ∙ append-nil (spelled (item_head x)))
 
@@ -95,9 +95,9 @@ unfolding flag_from
 flag_read levels p (Boolean b) rest valid is = flag_at levels p b rest valid is
 flag_read levels p x rest valid is = rw (item_head_read levels p x rest valid is) refl
 
--- ---- values by their keys
+-- ---- values, by key
 
--- a value that is read as it is judged, in a parameter
+-- a value that is read as it is judged, made into a parameter
 put_in : {A : Type 0} (r : Result A Refusal) (q : Position) (make : A → Param) → ((r >>= with_rest q) >>= λ v. Ok (make v.0, v.1)) ≡ ((r >>= λ a. Ok (make a)) >>= with_rest q)
 put_in (Ok a) q make = refl
 put_in (Err e) q make = refl
@@ -181,7 +181,7 @@ pairs_read count levels p before (PairThen key value others) rest valid is =
 
 -- ---- the map
 
--- an item that is no map
+-- an item that is not a map
 no_map : (count levels place : ℕ) (x : DataItem) → IsValidWithin levels x → ((p : Position) → (kind_after kinds.Map Shape place (item_value x) p (item_kind x) >>= λ n. params_from count n.0 n.1) ≡ judge_params count place x) → params_at count (record { left = spell x; place = place }) ≡ judge_params count place x
 unfolding params_at map_from
 no_map count levels place x valid e =

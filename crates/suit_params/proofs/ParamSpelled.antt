@@ -22,7 +22,7 @@ params_spelled out n ps is =
     let count : n ≡ pair_count (param_pairs ps) = is ∙ params_counted ps in
     append_assoc out (head_bytes 5 n) (spell_pairs (param_pairs ps)) ∙ ap (λ (k : ℕ). out ++ (head_bytes 5 k ++ spell_pairs (param_pairs ps))) count
 
--- ---- pieces that were added one after another
+-- ---- pieces that were appended one after another
 
 pub after_two : (out a b l m : List ℕ) → l ≡ out ++ a → m ≡ l ++ b → m ≡ (out ++ a) ++ b
 after_two out a b l m e f = f ∙ ap (λ (k : List ℕ). k ++ b) e

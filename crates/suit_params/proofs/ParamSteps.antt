@@ -6,7 +6,7 @@ use Rattle.suit_params.specs.declared.param.Param.{Param}
 use Rattle.suit_params.specs.declared.refusal.Refusal.{Refusal}
 use Rattle.suit_params.specs.ParamReading.{param_from, params_from}
 
--- parameters that were read before, in front of what is read
+-- the parameters read before, in front of those that are read
 abbrev pub with_front : List Param → Result (List Param) Refusal → Result (List Param) Refusal
 with_front front (Ok ps) = Ok (front ++ ps)
 with_front front (Err r) = Err r

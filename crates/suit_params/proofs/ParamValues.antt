@@ -1,4 +1,4 @@
--- The judgement of a parameter's value is that of the grammar and the refusals.
+-- Judging a parameter's value agrees with the grammar and the refusals.
 use Rattle.std.proofs.Common.{◌≡◌, ℕ, Bool, true, false, cond, eqb, ltb, List, length, Result, Ok, Err, refl, subst}
 use Rattle.std.proofs.lemmas.Bool.{eqb-true, eqb-false, ne_eqb, lt-ltb, le-ltb, ltb-true, ltb-false}
 use Rattle.det_cbor.specs.DataItem.{DataItem, UnsignedInteger, ByteString, TextString, Boolean, IsValidWithin}
@@ -22,12 +22,12 @@ use Rattle.suit_params.proofs.DigestAnswers.{digest_judges}
 
 -- ---- judging
 
--- an answer is what the item says, or why it is refused
+-- a result is what the item says, or its refusal
 data Judged (count place : ℕ) (key : ParamKey) (x : DataItem) : Result Param Refusal → Type 0 where
   Said : (p : Param) → SaysValue count place key x p → Judged count place key x (Ok p)
   Bad : (r : Refusal) → RefusesValue count place key x r → Judged count place key x (Err r)
 
--- byte strings that are identifiers by their length
+-- byte strings whose length makes them identifiers
 id_judged : (count place : ℕ) (key : ParamKey) (id : List ℕ) (make : List ℕ → Param) → (length id ≡ 16 → SaysValue count place key (ByteString id) (make id))
     → ((length id ≡ 16 → ⊥) → IsOfKind key (ByteString id) → ⊥) → Judged count place key (ByteString id) (judge_id place (ByteString id) >>= λ v. Ok (make v))
 id_judged count place key id make says other = by_length (eqb (length id) 16) refl
@@ -79,9 +79,9 @@ value_err count key levels place x r valid e = by_answer (judge_value count key 
     by_answer a (Said q says) e = absurd cc
     by_answer a (Bad s refuses) e = subst (RefusesValue count place key x) (same_err s r e) refuses
 
--- ---- and back
+-- ---- the other direction
 
--- a byte string of another length is no identifier
+-- a byte string of another length is not an identifier
 no_id : (place : ℕ) (id : List ℕ) → (length id ≡ 16 → ⊥) → judge_id place (ByteString id) ≡ Err (refused place BadParam)
 no_id place id other = let no : eqb (length id) 16 ≡ false = ne_eqb (length id) 16 other in rw no refl
 

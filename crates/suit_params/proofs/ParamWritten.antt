@@ -37,7 +37,7 @@ pairs_say count place (p ∷ ps) fits below = ParamThen place (key_of p) (value_
 pub written_says : (count place : ℕ) (ps : List Param) → AllByRecursion IsParam ps → AllByRecursion (IsBelow count) ps → IsParams count place (params_item ps) ps
 written_says count place ps fits below = ParamMap (param_pairs ps) ps (pairs_say count _ ps fits below)
 
--- ---- that it is valid
+-- ---- validity
 
 short : (bytes : List ℕ) (n : ℕ) → length bytes ≡ n → n < 2 ^ 64 → AllByRecursion IsByte bytes → IsString bytes
 short bytes n long small all = (omega (arith, long), all)

@@ -1,4 +1,4 @@
--- The answers of a cursor's calls, as the reading functions have them.
+-- The answers of a cursor's calls, in terms of the reading functions.
 use Rattle.std.proofs.Common.{◌≡◌, ℕ, ◌+◌, ◌-◌, ◌<◌, true, ltb, List, length, Some, Result, Ok, Err, sym, ap, ◌∙◌, inl, inr}
 use Rattle.std.specs.Prelude.{option_and_then}
 use Rattle.std.specs.Result.{result_ok}

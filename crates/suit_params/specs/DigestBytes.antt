@@ -23,13 +23,14 @@ digest_by kinds.Sha256 bytes = digests.Sha256 bytes
 digest_by kinds.Sha384 bytes = digests.Sha384 bytes
 digest_by kinds.Sha512 bytes = digests.Sha512 bytes
 
--- it is as long as its hash function says
+-- the digest has the length of its hash function
 abbrev pub IsLong : Digest → Type 0
 IsLong digest = length (digest_bytes digest) ≡ size_of (digest_kind digest)
 
+-- the same, and its elements are bytes
 abbrev pub IsDigestBytes : Digest → Type 0
 IsDigestBytes digest = IsLong digest × AllByRecursion IsByte (digest_bytes digest)
 
--- bytes, as a digest by the hash function whose digests are as long
+-- the digest with these bytes, if a hash function has digests of their length
 abbrev pub as_digest : List ℕ → Option Digest
 as_digest bytes = option_map (λ kind. digest_by kind bytes) (kind_of_length (length bytes))

@@ -33,7 +33,7 @@ long_by kinds.Sha256 bytes long = long
 long_by kinds.Sha384 bytes long = long
 long_by kinds.Sha512 bytes long = long
 
--- digests by one hash function are the same where their bytes are
+-- digests by the same hash function with the same bytes are equal
 pub same_digest : (a b : Digest) → digest_kind a ≡ digest_kind b → digest_bytes a ≡ digest_bytes b → a ≡ b
 same_digest a b kind bytes =
     sym (made_again a) ∙ ap (λ (k : DigestKind). digest_by k (digest_bytes a)) kind ∙ ap (digest_by (digest_kind b)) bytes ∙ made_again b
@@ -50,18 +50,18 @@ hash_kind kinds.Sha256 bytes = refl
 hash_kind kinds.Sha384 bytes = refl
 hash_kind kinds.Sha512 bytes = refl
 
--- a digest is that of the bytes by its own hash function
+-- hashing by the hash function of a digest of these bytes gives that digest again
 pub hash_again : (kind : DigestKind) (bytes : List ℕ) → hash_like (hash kind bytes) bytes ≡ hash kind bytes
 hash_again kind bytes = ap (λ (k : DigestKind). hash k bytes) (hash_kind kind bytes)
 
--- bytes have a digest where its hash function makes it of them
+-- bytes have a digest if and only if its hash function makes it of them
 pub has_decides : (digest : Digest) (bytes : List ℕ) → (has_digest digest bytes ≡ true) ↔ (hash_like digest bytes ≡ digest)
 has_decides digest bytes =
     let found = hash_like digest bytes in
     let decides = bytes_eq-Decides (digest_bytes found) (digest_bytes digest) in
     (λ is. same_digest found digest (hash_kind (digest_kind digest) bytes) (decides.0 is), λ same. decides.1 (ap digest_bytes same))
 
--- ---- a digest by its length
+-- ---- a digest found by its length
 
 pub size_few : (kind : DigestKind) → size_of kind ≤ 64
 size_few kinds.Sha256 = omega arith
@@ -73,14 +73,14 @@ kind_told kinds.Sha256 = refl
 kind_told kinds.Sha384 = refl
 kind_told kinds.Sha512 = refl
 
--- the bytes of a digest are taken as that digest
+-- a digest is found from its bytes
 pub digest_again : (digest : Digest) → IsLong digest → as_digest (digest_bytes digest) ≡ Some digest
 digest_again digest long =
     ap (λ (n : ℕ). option_map (λ kind. digest_by kind (digest_bytes digest)) (kind_of_length n)) long
     ∙ ap (option_map (λ kind. digest_by kind (digest_bytes digest))) (kind_told (digest_kind digest))
     ∙ ap (λ (d : Digest). Some d) (made_again digest)
 
--- and a digest that is taken of bytes has them
+-- a digest that is found from bytes has those bytes
 pub from_is : (bytes : List ℕ) (digest : Digest) → as_digest bytes ≡ Some digest → bytes ≡ digest_bytes digest
 from_is bytes digest e = by_kind (kind_of_length (length bytes)) e
   where

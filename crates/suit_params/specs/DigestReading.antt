@@ -1,4 +1,4 @@
--- How the elements of a digest are read, of an item that was judged before.
+-- How the elements of a digest are read, from an item that was judged before.
 use Rattle.std.specs.Prelude.{ℕ, ◌==◌, if◌then◌else◌, Option, Some, None, Result, Ok, Err}
 use Rattle.det_cbor.specs.declared.head.HeadKind.{HeadKind}
 use Rattle.det_cbor.specs.declared.head.HeadKind.TheVariants as kinds
@@ -13,7 +13,7 @@ use Rattle.suit_params.specs.DigestKinds.{size_of, kind_of}
 use Rattle.suit_params.specs.Refusing.{refused}
 use Rattle.suit_params.specs.Reading.{head_from, bytes_from, inner_from, kind_from, array_from}
 
--- so many bytes, as a digest by this hash function
+-- the next n bytes, as a digest by this hash function
 abbrev pub digest_with : DigestKind → ℕ → Position → Result (Digest × Position) Refusal
 digest_with kind n p = bytes_from n p >>= λ bytes. Ok (digest_by kind bytes.0, bytes.1)
 
@@ -41,10 +41,10 @@ elements_at place n =
     if n.0 == 2 then (algorithm_at place n.1 >>= λ q. value_at place q.0 q.1 >>= λ d. Ok d.0)
     else Err (refused place Shape)
 
--- a whole item, as a digest
+-- a whole item, read as a digest
 unfoldable pub digest_at : Position → Result Digest Refusal
 digest_at p = array_from p >>= elements_at p.place
 
--- the next item, as a digest
+-- the next item, read as a digest
 abbrev pub next_digest : Position → Result (Digest × Position) Refusal
 next_digest p = inner_from p >>= λ x. digest_at x.0 >>= λ d. Ok (d, x.1)

@@ -9,15 +9,16 @@ use Rattle.suit_params.specs.declared.digest_kind.DigestKind.{DigestKind}
 use Rattle.suit_params.specs.declared.digest_kind.DigestKind.TheVariants as kinds
 use Rattle.suit_params.specs.DigestBytes.{digest_bytes, digest_kind}
 
+-- the digest of bytes by a hash function
 abbrev pub hash : DigestKind → List ℕ → Digest
 hash kinds.Sha256 bytes = digests.Sha256 (sha256 bytes)
 hash kinds.Sha384 bytes = digests.Sha384 (sha384 bytes)
 hash kinds.Sha512 bytes = digests.Sha512 (sha512 bytes)
 
--- by the hash function of a digest
+-- the digest of bytes by the hash function of this digest
 abbrev pub hash_like : Digest → List ℕ → Digest
 hash_like digest bytes = hash (digest_kind digest) bytes
 
--- whether these bytes have this digest
+-- whether the bytes have this digest
 abbrev pub has_digest : Digest → List ℕ → Bool
 has_digest digest bytes = bytes_eq (digest_bytes (hash_like digest bytes)) (digest_bytes digest)

@@ -1,4 +1,4 @@
--- The head of an item that is spelled at a position, and the parts that follow it.
+-- The head of an item at a position, and the parts that follow it.
 use Rattle.std.proofs.Common.{◌≡◌, ℕ, ◌+◌, ◌-◌, false, ltb, List, ◌++◌, length, Ok, refl, ap, ◌∙◌, append_assoc, arith}
 use Rattle.std.proofs.lemmas.Bool.{le-ltb}
 use Rattle.std.proofs.lemmas.List.{take_at, drop_at, length-append}
@@ -11,7 +11,7 @@ use Rattle.det_cbor.specs.Position.{Position}
 use Rattle.det_cbor.proofs.Heads.{head_again}
 use Rattle.suit_params.specs.Reading.{found_head, head_from, bytes_from}
 
--- a position further on
+-- the position after these bytes, with this rest
 abbrev pub after : Position → List ℕ → List ℕ → Position
 after p taken rest = record { left = rest; place = p.place + length taken }
 

@@ -18,7 +18,7 @@ use Rattle.det_cbor.specs.ItemHeads.{item_kind, item_value}
 use Rattle.suit_params.specs.HeadLaws.{item_head_read, bytes_again, after}
 use Rattle.suit_params.specs.JudgingLaws.{Judges, item_ok, whole_ok, whole_err, whole_read, whole_refused}
 
--- ---- an item, as far as it is a byte string
+-- ---- an item that may be a byte string
 
 pub record OtherThanString (x : DataItem) : Type 0 where
   pub other : IsByteString x → ⊥
@@ -31,7 +31,7 @@ pub by_string : (P : DataItem → Type 0) → ((bytes : List ℕ) → P (ByteStr
 by_string P bytes other (ByteString content) = bytes content
 by_string P bytes other x = other x (record { other = λ h. h; judged = λ place. refl; read = λ place p. refl })
 
--- a byte string that is spelled is read as its content
+-- a byte string at a position is read as its content
 pub content_read : (levels : ℕ) (p : Position) (x : DataItem) (rest : List ℕ)
     → IsValidWithin levels x → p.left ≡ spell x ++ rest
     → content_from p ≡ (judge_string p.place x >>= λ content. Ok (content, after p (spell x) rest))
@@ -50,7 +50,7 @@ content_read levels p x rest valid is =
 
 -- ---- the item that bytes hold
 
--- the reader finds what the judgement has, in each item that is spelled
+-- reading a valid item gives what judging it gives
 abbrev pub ReadsAs : {A : Type 0} → (Position → Result A Refusal)
     → (ℕ → DataItem → Result A Refusal) → Type 0
 ReadsAs read judge = (levels place : ℕ) (x : DataItem) → IsValidWithin levels x → read (record { left = spell x; place = place }) ≡ judge place x
@@ -95,7 +95,7 @@ pub content_is : {A : Type 0} (read : Position → Result A Refusal)
     → (only_from (record { left = bytes; place = content_place place bytes }) >>= read) ≡ judge_held judge place (ByteString bytes)
 content_is read judge law levels place bytes valid = whole_is read judge law (record { left = bytes; place = content_place place bytes }) (bytes_of_all bytes valid.1)
 
--- the result found, and the position after it
+-- what was found, and the position after it
 abbrev pub with_rest : {A : Type 0} → Position → A → Result (A × Position) Refusal
 with_rest q a = Ok (a, q)
 
@@ -115,7 +115,7 @@ held_read {A} read judge law levels p x rest valid is =
     (λ y other v. rw (other.judged p.place) refl)
     x valid
 
--- ---- judgements of byte strings that hold an item
+-- ---- judging byte strings that hold an item
 
 string_ok : (place : ℕ) (x : DataItem) (content : Position) → judge_string place x ≡ Ok content
     → (x ≡ ByteString content.left) × (content.place ≡ content_place place content.left)
@@ -160,7 +160,7 @@ held_judges {A} judge says form law = record {
 
 -- ---- lists
 
--- the judgement of each that fits is that of what is good and what is bad, both ways
+-- judging an element accepts just what is good, and refuses just what is bad
 pub record JudgesEach {A : Type 0} (fits : A → Type 0) (judge : A → Result Unit Refusal)
     (good : A → Type 0) (bad : A → Refusal → Type 0) : Type 0 where
   pub ok : (a : A) → fits a → judge a ≡ Ok tt → good a

@@ -1,4 +1,4 @@
--- The spelling of component identifiers (draft-ietf-suit-manifest-25, section 8.4.5): each an array of byte strings.
+-- The spelling of component identifiers (draft-ietf-suit-manifest-25, section 8.4.5): arrays of byte strings.
 use Rattle.std.specs.Prelude.{ℕ, List, [], ◌∷◌}
 use Rattle.det_cbor.specs.DataItem.{DataItem, ByteString, ArrayOf, DataItems, NoItems, ItemThen, spell}
 

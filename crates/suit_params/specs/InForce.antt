@@ -1,5 +1,6 @@
--- The parameters in force (draft-ietf-suit-manifest-25, sections 6.4.1 and 8.4.8), as one value: for each of
--- eight components and twelve keys an option. Where the same values are in force, it is the same list.
+-- The parameters in force (draft-ietf-suit-manifest-25, sections 6.4.1 and 8.4.8) as one list: at most one
+-- parameter for each of eight components and twelve keys. If the same parameters are in force, the lists are
+-- equal.
 use Rattle.std.specs.Prelude.{◌≡◌, ◌<◌, ℕ, ◌+◌, ◌*◌, ◌==◌, if◌then◌else◌, List, [], ◌∷◌, Option, Some, None, slice_get, slice_set}
 use Rattle.std.proofs.Math.ListN.{replicate}
 use Rattle.suit_params.specs.declared.digest.Digest.{Digest}
@@ -12,7 +13,7 @@ use Rattle.suit_params.specs.ParamKeys.{key_of}
 abbrev pub Parameters : Type 0
 Parameters = List (Option Param)
 
--- at which of the twelve a key stands, in the order of their numbers
+-- the position of a key among the twelve, in the order of their numbers
 abbrev pub rank : ParamKey → ℕ
 rank keys.Vendor = 0
 rank keys.Class = 1
@@ -27,13 +28,14 @@ rank keys.Source = 9
 rank keys.Args = 10
 rank keys.Device = 11
 
+-- the index in the list for a component and a key
 abbrev pub cell : ℕ → ParamKey → ℕ
 cell component key = 12 * component + rank key
 
 unfoldable pub none_in_force : Parameters
 none_in_force = replicate 96 None
 
--- overriding a parameter replaces the one that is there
+-- the parameters after an override, which replaces the one with its key
 abbrev pub with_param : Parameters → ℕ → Param → Parameters
 with_param parameters component param =
     slice_set parameters (cell component (key_of param)) (Some param)
@@ -42,6 +44,7 @@ abbrev pub held_at : Option (Option Param) → Option Param
 held_at None = None
 held_at (Some held) = held
 
+-- the component's parameter with this key, if one is in force
 abbrev pub in_force : Parameters → ℕ → ParamKey → Option Param
 in_force parameters component key = held_at (slice_get parameters (cell component key))
 
@@ -69,26 +72,28 @@ bytes_of (Some (params.Uri text)) = Some text
 bytes_of (Some (params.Args bytes)) = Some bytes
 bytes_of _ = None
 
+-- the image digest in force for the component
 abbrev pub digest_in : Parameters → ℕ → Option Digest
 digest_in parameters component = digest_of (in_force parameters component keys.Digest)
 
+-- the image size in force for the component
 abbrev pub size_in : Parameters → ℕ → Option ℕ
 size_in parameters component = number_of (in_force parameters component keys.Size)
 
--- ---- an override of several parameters, in their order
+-- ---- overriding several parameters, in their order
 
 abbrev pub overridden : Parameters → ℕ → List Param → Parameters
 overridden parameters component [] = parameters
 overridden parameters component (param ∷ list) =
     overridden (with_param parameters component param) component list
 
--- the last value that the list has for a key, or the one before
+-- the last parameter of the list with this key, or else the one before
 abbrev pub last_of : List Param → ParamKey → Option Param → Option Param
 last_of [] key before = before
 last_of (param ∷ list) key before =
     last_of list key (if rank (key_of param) == rank key then Some param else before)
 
--- for the component the last value of the list for each key, and for each other component what was in force
+-- the component has the last parameter of the list for each key, and the other components keep theirs
 abbrev pub IsOverridden : Parameters → Parameters → ℕ → List Param → Type 0
 IsOverridden before after component list =
     (other : ℕ) (key : ParamKey) → other < 8

@@ -1,4 +1,4 @@
--- Laws of all parameters in force (draft-ietf-suit-manifest-25, section 8.4.8).
+-- Laws of the parameters in force (draft-ietf-suit-manifest-25, section 8.4.8).
 use Rattle.std.specs.Prelude.{◌≡◌, ◌≢◌, ◌<◌, ◌⊎◌, ◌↔◌, ℕ, List, length, Option, Some, None}
 use Rattle.suit_params.specs.declared.digest.Digest.{Digest}
 use Rattle.suit_params.specs.declared.param.Param.{Param}
@@ -22,13 +22,13 @@ HasDigest p digest = p ≡ params.Digest digest
 abbrev pub HasBytes : Param → List ℕ → Type 0
 HasBytes p bytes = (p ≡ params.Content bytes) ⊎ (p ≡ params.Uri bytes) ⊎ (p ≡ params.Args bytes)
 
--- nothing has no value, and a parameter has those that it has
+-- without a parameter there is no value, and a parameter has just the values that it holds
 pub record IsValue {V : Type 0} (value : Option Param → Option V) (has : Param → V → Type 0)
     : Type 0 where
   pub none : value None ≡ None
   pub is : (p : Param) (v : V) → (value (Some p) ≡ Some v) ↔ has p v
 
--- a component's value is that of the parameter in force under the key
+-- a component has the value that its parameter in force under the key holds
 pub record IsValueUnder {V : Type 0} (key : ParamKey) (param : V → Param)
     (value : Parameters → ℕ → Option V) : Type 0 where
   pub none : (ps : Parameters) (component : ℕ) → in_force ps component key ≡ None
@@ -38,8 +38,8 @@ pub record IsValueUnder {V : Type 0} (key : ParamKey) (param : V → Param)
 
 -- ---- the laws
 
--- each key has a cell of its own; at first nothing is in force; and an override of one parameter of one of eight
--- components puts it in force under its key, and leaves the other keys
+-- Each key has a cell of its own. At first nothing is in force. Overriding a parameter of one of the eight
+-- components puts it in force under its key, and leaves the other keys.
 pub record InForceLaws : Type 0 where
   pub own_cell : (j k : ParamKey) → rank j ≡ rank k → j ≡ k
   pub at_first : (component : ℕ) (key : ParamKey) → component < 8

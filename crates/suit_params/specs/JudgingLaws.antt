@@ -1,4 +1,5 @@
--- Items that are read at a position and judged: what is read says what is spelled, and what is refused is refused so.
+-- Items that are read at a position and then judged: what is accepted is what is spelled there, and what is
+-- refused has that refusal.
 use Rattle.std.proofs.Common.{◌≡◌, ◌≢◌, ℕ, ◌+◌, ◌-◌, false, eqb, List, [], ◌++◌, length, Result, Ok, Err, refl, sym, ap, subst, ◌∙◌, arith, inl, inr}
 use Rattle.std.proofs.lemmas.Bool.{eqb-true, eqb-false, ne_eqb}
 use Rattle.std.proofs.lemmas.List.{append-nil, nil_from_length, length-append}
@@ -27,6 +28,7 @@ at_place left place = record { left = left; place = place }
 
 -- ---- items
 
+-- a valid item was taken between the two positions
 pub record ItemTaken (p : Position) (x : DataItem) (q : Position) : Type 0 where
   pub valid : IsValid x
   pub taken : Takes p q (spell x)
@@ -55,6 +57,7 @@ item_read p x rest valid is =
     let place : p.place + (length p.left - length rest) ≡ p.place + length (spell x) = omega (arith, ap length is, length-append (spell x) rest) in
     ap (found_item p) read ∙ ap (λ (n : ℕ). Ok (x, record { left = rest; place = n })) place
 
+-- the refusal is that of the first fault in the bytes that are left
 pub record ItemFault (p : Position) (r : Refusal) : Type 0 where
   pub at : ℕ
   pub reason : Reason
@@ -82,7 +85,7 @@ item_faulty p at reason faulty =
     let place : p.place + (length p.left - stops.left) ≡ p.place + at = omega arith in
     ap (found_item p) stops.is ∙ ap (λ (n : ℕ). Err (refused n (Cbor reason))) place
 
--- ---- the answers of passing over an item
+-- ---- skipping an item
 
 abbrev on_item : Position → DataItem × Position → Result (Position × Position) Refusal
 on_item p x = Ok (inside p x.0, x.1)
@@ -102,7 +105,7 @@ skip_err p e refusal = ap (λ (r : Result (DataItem × Position) Refusal). r >>=
 
 -- ---- judgements
 
--- the judgement is that of the grammar and of the refusals, both ways
+-- judging accepts just what the grammar says, and refuses just what the refusals say
 pub record Judges {A : Type 0} (judge : ℕ → DataItem → Result A Refusal) (says : Says A)
     (form : Refuses) : Type 0 where
   pub ok : (levels place : ℕ) (x : DataItem) (a : A) → IsValidWithin levels x → judge place x ≡ Ok a

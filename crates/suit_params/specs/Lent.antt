@@ -1,4 +1,4 @@
--- Lent parameters as parameters.
+-- Borrowed parameters as parameters.
 use Rattle.std.specs.Prelude.{List, map, Option}
 use Rattle.std.specs.Option.{option_copied}
 use Rattle.std.specs.Borrow.{Bor}

@@ -1,4 +1,4 @@
--- A form whose items are judged both ways gives all bytes one answer.
+-- If judging agrees with a form in both directions, any bytes have one answer.
 use Rattle.std.proofs.Common.{◌≡◌, ◌⊎◌, ℕ, Result, Ok, Err, refl, sym, ◌∙◌, inl, inr}
 use Rattle.det_cbor.specs.DataItem.{DataItem}
 use Rattle.det_cbor.specs.ArgumentLaws.{bytes_of_all}

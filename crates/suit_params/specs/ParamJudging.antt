@@ -1,4 +1,4 @@
--- How a map of parameters is judged, by cases: the parameters, or the first refusal.
+-- How a map of parameters is judged, case by case: the parameters, or the first refusal.
 use Rattle.std.specs.Prelude.{ℕ, ◌==◌, nat_lt, if◌then◌else◌, List, [], ◌∷◌, Bool, length, Option, Some, None, Result, Ok, Err}
 use Rattle.det_cbor.specs.DataItem.{DataItem, UnsignedInteger, ByteString, TextString, MapOf, Boolean, DataPairs, NoPairs, PairThen}
 use Rattle.det_cbor.specs.HeadReading.{◌>>=◌}
@@ -15,8 +15,9 @@ use Rattle.suit_params.specs.Judging.{judge_digest}
 use Rattle.suit_params.specs.ParamKeys.{numbered}
 use Rattle.suit_params.specs.Params.{value_place, next_place, pairs_place}
 
--- ---- values by their kinds
+-- ---- values, by kind
 
+-- an identifier has 16 bytes
 abbrev pub judge_id : ℕ → DataItem → Result (List ℕ) Refusal
 judge_id place (ByteString id) = if length id == 16 then Ok id else Err (refused place BadParam)
 judge_id place _ = Err (refused place BadParam)
@@ -37,14 +38,15 @@ abbrev pub judge_flag : ℕ → DataItem → Result Bool Refusal
 judge_flag place (Boolean b) = Ok b
 judge_flag place _ = Err (refused place BadParam)
 
+-- an index is below the number of components
 abbrev pub judge_index : ℕ → ℕ → ℕ → Result ℕ Refusal
 judge_index count place i = if nat_lt i count then Ok i else Err (refused place (BadIndex i count))
 
--- a digest that the content of a byte string is to be
+-- the digest that the content of a byte string must be
 abbrev pub judge_content : ℕ → List ℕ → Result Digest Refusal
 judge_content place content = whole_judged judge_digest (content_place place content) content
 
--- ---- values by their keys
+-- ---- values, by key
 
 abbrev pub judge_value : ℕ → ParamKey → ℕ → DataItem → Result Param Refusal
 judge_value count keys.Vendor place x = judge_id place x >>= λ id. Ok (params.Vendor id)
@@ -73,6 +75,7 @@ abbrev pub judge_key : ℕ → DataItem → Result ParamKey Refusal
 judge_key place (UnsignedInteger n) = known_param place (numbered n)
 judge_key place _ = Err (refused place UnknownParam)
 
+-- each key is judged before its value, and each pair before the next
 abbrev pub judge_pairs : ℕ → ℕ → DataPairs → Result (List Param) Refusal
 judge_pairs count place NoPairs = Ok []
 judge_pairs count place (PairThen key value others) =

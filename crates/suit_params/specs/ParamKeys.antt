@@ -7,7 +7,7 @@ use Rattle.suit_params.specs.declared.param.ParamKey.{ParamKey}
 use Rattle.suit_params.specs.declared.param.ParamKey.TheVariants as keys
 use Rattle.suit_params.specs.Numbering.{numbered_in}
 
--- which parameter it is
+-- the key of a parameter
 abbrev pub key_of : Param → ParamKey
 key_of (params.Vendor id) = keys.Vendor
 key_of (params.Class id) = keys.Class
@@ -22,7 +22,7 @@ key_of (params.Uri text) = keys.Uri
 key_of (params.Source component) = keys.Source
 key_of (params.Args bytes) = keys.Args
 
--- its number in a map of parameters
+-- the number of the key in a map of parameters
 abbrev pub key_number : ParamKey → ℕ
 key_number keys.Vendor = 1
 key_number keys.Class = 2
@@ -37,16 +37,16 @@ key_number keys.Uri = 21
 key_number keys.Source = 22
 key_number keys.Args = 23
 
--- its key in a map of parameters
+-- the key as an item in a map of parameters
 abbrev pub key_item : ParamKey → DataItem
 key_item key = UnsignedInteger (key_number key)
 
--- all, in the order of their numbers
+-- all keys, in the order of their numbers
 abbrev pub all_keys : List ParamKey
 all_keys =
     keys.Vendor ∷ keys.Class ∷ keys.Digest ∷ keys.Slot ∷ keys.Strict ∷ keys.Soft ∷ keys.Size
     ∷ keys.Content ∷ keys.Uri ∷ keys.Source ∷ keys.Args ∷ keys.Device ∷ []
 
--- the parameter that has a number
+-- the key with this number, if there is one
 abbrev pub numbered : ℕ → Option ParamKey
 numbered n = numbered_in key_number all_keys n

@@ -10,21 +10,21 @@ use Rattle.suit_params.specs.ParamKeys.{key_of, key_number}
 use Rattle.suit_params.specs.Params.{IsParams, RefusesParams}
 use Rattle.suit_params.specs.ParamMaking.{params_item, IsParam, IsBelow}
 
--- just one list is said, and nothing is refused
+-- the item says exactly one list, and has no refusal
 pub record HasOneList (count place : ℕ) (x : DataItem) : Type 0 where
   pub list : List Param
   pub says : IsParams count place x list
   pub only : (ps : List Param) → IsParams count place x ps → ps ≡ list
   pub sound : (r : Refusal) → RefusesParams count place x r → ⊥
 
--- there is just one refusal, and no list is said
+-- the item has exactly one refusal, and says no list
 pub record HasOneRefusal (count place : ℕ) (x : DataItem) : Type 0 where
   pub refusal : Refusal
   pub refuses : RefusesParams count place x refusal
   pub only : (r : Refusal) → RefusesParams count place x r → r ≡ refusal
   pub empty : (ps : List Param) → IsParams count place x ps → ⊥
 
--- the numbers of the keys ascend, from above this one
+-- the numbers of the keys ascend, and are above this one
 abbrev pub AreAbove : ℕ → List Param → Type 0
 AreAbove low [] = Unit {0}
 AreAbove low (p ∷ ps) = (low < key_number (key_of p)) × AreAbove (key_number (key_of p)) ps
@@ -32,9 +32,10 @@ AreAbove low (p ∷ ps) = (low < key_number (key_of p)) × AreAbove (key_number 
 abbrev pub AreAscending : List Param → Type 0
 AreAscending ps = AreAbove 0 ps
 
--- the laws: each item says one list or has one refusal, and never both; lists ascend; the map that is made of a list
--- says that list, and is valid where the list ascends; an item that says a list is the one that is made of it; and so
--- all bytes are one digest or have one refusal, and say one list or have one refusal
+-- Each item says exactly one list or has exactly one refusal, and never both. Lists ascend. The map made from
+-- a list says that list, and is valid if the list ascends; an item that says a list is the one made from it.
+-- So any bytes are exactly one digest or have exactly one refusal, and say exactly one list or have exactly
+-- one refusal.
 pub record ParamLaws : Type 0 where
   pub one_reading : (count place : ℕ) (x : DataItem) → IsValid x
       → HasOneList count place x ⊎ HasOneRefusal count place x

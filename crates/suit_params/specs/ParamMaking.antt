@@ -30,8 +30,9 @@ param_pairs (p ∷ ps) = PairThen (key_item (key_of p)) (value_item p) (param_pa
 abbrev pub params_item : List Param → DataItem
 params_item ps = MapOf (param_pairs ps)
 
--- ---- the bounds of a parameter by its types
+-- ---- the bounds that the types of the code set a parameter
 
+-- a vendor, class or device identifier has 16 bytes
 abbrev pub IsId : List ℕ → Type 0
 IsId id = (length id ≡ 16) × AllByRecursion IsByte id
 
@@ -49,7 +50,7 @@ IsParam (params.Uri text) = IsString text × IsUtf8 text
 IsParam (params.Source i) = i < 2 ^ 64
 IsParam (params.Args bytes) = IsString bytes
 
--- a source is below the number of components
+-- the index of a source is below the number of components
 abbrev pub IsBelow : ℕ → Param → Type 0
 IsBelow count (params.Source i) = i < count
 IsBelow count _ = Unit {0}

@@ -1,4 +1,4 @@
--- How a map of parameters is read, of an item that was judged before.
+-- How a map of parameters is read, from an item that was judged before.
 use Rattle.std.specs.Prelude.{ℕ, zero, suc, ◌==◌, if◌then◌else◌, List, [], ◌∷◌, Bool, Result, Ok, Err}
 use Rattle.std.specs.Str.{is_utf8}
 use Rattle.det_cbor.specs.declared.head.HeadKind.TheVariants as kinds
@@ -25,7 +25,7 @@ key_from p =
     kind_from kinds.Unsigned UnknownParam p
     >>= λ n. known_param p.place (numbered n.0) >>= λ key. Ok (key, n.1)
 
--- ---- values by their kinds
+-- ---- values, by kind
 
 unfoldable pub id_from : Position → Result (List ℕ × Position) Refusal
 id_from p =
@@ -58,7 +58,7 @@ digest_from p = held_from p >>= λ c. only_from c.0 >>= λ item. digest_at item 
 abbrev pub bytes_value_from : Position → Result (List ℕ × Position) Refusal
 bytes_value_from p = held_from p >>= λ c. Ok (c.0.left, c.1)
 
--- ---- values by their keys
+-- ---- values, by key
 
 abbrev pub value_from : ℕ → ParamKey → Position → Result (Param × Position) Refusal
 value_from count keys.Vendor p = id_from p >>= λ v. Ok (params.Vendor v.0, v.1)
@@ -80,16 +80,16 @@ value_from count keys.Args p = bytes_value_from p >>= λ v. Ok (params.Args v.0,
 abbrev pub param_from : ℕ → Position → Result (Param × Position) Refusal
 param_from count p = key_from p >>= λ k. value_from count k.0 k.1
 
--- so many pairs
+-- the next n pairs
 abbrev pub params_from : ℕ → ℕ → Position → Result (List Param) Refusal
 params_from count zero p = Ok []
 params_from count (suc n) p =
     param_from count p >>= λ v. params_from count n v.1 >>= λ ps. Ok (v.0 ∷ ps)
 
--- a whole item, as a map of parameters
+-- a whole item, read as a map of parameters
 unfoldable pub params_at : ℕ → Position → Result (List Param) Refusal
 params_at count p = map_from p >>= λ n. params_from count n.0 n.1
 
--- the next item, as a map of parameters
+-- the next item, read as a map of parameters
 abbrev pub next_params : ℕ → Position → Result (List Param × Position) Refusal
 next_params count p = inner_from p >>= λ x. params_at count x.0 >>= λ ps. Ok (ps, x.1)

@@ -1,10 +1,10 @@
--- Lent parameters as parameters.
+-- Borrowed parameters as parameters.
 use Rattle.suit_params.specs.declared.param.Param.{Param}
 use Rattle.suit_params.specs.declared.param.Param.TheVariants as params
 use Rattle.suit_params.specs.declared.param_slice.ParamSlice.{ParamSlice}
 use Rattle.suit_params.specs.declared.param_slice.ParamSlice.TheVariants as slices
 
--- the parameter that is lent
+-- the parameter that is borrowed
 abbrev pub param_of : ParamSlice → Param
 param_of (slices.Vendor id) = params.Vendor id
 param_of (slices.Class id) = params.Class id

@@ -13,7 +13,7 @@ use Rattle.suit_params.specs.Refusing.{refused, IsByteString, content_place, Ref
 use Rattle.suit_params.specs.Digests.{IsDigest, RefusesDigest}
 use Rattle.suit_params.specs.ParamKeys.{key_item}
 
--- ---- values: under which key, which item says which parameter, where there are so many components
+-- ---- values: which parameter an item says under a key, given the number of components
 
 pub data SaysValue (count place : ℕ) : ParamKey → DataItem → Param → Type 0 where
   SaysVendor : (id : List ℕ) → length id ≡ 16
@@ -40,14 +40,14 @@ pub data SaysValue (count place : ℕ) : ParamKey → DataItem → Param → Typ
 
 -- ---- the map
 
--- the places of a pair's value and of the pair after it, where the pair is spelled from a place on
+-- the places of a pair's value and of the next pair, for a pair that begins at a place
 abbrev pub value_place : ℕ → DataItem → ℕ
 value_place place key = place + length (spell key)
 
 abbrev pub next_place : ℕ → DataItem → DataItem → ℕ
 next_place place key value = value_place place key + length (spell value)
 
--- pairs that are spelled from a place on say these parameters, each the next
+-- pairs that begin at this place say these parameters, one after another
 pub data SayParams (count : ℕ) : ℕ → DataPairs → List Param → Type 0 where
   NoMore : (place : ℕ) → SayParams count place NoPairs []
   ParamThen :
@@ -61,6 +61,7 @@ pub data SayParams (count : ℕ) : ℕ → DataPairs → List Param → Type 0 w
 abbrev pub pairs_place : ℕ → DataPairs → ℕ
 pairs_place place pairs = place + length (head_bytes 5 (pair_count pairs))
 
+-- the item is a map whose pairs say these parameters
 pub data IsParams (count place : ℕ) : DataItem → List Param → Type 0 where
   ParamMap : (pairs : DataPairs) (ps : List Param)
       → SayParams count (pairs_place place pairs) pairs ps → IsParams count place (MapOf pairs) ps
@@ -84,7 +85,7 @@ abbrev pub IsText : DataItem → Type 0
 IsText (TextString text) = Unit {0}
 IsText _ = ⊥
 
--- the kind that values have under a key: a byte string under a digest, a content and arguments
+-- the kind of the values under a key; a digest, a content and arguments are byte strings
 abbrev pub IsOfKind : ParamKey → DataItem → Type 0
 IsOfKind keys.Vendor x = IsIdentifier x
 IsOfKind keys.Class x = IsIdentifier x
@@ -97,6 +98,7 @@ IsOfKind keys.Uri x = IsText x
 IsOfKind keys.Source x = IsUnsigned x
 IsOfKind _ x = IsByteString x
 
+-- the refusals of a value: another kind of item, a bad digest, or a source that is no component
 pub data RefusesValue (count place : ℕ) : ParamKey → DataItem → Refusal → Type 0 where
   OtherKind : (key : ParamKey) (x : DataItem) → (IsOfKind key x → ⊥)
       → RefusesValue count place key x (refused place BadParam)
@@ -106,7 +108,7 @@ pub data RefusesValue (count place : ℕ) : ParamKey → DataItem → Refusal �
   NoComponent : (i : ℕ) → count ≤ i
       → RefusesValue count place keys.Source (UnsignedInteger i) (refused place (BadIndex i count))
 
--- each key is judged before its value, and each pair before the next
+-- the refusals of pairs: each key is judged before its value, and each pair before the next
 pub data RefusesPairs (count : ℕ) : ℕ → DataPairs → Refusal → Type 0 where
   OtherKey : (place : ℕ) (key value : DataItem) (others : DataPairs)
       → ((known : ParamKey) → key ≡ key_item known → ⊥)
@@ -124,6 +126,7 @@ abbrev pub IsMap : DataItem → Type 0
 IsMap (MapOf pairs) = Unit {0}
 IsMap _ = ⊥
 
+-- the refusals of an item that must be a map of parameters
 pub data RefusesParams (count place : ℕ) : DataItem → Refusal → Type 0 where
   NoMap : (x : DataItem) → (IsMap x → ⊥) → RefusesParams count place x (refused place Shape)
   BadPairs : (pairs : DataPairs) (r : Refusal)

@@ -12,22 +12,24 @@ use Rattle.suit_params.specs.declared.refusal.Why.TheVariants.{Cbor, Trailing, S
 abbrev pub refused : ℕ → Why → Refusal
 refused place why = record { place = place; why = why }
 
--- the refusals of a form of items, and what it takes an item to say; the item is spelled from a place on
+-- a form's refusals: the item at this place has this refusal
 abbrev pub Refuses : Type 1
 Refuses = ℕ → DataItem → Refusal → Type 0
 
+-- what a form says: the item at this place says this
 abbrev pub Says : Type 0 → Type 1
 Says A = ℕ → DataItem → A → Type 0
 
--- ---- the next item, whatever follows
+-- ---- the next item, whatever follows it
 
+-- the refusals of the next item: it is not valid, or the form refuses it
 pub data RefusesNext (form : Refuses) (p : Position) : Refusal → Type 0 where
   FaultyNext : (at : ℕ) (reason : Reason) → Faulty 0 p.left at reason
       → RefusesNext form p (refused (p.place + at) (Cbor reason))
   RefusedNext : (x : DataItem) (rest : List ℕ) (r : Refusal) → IsValid x → p.left ≡ spell x ++ rest
       → form p.place x r → RefusesNext form p r
 
--- from old to new an item was taken that says this
+-- between the old and the new position an item was taken that says this
 pub record TakesNext {A : Type 0} (says : Says A) (old new : Position) (said : A) : Type 0 where
   pub item : DataItem
   pub valid : IsValid item
@@ -36,6 +38,7 @@ pub record TakesNext {A : Type 0} (says : Says A) (old new : Position) (said : A
 
 -- ---- bytes that hold one item and nothing more
 
+-- the refusals of the bytes: no valid item, bytes after the item, or an item that the form refuses
 pub data RefusesWhole (form : Refuses) (place : ℕ) (bytes : List ℕ) : Refusal → Type 0 where
   FaultyItem : (at : ℕ) (reason : Reason) → Faulty 0 bytes at reason
       → RefusesWhole form place bytes (refused (place + at) (Cbor reason))
@@ -57,24 +60,25 @@ abbrev pub IsByteString : DataItem → Type 0
 IsByteString (ByteString bytes) = Unit {0}
 IsByteString _ = ⊥
 
--- the place of the content of a byte string that is spelled from a place on
+-- the place of the content of a byte string that begins at a place
 abbrev pub content_place : ℕ → List ℕ → ℕ
 content_place place content = place + length (head_bytes 2 (length content))
 
+-- the refusals of an item that must be such a byte string
 pub data RefusesHeld (form : Refuses) (place : ℕ) : DataItem → Refusal → Type 0 where
   NoString : (x : DataItem) → (IsByteString x → ⊥) → RefusesHeld form place x (refused place Shape)
   BadContent : (content : List ℕ) (r : Refusal)
       → RefusesWhole form (content_place place content) content r
       → RefusesHeld form place (ByteString content) r
 
--- a byte string whose content spells an item that says this
+-- the item is a byte string whose content spells an item that says this
 pub record SaysHeld {A : Type 0} (says : Says A) (place : ℕ) (x : DataItem) (said : A)
     : Type 0 where
   pub content : List ℕ
   pub is : x ≡ ByteString content
   pub holds : SaysWhole says (content_place place content) content said
 
--- ---- lists, which are judged in their order up to the first that is refused
+-- ---- lists, whose elements are judged in order until one is refused
 
 pub data RefusesFirst {A : Type 0} (bad : A → Refusal → Type 0) (good : A → Type 0)
     : List A → Refusal → Type 0 where

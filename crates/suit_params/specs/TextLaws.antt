@@ -1,4 +1,4 @@
--- Whether bytes are a text, as a test.
+-- Whether bytes are text, as a test.
 use Rattle.std.proofs.Common.{◌≡◌, ℕ, true, List}
 use Rattle.std.specs.Str.{IsUtf8, is_utf8}
 use Rattle.det_cbor.proofs.Utf8.{good_utf8}

@@ -1,11 +1,11 @@
-//! Components that have the same identifier.
+//! Components with the same identifier.
 
 ghost use Rattle.std.specs.Prelude.{◌≤◌, ◌<◌, length, MatchOption};
 ghost use Rattle.suit_params.specs.Alike.{HasNoLike, IsFirstLike, TellsAlike};
 
 use crate::Identifier;
 
-/// What has a component's identifier.
+/// Something with a component identifier.
 pub trait Identified {
     ghost use Rattle.std.specs.Prelude.{◌≡◌, ℕ, List};
 
@@ -23,7 +23,7 @@ impl Identified for Identifier {
     }
 }
 
-/// Things that have identifiers, by their numbers.
+/// A list of things with identifiers, by their numbers.
 pub trait IdentifiedList {
     ghost use Rattle.std.specs.Prelude.{◌≡◌, ◌<◌, ℕ, List, length, MatchBool};
     ghost use Rattle.suit_params.specs.Alike.{HaveOneId, HaveOtherIds};
@@ -56,7 +56,7 @@ impl<'a, T: Identified> IdentifiedList for &'a [T] {
     }
 }
 
-/// The first before another one that has its identifier, by its number.
+/// The number of the first thing before `last` with the same identifier, if there is one.
 pub fn first_like<L: IdentifiedList + Drop>(mut all: L, last: usize) -> Option<usize>
     requires { last < length (L.items all) }
     ensures { MatchOption result
@@ -71,7 +71,8 @@ pub fn first_like<L: IdentifiedList + Drop>(mut all: L, last: usize) -> Option<u
     None
 }
 
-/// The first two of at most eight that have the same identifier: the least second one, and then the least first one.
+/// The numbers of the first two of at most eight things with the same identifier: the second is as
+/// low as possible, and then the first.
 pub fn first_alike<T: Identified>(all: &[T]) -> Option<(u32, u32)>
     requires { length all.now ≤ 8 }
     ensures { TellsAlike T.id all.now result }

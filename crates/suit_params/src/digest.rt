@@ -18,7 +18,7 @@ use crate::{
 };
 use det_cbor::{Cursor, HeadKind};
 
-/// A digest of bytes by a hash function.
+/// A digest, by its hash function.
 #[derive(Clone, Copy, Debug, PartialEq, Eq)]
 pub enum Digest {
     /// By SHA-256.
@@ -29,7 +29,7 @@ pub enum Digest {
     Sha512([u8; 64]),
 }
 
-// The bytes as an array.
+// Copies the bytes into an array.
 fn array<const SIZE: usize>(bytes: &[u8]) -> [u8; SIZE]
     requires { length bytes.now ≡ SIZE }
     ensures { result ≡ bytes.now }
@@ -40,7 +40,7 @@ fn array<const SIZE: usize>(bytes: &[u8]) -> [u8; SIZE]
 }
 
 impl Digest {
-    /// The digest of these bytes by this hash function.
+    /// The digest with these bytes, by this hash function.
     pub fn new(kind: DigestKind, bytes: &[u8]) -> Digest
         requires { length bytes.now ≡ size_of kind }
         ensures { result ≡ digest_by kind bytes.now }
@@ -52,7 +52,7 @@ impl Digest {
         }
     }
 
-    /// The digest that these bytes are, by the hash function whose digests have so many.
+    /// The digest with these bytes, if a hash function has digests of their length.
     pub fn from_bytes(bytes: &[u8]) -> Option<Digest>
         ensures { result ≡ as_digest bytes.now }
     {
@@ -60,7 +60,7 @@ impl Digest {
         Some(Digest::new(kind, bytes))
     }
 
-    /// Its hash function.
+    /// The hash function.
     pub fn kind(&self) -> DigestKind
         ensures { result ≡ digest_kind self.now }
     {
@@ -71,7 +71,7 @@ impl Digest {
         }
     }
 
-    /// Its bytes.
+    /// The bytes of the digest.
     pub fn bytes(&self) -> &[u8]
         ensures is { result.now ≡ digest_bytes self.now }
         ensures long { IsLong self.now }
@@ -83,7 +83,7 @@ impl Digest {
         }
     }
 
-    /// Its bytes, with zeros behind them.
+    /// The bytes of the digest, padded with zeros.
     pub fn padded(&self) -> [u8; 64]
         ensures { result ≡ digest_bytes self.now
             ++ replicate (64 - length (digest_bytes self.now)) 0 }
@@ -95,7 +95,7 @@ impl Digest {
     }
 }
 
-// The second element of a digest by a hash function, whose array stands at a place.
+// Reads the second element of a digest. `array` is the place of the digest's array.
 #[tactic(auto, unfolding(crate::specs::DigestReading::value_at))]
 fn value(item: &mut Cursor<'_>, array: u64, kind: DigestKind) -> Result<Digest, Refusal>
     ensures { map_ok (λ d. (d, item.new)) result ≡ value_at array kind item.old }
@@ -108,7 +108,7 @@ fn value(item: &mut Cursor<'_>, array: u64, kind: DigestKind) -> Result<Digest, 
     Ok(Digest::new(kind, bytes))
 }
 
-// The first element of a digest, whose array stands at a place.
+// Reads the first element of a digest. `array` is the place of the digest's array.
 #[tactic(auto, unfolding(crate::specs::DigestReading::algorithm_at))]
 fn algorithm(item: &mut Cursor<'_>, array: u64) -> Result<DigestKind, Refusal>
     ensures { map_ok (λ kind. (kind, item.new)) result ≡ algorithm_at array item.old }
@@ -125,7 +125,7 @@ fn algorithm(item: &mut Cursor<'_>, array: u64) -> Result<DigestKind, Refusal>
     }
 }
 
-/// Reads a whole item, judged as one before, as a digest.
+/// Reads `item`, one item that was judged before, as a digest.
 #[tactic(auto, unfolding(crate::specs::DigestReading::digest_at))]
 pub fn digest_of(mut item: Cursor<'_>) -> Result<Digest, Refusal>
     ensures { result ≡ digest_at item.entry }
@@ -147,7 +147,7 @@ fn next_digest(cursor: &mut Cursor<'_>) -> Result<Digest, Refusal>
     digest_of(item)
 }
 
-// As `read_digest`, which says what this means.
+// Reads with a second cursor, so that a refusal leaves the first one alone.
 fn digest_ahead(cursor: &mut Cursor<'_>) -> Result<Digest, Refusal>
     ensures exact { map_ok (λ d. (d, cursor.new)) result ≡ next_digest cursor.old }
     ensures same { OnErr result (cursor.new ≡ cursor.old) }
@@ -159,8 +159,8 @@ fn digest_ahead(cursor: &mut Cursor<'_>) -> Result<Digest, Refusal>
     Ok(digest)
 }
 
-/// Reads a SUIT_Digest (draft-ietf-suit-manifest-25, section 10). It is judged as one
-/// item first. After a refusal the cursor stands where it stood.
+/// Reads a SUIT_Digest (draft-ietf-suit-manifest-25, section 10). The next item is judged as CBOR
+/// first, and then as a digest. After a refusal the cursor is where it was.
 pub fn read_digest(cursor: &mut Cursor<'_>) -> Result<Digest, Refusal>
     ensures exact { map_ok (λ d. (d, cursor.new)) result ≡ next_digest cursor.old }
     ensures ok { IfOk result (λ d. TakesNext IsDigest cursor.old cursor.new d) }

@@ -3,7 +3,7 @@
 ghost use Rattle.std.specs.Prelude.{◌≡◌, ◌≤◌, IfSome};
 ghost use Rattle.suit_params.specs.DigestKinds.{size_of, argument_of, kind_of, kind_of_length};
 
-/// Which hash function.
+/// A hash function.
 #[derive(Clone, Copy, Debug, PartialEq, Eq)]
 pub enum DigestKind {
     Sha256,
@@ -12,7 +12,7 @@ pub enum DigestKind {
 }
 
 impl DigestKind {
-    /// How many bytes a digest has.
+    /// The length of a digest in bytes.
     pub fn size(self) -> usize
         ensures is { result ≡ size_of self }
         ensures few { result ≤ 64 }
@@ -24,7 +24,7 @@ impl DigestKind {
         }
     }
 
-    /// The argument of its negative number in COSE.
+    /// The argument of the negative integer that stands for it in COSE.
     pub(crate) fn argument(self) -> u64
         ensures { result ≡ argument_of self }
     {
@@ -36,7 +36,7 @@ impl DigestKind {
     }
 }
 
-/// The hash function of the negative number with this argument.
+/// The hash function that the negative integer with this argument stands for in COSE.
 pub(crate) fn kind_of(argument: u64) -> Option<DigestKind>
     ensures { result ≡ kind_of argument }
 {
@@ -48,7 +48,7 @@ pub(crate) fn kind_of(argument: u64) -> Option<DigestKind>
     }
 }
 
-/// The hash function whose digests have so many bytes.
+/// The hash function whose digests are `length` bytes long.
 pub fn kind_of_length(length: usize) -> Option<DigestKind>
     ensures is { result ≡ kind_of_length length }
     ensures size { IfSome result (λ kind. length ≡ size_of kind) }

@@ -1,4 +1,4 @@
-//! Writing a digest's array.
+//! Writing digests.
 
 ghost use Rattle.std.specs.Prelude.{◌≡◌, ◌++◌, OnOk, OnErr};
 ghost use Rattle.det_cbor.specs.DataItem.{spell};
@@ -10,8 +10,8 @@ use crate::Digest;
 use det_cbor::{Bytes, HeadKind, push_count, push_kind, push_string};
 use std::alloc::AllocError;
 
-/// Adds a digest's array at the end, in its one spelling (draft-ietf-suit-manifest-25, section 10). Where memory runs
-/// out, a part of the spelling may have been added.
+/// Appends the one spelling of a digest's array (draft-ietf-suit-manifest-25, section 10). If
+/// memory runs out, a part of it may have been appended.
 pub fn push_digest(out: &mut Bytes, digest: &Digest) -> Result<(), AllocError>
     ensures ok { OnOk result (out.new ≡ out.old ++ spell (digest_item digest.now)) }
     ensures err { OnErr result (IsPrefix out.old out.new) }

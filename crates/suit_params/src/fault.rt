@@ -1,4 +1,4 @@
-//! How want of memory and refusals become faults.
+//! How refusals and failed allocations become faults.
 
 ghost use Rattle.std.specs.Prelude.{◌≡◌};
 ghost use Rattle.suit_params.specs.declared.refusal.Fault.TheVariants as faults;

@@ -8,7 +8,7 @@ ghost use Rattle.suit_params.specs.declared.digest_kind.DigestKind.{DigestKind};
 use crate::{Digest, DigestKind};
 use sha2::{Digest as HashFunction, Sha256, Sha384, Sha512};
 
-/// A digest that is being computed: the pieces so far.
+/// A digest that is being computed.
 #[derive(Drop)]
 pub enum Hasher {
     Sha256(Sha256),
@@ -17,7 +17,7 @@ pub enum Hasher {
 }
 
 impl Hasher {
-    /// A digest by this hash function, of no bytes yet.
+    /// Starts a digest by this hash function.
     pub fn new(kind: DigestKind) -> Hasher
         ensures { HasHashed result kind [] }
     {
@@ -40,7 +40,7 @@ impl Hasher {
         }
     }
 
-    /// The digest of the pieces, one after another.
+    /// The digest of all the pieces, in their order.
     pub fn finish(self) -> Digest
         ensures { (kind : DigestKind) (message : List ℕ) → HasHashed self kind message
             → result ≡ hash kind message }
@@ -53,7 +53,7 @@ impl Hasher {
     }
 }
 
-/// The digest of bytes in one piece.
+/// Hashes bytes in one piece.
 pub fn hash(kind: DigestKind, bytes: &[u8]) -> Digest
     ensures { result ≡ hash kind bytes.now }
 {

@@ -2,8 +2,8 @@
 
 use det_cbor::{Bytes, List};
 
-/// A component identifier (draft-ietf-suit-manifest-25, section 8.4.5): byte strings in their order.
+/// A component identifier (draft-ietf-suit-manifest-25, section 8.4.5): a list of byte strings.
 pub type Identifier = List<Bytes>;
 
-/// The identifiers of a manifest's components, by their indices.
+/// The identifiers of a manifest's components, by index.
 pub type Identifiers = List<Identifier>;

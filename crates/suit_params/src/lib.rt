@@ -1,4 +1,4 @@
-//! The parts that all readers of SUIT manifests share: refusals with their places, digests and parameters.
+//! What all readers of SUIT manifests share: refusals and their places, digests, and parameters.
 #![tactic(auto)]
 
 mod alike;

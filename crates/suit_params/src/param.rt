@@ -7,30 +7,30 @@ use crate::Digest;
 use det_cbor::{Bytes, Text};
 use std::alloc::{AllocError, Global};
 
-/// A parameter that a component has.
+/// A parameter of a component.
 #[derive(Debug, Drop)]
 pub enum Param {
     Vendor([u8; 16]),
     Class([u8; 16]),
     Device([u8; 16]),
-    /// The digest that the image has.
+    /// The digest of the image.
     Digest(Digest),
     Slot(u64),
     /// Whether commands run in order. They always do.
     Strict(bool),
-    /// Whether a failed condition of the running sequence is passed over.
+    /// Whether a failed condition of the running sequence is tolerated.
     Soft(bool),
-    /// The number of bytes that the image has.
+    /// The size of the image in bytes.
     Size(u64),
     Content(Bytes),
     Uri(Text),
-    /// The component that a copy or a swap takes its content from.
+    /// The index of the component that a copy or a swap takes its content from.
     Source(u32),
-    /// Bytes that the launcher is handed beside the image.
+    /// The bytes that the launcher is given with the image.
     Args(Bytes),
 }
 
-/// Which parameter.
+/// The key of a parameter.
 #[derive(Clone, Copy, Debug, PartialEq, Eq)]
 pub enum ParamKey {
     Vendor,
@@ -48,7 +48,7 @@ pub enum ParamKey {
 }
 
 impl Param {
-    /// Which parameter it is.
+    /// The key of this parameter.
     pub fn key(&self) -> ParamKey
         ensures { result ≡ key_of self.now }
     {
@@ -68,7 +68,7 @@ impl Param {
         }
     }
 
-    /// An equal parameter in memory of its own.
+    /// Copies the parameter.
     pub fn copy(&self, alloc: Global) -> Result<Param, AllocError>
         ensures { IfOk result (λ other. other ≡ self.now) }
     {
@@ -90,7 +90,7 @@ impl Param {
 }
 
 impl ParamKey {
-    /// The key of the parameter in an override.
+    /// The number of the key in a map of parameters.
     pub fn number(self) -> u8
         ensures { result ≡ key_number self }
     {

@@ -1,4 +1,4 @@
-//! Maps of parameters, judged without being kept.
+//! Judging maps of parameters without keeping them.
 
 ghost use Rattle.std.specs.Prelude.{◌≡◌, ℕ};
 ghost use Rattle.det_cbor.specs.HeadReading.{map_ok};
@@ -9,7 +9,7 @@ use crate::param_slice::lend_param;
 use crate::reading::read_map;
 use det_cbor::Cursor;
 
-// So many pairs of a map.
+// Judges the next `pairs` pairs of a map.
 fn judge_pairs(mut map: Cursor<'_>, pairs: u64, count: u32) -> Result<(), Refusal>
     ensures { result ≡ map_ok (λ _. tt) (params_from count pairs map.entry) }
 {
@@ -22,8 +22,7 @@ fn judge_pairs(mut map: Cursor<'_>, pairs: u64, count: u32) -> Result<(), Refusa
     Ok(())
 }
 
-/// Judges a whole item, judged as one before, as a map of parameters, for so many components: it
-/// answers as `params_of` does, and takes no memory.
+/// Judges a map of parameters as `params_of` does, without allocating.
 #[tactic(auto, unfolding(crate::specs::ParamReading::params_at))]
 pub fn judge_params(mut item: Cursor<'_>, count: u32) -> Result<(), Refusal>
     ensures { result ≡ map_ok (λ _. tt) (params_at count item.entry) }

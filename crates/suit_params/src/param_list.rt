@@ -3,5 +3,5 @@
 use crate::Param;
 use det_cbor::List;
 
-/// Parameters, as a map has them: ascending by their keys' numbers.
+/// The parameters of a map, in ascending order of the numbers of their keys.
 pub type ParamList = List<Param>;

@@ -22,7 +22,7 @@ use crate::{Fault, Param, ParamKey, ParamList, Refusal, Why};
 use det_cbor::{Bytes, Cursor, HeadKind, Text};
 use std::alloc::{AllocError, Global};
 
-// The parameter that has a number, which stands at a place.
+// The key with this number. `place` is that of the number.
 fn numbered(place: u64, number: u64) -> Result<ParamKey, Refusal>
     ensures { result ≡ known_param place (numbered number) }
 {
@@ -43,7 +43,7 @@ fn numbered(place: u64, number: u64) -> Result<ParamKey, Refusal>
     }
 }
 
-/// The key of the next pair.
+/// Reads the key of the next pair.
 #[tactic(auto, unfolding(crate::specs::ParamReading::key_from))]
 pub(crate) fn read_key(map: &mut Cursor<'_>) -> Result<ParamKey, Refusal>
     ensures { map_ok (λ key. (key, map.new)) result ≡ key_from map.old }
@@ -53,7 +53,7 @@ pub(crate) fn read_key(map: &mut Cursor<'_>) -> Result<ParamKey, Refusal>
     numbered(place, number)
 }
 
-// A byte string, as its content in memory of its own.
+// Reads a byte string and copies its content.
 fn read_bytes_value(alloc: Global, map: &mut Cursor<'_>) -> Result<Bytes, Fault>
     ensures { Gives (λ b. (b, map.new)) result (bytes_value_from map.old) }
 {
@@ -92,10 +92,10 @@ fn read_param(alloc: Global, map: &mut Cursor<'_>, count: u32) -> Result<Param, 
     read_value(alloc, map, key, count)
 }
 
-// How many keys there are, so that a map without one twice has at most so many pairs.
+// How many keys there are. A map holds no key twice, so it has at most this many pairs.
 const KEYS: u64 = 12;
 
-// An empty list with room for so many pairs.
+// An empty list with room for `pairs` pairs, or for one with each key if that is less.
 fn list_for(alloc: Global, pairs: u64) -> Result<ParamList, AllocError>
     ensures { IfOk result (λ list. list ≡ []) }
 {
@@ -103,7 +103,7 @@ fn list_for(alloc: Global, pairs: u64) -> Result<ParamList, AllocError>
     Ok(ParamList::from_vec(room))
 }
 
-// So many pairs of a map.
+// Reads the next `pairs` pairs of a map.
 fn read_pairs(
     alloc: Global,
     mut map: Cursor<'_>,
@@ -120,7 +120,8 @@ fn read_pairs(
     Ok(list)
 }
 
-/// Reads a whole item, judged as one before, as a map of parameters, for so many components.
+/// Reads `item`, one item that was judged before, as a map of parameters. Component indices must be
+/// below `count`.
 #[tactic(auto, unfolding(crate::specs::ParamReading::params_at))]
 pub fn params_of(alloc: Global, mut item: Cursor<'_>, count: u32) -> Result<ParamList, Fault>
     ensures { Gives (λ list. list) result (params_at count item.entry) }
@@ -136,7 +137,7 @@ fn next_params(alloc: Global, cursor: &mut Cursor<'_>, count: u32) -> Result<Par
     params_of(alloc, item, count)
 }
 
-// As `read_params`, which says what this means.
+// Reads with a second cursor, so that a fault leaves the first one alone.
 fn params_ahead(alloc: Global, cursor: &mut Cursor<'_>, count: u32) -> Result<ParamList, Fault>
     ensures exact { Gives (λ list. (list, cursor.new)) result (next_params count cursor.old) }
     ensures same { OnErr result (cursor.new ≡ cursor.old) }
@@ -148,9 +149,9 @@ fn params_ahead(alloc: Global, cursor: &mut Cursor<'_>, count: u32) -> Result<Pa
     Ok(list)
 }
 
-/// Reads a map of parameters (draft-ietf-suit-manifest-25, section 8.4.8), for so many components.
-/// It is judged as one item first, and then pair by pair. Allocates only for the list. After a
-/// fault the cursor is where it was.
+/// Reads a map of parameters (draft-ietf-suit-manifest-25, section 8.4.8). Component indices must
+/// be below `count`. The next item is judged as CBOR first, and then pair by pair. Allocates only
+/// for the list. After a fault the cursor is where it was.
 pub fn read_params(alloc: Global, cursor: &mut Cursor<'_>, count: u32) -> Result<ParamList, Fault>
     ensures ok { IfOk result (λ list. TakesNext (IsParams count) cursor.old cursor.new list) }
     ensures refused { IfErr result (IsFaultBy (RefusesNext (RefusesParams count) cursor.old)) }
@@ -163,10 +164,11 @@ pub fn read_params(alloc: Global, cursor: &mut Cursor<'_>, count: u32) -> Result
     params_ahead(alloc, cursor, count)
 }
 
-/// Does nothing. Its contract has the laws. A valid item says one list of parameters or has one
-/// refusal, and never both; the keys' numbers of a list ascend; the map that is made of a list says
-/// that list, and is valid where the list ascends; and an item that says a list is the one that is
-/// made of it. All bytes are one digest or have one refusal, and say one list or have one refusal.
+/// Does nothing. Its contract has the laws. A valid item says exactly one list of parameters or has
+/// exactly one refusal, and never both. The numbers of a list's keys ascend. The map made from a
+/// list says that list, and is valid if the list ascends. An item that says a list is the one made
+/// from it. Any bytes are exactly one digest or have exactly one refusal, and say exactly one list
+/// or have exactly one refusal.
 pub fn param_laws()
     ensures { ParamLaws }
 {}

@@ -1,4 +1,4 @@
-//! Parameters whose bytes are lent.
+//! Parameters that borrow their bytes.
 
 ghost use Rattle.std.specs.Prelude.{◌≡◌, IfOk};
 ghost use Rattle.det_cbor.specs.HeadReading.{map_ok};
@@ -15,31 +15,31 @@ use crate::{Digest, Param, ParamKey, Refusal};
 use det_cbor::{Bytes, Cursor, Text};
 use std::alloc::{AllocError, Global};
 
-/// A parameter, its bytes lent by the manifest.
+/// A parameter that borrows its bytes from the manifest.
 #[derive(Clone, Copy, Debug)]
 pub enum ParamSlice<'a> {
     Vendor([u8; 16]),
     Class([u8; 16]),
     Device([u8; 16]),
-    /// The digest that the image has.
+    /// The digest of the image.
     Digest(Digest),
     Slot(u64),
     /// Whether commands run in order. They always do.
     Strict(bool),
-    /// Whether a failed condition of the running sequence is passed over.
+    /// Whether a failed condition of the running sequence is tolerated.
     Soft(bool),
-    /// The number of bytes that the image has.
+    /// The size of the image in bytes.
     Size(u64),
     Content(&'a [u8]),
     Uri(&'a str),
-    /// The component that a copy or a swap takes its content from.
+    /// The index of the component that a copy or a swap takes its content from.
     Source(u32),
-    /// Bytes that the launcher is handed beside the image.
+    /// The bytes that the launcher is given with the image.
     Args(&'a [u8]),
 }
 
 impl<'a> ParamSlice<'a> {
-    /// Which parameter it is.
+    /// The key of this parameter.
     pub fn key(&self) -> ParamKey
         ensures { result ≡ key_of (param_of self.now) }
     {
@@ -59,7 +59,7 @@ impl<'a> ParamSlice<'a> {
         }
     }
 
-    /// The same parameter in memory of its own.
+    /// Copies the parameter.
     pub fn copy(&self, alloc: Global) -> Result<Param, AllocError>
         ensures { IfOk result (λ param. param ≡ param_of self.now) }
     {
@@ -80,7 +80,7 @@ impl<'a> ParamSlice<'a> {
     }
 }
 
-// A byte string, as its content.
+// Reads a byte string and borrows its content.
 fn lend_bytes<'a>(map: &mut Cursor<'a>) -> Result<&'a [u8], Refusal>
     ensures { map_ok (λ bytes. (bytes.now, map.new)) result ≡ bytes_value_from map.old }
 {
@@ -110,8 +110,8 @@ fn lend_value<'a>(
     }
 }
 
-/// The next pair of a map, which was judged as an item before, for so many components. Takes no
-/// memory: the parameter's bytes are the cursor's.
+/// Reads the next pair of a map that was judged as CBOR before. Component indices must be below
+/// `count`. Allocates nothing: the parameter borrows the cursor's bytes.
 pub fn lend_param<'a>(map: &mut Cursor<'a>, count: u32) -> Result<ParamSlice<'a>, Refusal>
     ensures { map_ok (λ p. (param_of p, map.new)) result ≡ param_from count map.old }
 {

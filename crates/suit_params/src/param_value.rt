@@ -1,4 +1,4 @@
-//! Values of parameters, by their kinds, read from items judged before.
+//! Reading the values of parameters, from items that were judged before.
 
 ghost use Rattle.std.specs.Prelude.{◌≡◌};
 ghost use Rattle.det_cbor.specs.HeadReading.{map_ok};
@@ -12,7 +12,7 @@ use crate::refusal::refused;
 use crate::{Digest, Refusal, Why};
 use det_cbor::{Cursor, HeadKind, Reason, as_text};
 
-// The next 16 bytes.
+// Reads the next 16 bytes.
 fn id_bytes(map: &mut Cursor<'_>) -> Result<[u8; 16], Refusal>
     ensures { map_ok (λ id. (id, map.new)) result ≡ bytes_from 16 map.old }
 {
@@ -22,7 +22,7 @@ fn id_bytes(map: &mut Cursor<'_>) -> Result<[u8; 16], Refusal>
     Ok(id)
 }
 
-/// An identifier of 16 bytes.
+/// Reads an identifier of 16 bytes.
 #[tactic(auto, unfolding(crate::specs::ParamReading::id_from))]
 pub(crate) fn read_id(map: &mut Cursor<'_>) -> Result<[u8; 16], Refusal>
     ensures { map_ok (λ id. (id, map.new)) result ≡ id_from map.old }
@@ -36,7 +36,7 @@ pub(crate) fn read_id(map: &mut Cursor<'_>) -> Result<[u8; 16], Refusal>
     }
 }
 
-/// A byte string: a cursor on its content.
+/// Reads a byte string, and returns a cursor over its content.
 #[tactic(auto, unfolding(crate::specs::ParamReading::held_from))]
 pub(crate) fn read_held<'a>(map: &mut Cursor<'a>) -> Result<Cursor<'a>, Refusal>
     ensures { map_ok (λ inner. (inner, map.new)) result ≡ held_from map.old }
@@ -45,7 +45,7 @@ pub(crate) fn read_held<'a>(map: &mut Cursor<'a>) -> Result<Cursor<'a>, Refusal>
     next_content(map, count)
 }
 
-// The next bytes as a text, which stands at a place.
+// Reads the next `count` bytes as text. `place` is that of the text.
 fn text<'a>(map: &mut Cursor<'a>, count: u64, place: u64) -> Result<&'a str, Refusal>
     ensures { map_ok (λ t. (t.now, map.new)) result ≡ text_bytes place count map.old }
 {
@@ -56,7 +56,7 @@ fn text<'a>(map: &mut Cursor<'a>, count: u64, place: u64) -> Result<&'a str, Ref
     }
 }
 
-/// A text.
+/// Reads a text.
 #[tactic(auto, unfolding(crate::specs::ParamReading::text_from))]
 pub(crate) fn read_text<'a>(map: &mut Cursor<'a>) -> Result<&'a str, Refusal>
     ensures { map_ok (λ t. (t.now, map.new)) result ≡ text_from map.old }
@@ -66,7 +66,7 @@ pub(crate) fn read_text<'a>(map: &mut Cursor<'a>) -> Result<&'a str, Refusal>
     text(map, count, place)
 }
 
-/// An unsigned number.
+/// Reads an unsigned number.
 #[tactic(auto, unfolding(crate::specs::ParamReading::number_from))]
 pub(crate) fn read_number(map: &mut Cursor<'_>) -> Result<u64, Refusal>
     ensures { map_ok (λ n. (n, map.new)) result ≡ number_from map.old }
@@ -74,7 +74,7 @@ pub(crate) fn read_number(map: &mut Cursor<'_>) -> Result<u64, Refusal>
     read_kind(map, HeadKind::Unsigned, Why::BadParam)
 }
 
-/// True or false.
+/// Reads true or false.
 #[tactic(auto, unfolding(crate::specs::ParamReading::flag_from))]
 pub(crate) fn read_flag(map: &mut Cursor<'_>) -> Result<bool, Refusal>
     ensures { map_ok (λ b. (b, map.new)) result ≡ flag_from map.old }
@@ -82,7 +82,7 @@ pub(crate) fn read_flag(map: &mut Cursor<'_>) -> Result<bool, Refusal>
     Ok(read_kind(map, HeadKind::Bool, Why::BadParam)? == 1)
 }
 
-/// A component's index, which stands at a place: below the number of components.
+/// Checks that a component index is below the number of components. `place` is that of the index.
 pub fn component_index(place: u64, number: u64, count: u32) -> Result<u32, Refusal>
     ensures { result ≡ judge_index count place number }
 {
@@ -93,7 +93,7 @@ pub fn component_index(place: u64, number: u64, count: u32) -> Result<u32, Refus
     }
 }
 
-/// The index of a component.
+/// Reads a component index.
 pub(crate) fn read_index(map: &mut Cursor<'_>, count: u32) -> Result<u32, Refusal>
     ensures { map_ok (λ i. (i, map.new)) result ≡ index_from count map.old }
 {
@@ -102,7 +102,7 @@ pub(crate) fn read_index(map: &mut Cursor<'_>, count: u32) -> Result<u32, Refusa
     component_index(place, number, count)
 }
 
-/// A byte string that holds a digest.
+/// Reads a byte string that holds a digest.
 pub(crate) fn read_held_digest(map: &mut Cursor<'_>) -> Result<Digest, Refusal>
     ensures { map_ok (λ d. (d, map.new)) result ≡ digest_from map.old }
 {

@@ -15,7 +15,7 @@ use crate::{Digest, DigestKind, Param, ParamList, push_digest};
 use det_cbor::{Bytes, HeadKind, push_flag, push_kind, push_number, push_string, push_text};
 use std::alloc::{AllocError, Global};
 
-// How many bytes the array of a digest has.
+// The length of a digest's array in bytes.
 fn spelled_size(kind: DigestKind) -> u64
     ensures { result ≡ spelled_size kind }
 {
@@ -26,7 +26,7 @@ fn spelled_size(kind: DigestKind) -> u64
     }
 }
 
-// A byte string that holds the digest's array.
+// Appends a byte string that holds a digest's array.
 fn push_held_digest(out: &mut Bytes, digest: &Digest) -> Result<(), AllocError>
     ensures ok { OnOk result
         (out.new ≡ out.old ++ spell (ByteString (spell (digest_item digest.now)))) }
@@ -76,8 +76,8 @@ fn push_params(out: &mut Bytes, list: &ParamList) -> Result<(), AllocError>
     Ok(())
 }
 
-/// Adds the map of these parameters at the end, in its one spelling (draft-ietf-suit-manifest-25, section 8.4.8). Where
-/// memory runs out, a part of the spelling may have been added.
+/// Appends the one spelling of the map of these parameters (draft-ietf-suit-manifest-25, section
+/// 8.4.8). If memory runs out, a part of it may have been appended.
 pub fn write_params(_alloc: Global, list: &ParamList, out: &mut Bytes) -> Result<(), AllocError>
     ensures ok { OnOk result (out.new ≡ out.old ++ spell (params_item list.now)) }
     ensures err { OnErr result (IsPrefix out.old out.new) }

@@ -7,8 +7,8 @@ ghost use Rattle.suit_params.specs.InForce.{none_in_force, in_force, with_param,
 use crate::{Param, ParamKey, ParamList};
 use std::marker::Model;
 
-/// The parameters in force (draft-ietf-suit-manifest-25, section 8.4.8): for each of eight components and each key one or
-/// none. They are lent. Takes no memory.
+/// The parameters in force (draft-ietf-suit-manifest-25, section 8.4.8): at most one for each of
+/// eight components and each key. They are borrowed, so nothing is allocated.
 #[derive(Drop)]
 pub struct Params<'a> {
     held: [Option<&'a Param>; 96],
@@ -25,7 +25,7 @@ impl<'a> Model for Params<'a> {
     ghost view = { λ a. lent_params a.held };
 }
 
-/// At which of the twelve a key stands, in the order of their numbers.
+/// The position of a key among the twelve, in the order of their numbers.
 pub fn rank(key: ParamKey) -> usize
     ensures is { result ≡ rank key }
     ensures small { result < 12 }
@@ -47,7 +47,7 @@ pub fn rank(key: ParamKey) -> usize
 }
 
 impl<'a> Params<'a> {
-    /// Nothing is in force.
+    /// No parameters in force.
     #[tactic(auto, unfolding(crate::specs::InForce::none_in_force))]
     pub fn new() -> Params<'a>
         ensures { result ≡ none_in_force }
@@ -55,7 +55,7 @@ impl<'a> Params<'a> {
         Params { held: [None; 96] }
     }
 
-    /// The value in force for a component and a key.
+    /// The parameter in force for a component under a key, if there is one.
     pub fn get(&self, component: u32, key: ParamKey) -> Option<&'a Param>
         requires { component < 8 }
         ensures { option_copied result ≡ in_force self.now component key }
@@ -64,14 +64,14 @@ impl<'a> Params<'a> {
         cells[12 * component as usize + rank(key)]
     }
 
-    /// The same parameters in force, lent again.
+    /// Copies the table, which then borrows the same parameters.
     pub fn copy(&self) -> Params<'a>
         ensures { result ≡ self.now }
     {
         Params { held: self.held }
     }
 
-    // There is a cell for each component and key.
+    // Tells the proof that there is a cell for each component and key.
     fn whole(&self)
         ensures { length self.now ≡ 96 }
     {
@@ -79,7 +79,7 @@ impl<'a> Params<'a> {
         let _count = cells.len();
     }
 
-    // Replaces the value of one key.
+    // Puts a parameter in force, in place of the one with its key.
     fn set(&mut self, component: u32, param: &'a Param)
         requires { component < 8 }
         ensures { self.new ≡ with_param self.old component param.now }
@@ -88,7 +88,7 @@ impl<'a> Params<'a> {
         cells[12 * component as usize + rank(param.key())] = Some(param);
     }
 
-    // Replaces the values of the list's keys, one after another.
+    // Puts the parameters of a list in force, one after another.
     fn set_each(&mut self, component: u32, list: &'a ParamList)
         requires { component < 8 }
         ensures { self.new ≡ overridden self.old component list.now }
@@ -98,7 +98,8 @@ impl<'a> Params<'a> {
         }
     }
 
-    /// Overrides a component's parameters by those of a list: each replaces the one with its key, and all others stay.
+    /// Overrides a component's parameters by those of a list. Each replaces the one with its key,
+    /// and all others stay.
     pub fn override_with(&mut self, component: u32, list: &'a ParamList)
         requires { component < 8 }
         ensures exact { self.new ≡ overridden self.old component list.now }

@@ -1,4 +1,4 @@
-//! Heads, strings and items that a decoder takes from a cursor, with its own refusals.
+//! Reading heads, strings and items from a cursor, with the refusals of manifests.
 
 ghost use Rattle.std.specs.Prelude.{◌≡◌, ℕ, ◌<◌, length, get_or, IfOk, OnErr};
 ghost use Rattle.det_cbor.specs.HeadReading.{map_ok};
@@ -10,14 +10,14 @@ use crate::{Refusal, Why};
 use det_cbor::{Bytes, Cursor, Head, HeadKind};
 use std::alloc::{AllocError, Global};
 
-// The bytes of a slice are below 256.
+// Tells the proof that the bytes of a slice are below 256.
 fn bounded(bytes: &[u8])
     ensures { (i : ℕ) → get_or bytes.now i 0 < 256 }
 {
     let _ = bytes;
 }
 
-/// A second cursor at the same place, on the same bytes.
+/// A second cursor over the same bytes, at the same place.
 pub fn same_place<'a>(cursor: &mut Cursor<'a>) -> Cursor<'a>
     ensures copied { result ≡ cursor.old }
     ensures same { cursor.new ≡ cursor.old }
@@ -35,7 +35,7 @@ pub fn same_place<'a>(cursor: &mut Cursor<'a>) -> Cursor<'a>
 }
 
 #[tactic(auto, using(crate::proofs::Readings::head_ok, crate::proofs::Readings::head_err))]
-/// The next head. After a refusal the cursor stands where it stood.
+/// Reads the next head. After a refusal the cursor is where it was.
 pub fn read_head(cursor: &mut Cursor<'_>) -> Result<Head, Refusal>
     ensures exact { map_ok (λ head. (head, cursor.new)) result ≡ head_from cursor.old }
     ensures same { OnErr result (cursor.new ≡ cursor.old) }
@@ -43,7 +43,8 @@ pub fn read_head(cursor: &mut Cursor<'_>) -> Result<Head, Refusal>
     Ok(cursor.head()?)
 }
 
-/// The value of the next head, which is to be of a kind. A head of another kind is refused, at its place.
+/// Reads the next head and returns its value. A head of another kind is refused for this reason, at
+/// its place.
 pub fn read_kind(cursor: &mut Cursor<'_>, kind: HeadKind, why: Why) -> Result<u64, Refusal>
     ensures { map_ok (λ n. (n, cursor.new)) result ≡ kind_from kind why cursor.old }
 {
@@ -57,7 +58,7 @@ pub fn read_kind(cursor: &mut Cursor<'_>, kind: HeadKind, why: Why) -> Result<u6
 }
 
 #[tactic(auto, using(crate::proofs::Readings::bytes_ok, crate::proofs::Readings::bytes_err))]
-/// The next bytes, as many as are asked for. After a refusal the cursor stands where it stood.
+/// Takes the next `count` bytes. After a refusal the cursor is where it was.
 pub fn read_bytes<'a>(cursor: &mut Cursor<'a>, count: u64) -> Result<&'a [u8], Refusal>
     ensures exact { map_ok (λ piece. (piece.now, cursor.new)) result ≡ bytes_from count cursor.old }
     ensures length { IfOk result (λ piece. length piece.now ≡ count) }
@@ -67,8 +68,8 @@ pub fn read_bytes<'a>(cursor: &mut Cursor<'a>, count: u64) -> Result<&'a [u8], R
     Ok(cursor.bytes(count)?)
 }
 
-/// The next whole item, as a cursor on its bytes. It is judged as `decode` judges it, with levels
-/// counted from this item. After a refusal the cursor stands where it stood.
+/// Reads the next whole item, and returns a cursor over its bytes. It is judged as by `decode`,
+/// with levels counted from this item. After a refusal the cursor is where it was.
 #[tactic(auto, using(crate::specs::JudgingLaws::skip_ok, crate::specs::JudgingLaws::skip_err))]
 pub fn read_item<'a>(cursor: &mut Cursor<'a>) -> Result<Cursor<'a>, Refusal>
     ensures exact { map_ok (λ inner. (inner, cursor.new)) result ≡ inner_from cursor.old }
@@ -79,8 +80,8 @@ pub fn read_item<'a>(cursor: &mut Cursor<'a>) -> Result<Cursor<'a>, Refusal>
     Ok(Cursor::new(item, place))
 }
 
-/// The one item that the cursor's bytes must hold, as a cursor on its bytes. It is judged as one
-/// item, and then bytes after it are refused.
+/// Reads the one item that the cursor's bytes must hold, and returns a cursor over it. The item is
+/// judged first, and then any bytes after it are refused.
 pub fn only_item(mut content: Cursor<'_>) -> Result<Cursor<'_>, Refusal>
     ensures { result ≡ only_from content.entry }
 {
@@ -92,7 +93,7 @@ pub fn only_item(mut content: Cursor<'_>) -> Result<Cursor<'_>, Refusal>
     }
 }
 
-/// The next item, which was judged as one before, as a byte string: a cursor on its content.
+/// Reads a byte string, an item that was judged before, and returns a cursor over its content.
 #[tactic(auto, unfolding(crate::specs::Reading::content_from))]
 pub fn read_content<'a>(cursor: &mut Cursor<'a>) -> Result<Cursor<'a>, Refusal>
     ensures { map_ok (λ inner. (inner, cursor.new)) result ≡ content_from cursor.old }
@@ -101,7 +102,7 @@ pub fn read_content<'a>(cursor: &mut Cursor<'a>) -> Result<Cursor<'a>, Refusal>
     next_content(cursor, count)
 }
 
-/// The next bytes, as many as are asked for, as a cursor on them.
+/// Takes the next `count` bytes, and returns a cursor over them.
 pub fn next_content<'a>(cursor: &mut Cursor<'a>, count: u64) -> Result<Cursor<'a>, Refusal>
     ensures { map_ok (λ inner. (inner, cursor.new)) result ≡ string_from count cursor.old }
 {
@@ -110,7 +111,7 @@ pub fn next_content<'a>(cursor: &mut Cursor<'a>, count: u64) -> Result<Cursor<'a
     Ok(Cursor::new(content, place))
 }
 
-/// The number of elements of an array. The cursor passes its head.
+/// Reads the head of an array, and returns the number of its elements.
 #[tactic(auto, unfolding(crate::specs::Reading::array_from))]
 pub fn read_array(item: &mut Cursor<'_>) -> Result<u64, Refusal>
     ensures { map_ok (λ n. (n, item.new)) result ≡ array_from item.old }
@@ -118,7 +119,7 @@ pub fn read_array(item: &mut Cursor<'_>) -> Result<u64, Refusal>
     read_kind(item, HeadKind::Array, Why::Shape)
 }
 
-/// The number of pairs of a map. The cursor passes its head.
+/// Reads the head of a map, and returns the number of its pairs.
 #[tactic(auto, unfolding(crate::specs::Reading::map_from))]
 pub fn read_map(item: &mut Cursor<'_>) -> Result<u64, Refusal>
     ensures { map_ok (λ n. (n, item.new)) result ≡ map_from item.old }
@@ -136,7 +137,7 @@ pub fn bytes_left<'a>(mut content: Cursor<'a>) -> &'a [u8]
     }
 }
 
-/// The bytes that are left, copied.
+/// Copies the bytes that are left.
 pub fn copy_left(alloc: Global, content: Cursor<'_>) -> Result<Bytes, AllocError>
     ensures { IfOk result (λ b. b ≡ content.entry.left) }
 {

@@ -4,44 +4,46 @@ ghost use Rattle.std.specs.Prelude.{◌≡◌, Err};
 
 use det_cbor::{CborRefusal, Reason};
 
-/// Why an item is refused. Items are those of draft-ietf-suit-manifest-25, section 8.
+/// Why an item is refused. The items are those of draft-ietf-suit-manifest-25, section 8.
 #[derive(Clone, Copy, Debug, PartialEq, Eq)]
 pub enum Why {
-    /// The bytes begin with no item of deterministic CBOR.
+    /// The bytes do not begin with an item of deterministic CBOR.
     Cbor(Reason),
     /// Bytes follow the one item of a file or of a byte string.
     Trailing,
-    /// An item of another kind, or a count that is not allowed.
+    /// An item is of another kind, or has a count that is not allowed.
     Shape,
-    /// A map's key is none of the known ones.
+    /// A map has an unknown key.
     UnknownKey,
     /// A map lacks this key.
     Missing(u64),
-    /// A digest by another hash function than SHA-256, SHA-384 and SHA-512, or not as long as its own.
+    /// A digest is not by SHA-256, SHA-384 or SHA-512, or does not have the length of its hash
+    /// function.
     Algorithm,
-    /// The manifest's version, which is not 1.
+    /// The manifest has this version, and not 1.
     Version(u64),
-    /// The number of components, above eight.
+    /// There are this many components, and more than eight.
     TooMany(u64),
-    /// A component identifier whose spelling is above 64 bytes.
+    /// A component identifier is spelled in more than 64 bytes.
     LongIdentifier,
-    /// Two equal component identifiers, by their numbers.
+    /// The components with these two indices have the same identifier.
     TwoAlike(u64, u64),
-    /// A parameter whose key is none of the known ones.
+    /// A parameter has an unknown key.
     UnknownParam,
-    /// A parameter's value of another kind.
+    /// The value of a parameter is of another kind.
     BadParam,
-    /// A command whose code is not known, or not allowed where it stands.
+    /// A command's code is unknown, or not allowed in this place.
     Unsupported,
-    /// A command's argument of another kind.
+    /// The argument of a command is of another kind.
     BadArgument,
-    /// A component index that is not below the number of components, and that number.
+    /// A component index is not below the number of components: the index, and the number.
     BadIndex(u64, u64),
-    /// A sequence that would be at the ninth level.
+    /// A sequence would be at the ninth level.
     Nested,
 }
 
-/// The first fault of an envelope or a manifest, and its place in bytes from the envelope's first.
+/// The first fault of an envelope or a manifest, and its place in bytes from the start of the
+/// envelope.
 #[derive(Clone, Copy, Debug, PartialEq, Eq)]
 pub struct Refusal {
     pub place: u64,
@@ -69,7 +71,7 @@ impl From<CborRefusal> for Refusal {
     }
 }
 
-/// The answer of a decoder that refuses its input.
+/// The result of a decoder that refuses its input.
 pub fn refused<T: Drop>(place: u64, why: Why) -> Result<T, Refusal>
     ensures { result ≡ Err (record { place = place; why = why }) }
 {

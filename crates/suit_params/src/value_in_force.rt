@@ -1,4 +1,4 @@
-//! Values of parameters in force.
+//! The values of parameters in force.
 
 ghost use Rattle.std.specs.Option.{option_copied};
 ghost use Rattle.std.specs.Prelude.{◌≡◌};
@@ -6,7 +6,7 @@ ghost use Rattle.suit_params.specs.InForce.{identifier_of, number_of};
 
 use crate::Param;
 
-/// The identifier that a parameter in force has as its value, if it has one.
+/// The identifier that a parameter in force holds, if it holds one.
 pub fn identifier_of(param: Option<&Param>) -> Option<[u8; 16]>
     ensures { result ≡ identifier_of (option_copied param.entry) }
 {
@@ -18,7 +18,7 @@ pub fn identifier_of(param: Option<&Param>) -> Option<[u8; 16]>
     }
 }
 
-/// The number that a parameter in force has as its value, if it has one.
+/// The number that a parameter in force holds, if it holds one.
 pub fn number_of(param: Option<&Param>) -> Option<u64>
     ensures { result ≡ number_of (option_copied param.entry) }
 {

@@ -3,7 +3,7 @@ use Rattle.suit_commands.specs.Touches.{HasAct, BranchesHaveAct}
 use Rattle.suit_commands.specs.View.{sequence_tree, branches_tree}
 use Rattle.suit_commands.proofs.act_walk.+act.Given as goal
 
--- one is in what is left, or there is none
+-- there is one in what is left if there is one at all
 
 abbrev pub invariant-branches_have_act-loop-branch : goal.invariant-branches_have_act-loop-branch
 invariant-branches_have_act-loop-branch l = record {

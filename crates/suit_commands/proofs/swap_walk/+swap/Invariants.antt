@@ -3,7 +3,7 @@ use Rattle.suit_commands.specs.Targets.{Swaps, BranchesSwap}
 use Rattle.suit_commands.specs.View.{sequence_tree, branches_tree}
 use Rattle.suit_commands.proofs.swap_walk.+swap.Given as goal
 
--- a swap is in what is left, or there is none
+-- there is a swap in what is left if there is one at all
 
 abbrev pub invariant-branches_swap-loop-branch : goal.invariant-branches_swap-loop-branch
 invariant-branches_swap-loop-branch l = record {

@@ -10,7 +10,7 @@ use Rattle.suit_envelope.proofs.payload_order.place_of.Goals.{After-key_order}
 abbrev middle_of : After-key_order → ℕ
 middle_of c = c.loop-low.low + (c.loop-low.high - c.loop-low.low) / 2
 
--- the middle is in the list, and the key there has this order
+-- the middle is in the list, and its key compares like this
 in_middle : (c : After-key_order) (o : Ordering) → o ≡ key_order c.args.key.now c.as_str.result.now
     → (middle_of c < length c.args.list.now) × (key_order c.args.key.now c.index-list-middle.result.0 ≡ o)
 in_middle c o is = (

@@ -2,7 +2,7 @@ use Rattle.std.proofs.Common.{◌≡◌, ◌≤◌, ◌-◌, ℕ, List, ◌∷�
 use Rattle.suit_envelope.specs.PayloadOrder.{put_payload}
 use Rattle.suit_envelope.proofs.payload_order.place_of.Given as goal
 
--- the payload is put behind those before `low`, and before those from `high` on
+-- the payload is put after those before `low`, and before those from `high` on
 abbrev pub invariant-loop-low : goal.invariant-loop-low
 invariant-loop-low l = record {
   within : (l.low ≤ l.high) × (l.high ≤ length l.list);

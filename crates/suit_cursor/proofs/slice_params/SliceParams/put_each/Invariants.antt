@@ -3,7 +3,7 @@ use Rattle.suit_params.specs.InForce.{overridden}
 use Rattle.suit_cursor.specs.SoftFailure.{soft_behind}
 use Rattle.suit_cursor.proofs.slice_params.SliceParams.put_each.Given as goal
 
--- what is left of the list still to be set gives the whole
+-- setting what is left of the list gives the whole override
 abbrev pub invariant-loop-param : goal.invariant-loop-param
 invariant-loop-param l = record {
   exact : overridden l.self l.component l.list ≡ overridden l.fn.self l.component l.fn.list;
