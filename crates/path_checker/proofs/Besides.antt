@@ -1,5 +1,5 @@
--- A try each whose last branch is followed by the rest of the procedure: what may follow the states in it, and those that are
--- done with an earlier branch.
+-- A try each whose last branch is followed by the rest of the procedure: what may follow the states in it, and those
+-- that are done with an earlier branch.
 use Rattle.std.proofs.Common.{◌≡◌, ℕ, ◌+◌, ◌<◌, add-one, true, false, List, [], ◌∷◌, ◌++◌, Option, Some, None, length, get_or, drop, refl, sym, ap, ◌∙◌, subst, append_assoc, inl, inr}
 use Rattle.std.proofs.Math.Seq.{drop-cons}
 use Rattle.std.proofs.lemmas.List.{append-nil}
@@ -154,7 +154,8 @@ module _ (body after : Course) (s : State) (c p : ℕ) (from : List Kept) (same 
 
 -- ---- the invariant of the loop over the branches
 
--- what may follow the states in which the next branch is tried, and those that are done, stands for what may follow the others
+-- what may follow the states in which the next branch is tried, and those that are done, stands for what may follow the
+-- others
 pub record GoesBoth (whole : Course) (from : List Kept) (rest after : Course) (now done : List Kept) : Type 0 where
   pub covers : Covers (then_course rest after) now → Covers after done → Covers whole from
   pub uncovers : (facts : List Knowledge) (events : List Event) → Uncovers (then_course rest after) now facts events → Uncovers whole from facts events

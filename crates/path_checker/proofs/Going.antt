@@ -82,7 +82,7 @@ module _ (steps : List Step) (i count : ℕ) (step : Step) (lt : i < length step
   pub GoesOn-stops : (h : Halt) → Halts does now h → Halts whole from h
   GoesOn-stops h u = Halts-lift does whole now from (λ facts events x. parted.uncovers facts events (Uncovers-left does rest after now facts events (Uncovers-first does (then_course rest after) now facts events x))) h u
 
-  -- the command, and then those behind it
+  -- the command, and then those after it
   pub GoesOn-next : GoesOn whole from (then_course does (then_course rest after)) now
   GoesOn-next = record {
     covers = λ h. parted.covers (Covers-left does rest after now h);
@@ -140,13 +140,14 @@ module _ (whole rest : Course) (k : Kept) (state : State) (ones : List Kept) (on
     uncovers = λ facts events u. moved-uncovers facts events (subst (λ (ks : List Kept). Uncovers rest ks facts events) one u);
   }
 
--- where nothing follows, nothing happens
+-- if nothing is left to run, no event comes
 pub Covers-end : (count : ℕ) (from : List Kept) → Covers (RunsRest [] count) from
 Covers-end count from k i ids al es e r = subst (CoveredFrom k.events) (sym r.0) tt
 
 -- ---- the last parts left out
 
--- each run of one begins as one of the other, and ends without an invoke; and a failed directive of the other is one of it
+-- each run of `other` begins with one of `course`, and goes on without an invoke; a failed directive of `course` is one
+-- of `other`
 pub record StandsFor (course other : Course) : Type 0 where
   pub begins : (ids : List Identity) (s : State) (es : List Event) (e : Ending) → other ids s es e
       → (first : List Event) × (last : List Event) × (end : Ending) × (es ≡ first ++ last) × course ids s first end × AreQuiet last
@@ -175,7 +176,7 @@ StandsFor-then first course other stands = record { begins = begins; fails = fai
     fails ids s es place (inl r) = inl r
     fails ids s es place (inr (m, x, y, is, r, q)) = inr (m, x, y, is, r, stands.fails ids m y place q)
 
--- nothing stands for what is silent
+-- the course that does nothing stands for a silent one
 pub StandsFor-silent : (other : Course) → IsSilent other → StandsFor nothing_course other
 StandsFor-silent other silent = record {
   begins = λ ids s es e r. ([], es, Done s, refl, (refl, refl), silent ids s es e r);
@@ -185,7 +186,7 @@ StandsFor-silent other silent = record {
     no_directive : (s : State) (place : ℕ) → Directive place ≡ Done s → ⊥
     no_directive s place is = absurd cc
 
--- what is followed by nothing stands for itself
+-- a course followed by nothing stands for the course
 pub StandsFor-last : (other : Course) → StandsFor (then_course other nothing_course) other
 StandsFor-last other = record { begins = begins; fails = fails }
   where

@@ -93,7 +93,7 @@ loses of after c lt is other any =
       λ h. subst (λ (o : Option (List Match)). In any (matches_from o)) (sym (held_other of c other [] apart)) h.1,
     )
 
--- a component that there is no room for has none
+-- a component outside the list has no matches
 pub loses_none : (of : Trees) (c : ℕ) → length of ≤ c → (other : ℕ) (any : Match) → In any (matches_from (slice_get of other)) ↔ ((other ≢ c) × In any (matches_from (slice_get of other)))
 loses_none of c le other any = (
   λ h. (λ e. subst (λ (xs : List Match). In any xs) (held_past of c le) (subst (λ (k : ℕ). In any (matches_from (slice_get of k))) e h), h),
@@ -113,7 +113,7 @@ held_at [] c d lt = absurd (omega arith)
 held_at (x ∷ of) zero d lt = refl
 held_at (x ∷ of) (suc c) d lt = held_at of c d (omega arith)
 
--- the last of them has none either
+-- the last component has none either
 pub none_before : (of : Trees) (n : ℕ) (d one : List Match) → n < length of → one ≡ get_or of n d → one ≡ [] → NoneFrom (n + 1) of → NoneFrom n of
 none_before of n d one lt is none rest c le =
     ⊎_elim
@@ -121,7 +121,7 @@ none_before of n d one lt is none rest c le =
     (λ l. rest c (omega (arith, l)))
     (eq-or-lt_of_le le)
 
--- each of them the same
+-- the matches of each component are the same
 pub same_held_at : (of others : Trees) (i c : ℕ) → ((k : ℕ) → k < i → (any : Match) → In any (matches_from (slice_get of k)) ↔ In any (matches_from (slice_get others k))) → length of ≤ i → length others ≤ i → (any : Match) → In any (matches_from (slice_get of c)) ↔ In any (matches_from (slice_get others c))
 same_held_at of others i c so_far le le' any = ⊎_elim
     (λ h. same_held_past of others c (omega (arith, le, h.1)) (omega (arith, le', h.1)) any)

@@ -16,14 +16,14 @@ all_kept-append soft hard (x ∷ xs) ys =
 abbrev with_items : Failures → List Stopped → Failures
 with_items f items = record { items = items; soft = f.soft; hard = f.hard }
 
--- none, of which the same are kept
+-- no failures, with the same choice of which to keep
 abbrev pub none_of : Failures → Failures
 none_of f = record { items = []; soft = f.soft; hard = f.hard }
 
 pub after_none : (f : Failures) → after_stops f [] ≡ f
 after_none f = ap (with_items f) (append-nil f.items)
 
--- some, and then others
+-- failures that are added in two steps
 pub after_both : (f0 f f' : Failures) (xs ys : List Stopped) → f ≡ after_stops f0 xs → f' ≡ after_stops f ys → f' ≡ after_stops f0 (xs ++ ys)
 after_both f0 f f' xs ys first second =
     let both : f0.items ++ (all_kept f0.soft f0.hard xs ++ all_kept f0.soft f0.hard ys) ≡ f0.items ++ all_kept f0.soft f0.hard (xs ++ ys) =
@@ -45,7 +45,7 @@ all_kept-none : (xs : List Stopped) → all_kept false false xs ≡ []
 all_kept-none [] = refl
 all_kept-none (x ∷ xs) = ap (λ (b : Bool). stop_if b x ++ all_kept false false xs) (is_kept-both false x.soft_failure) ∙ all_kept-none xs
 
--- nothing is kept of some: none is kept, or there are none
+-- nothing of these is kept, since no failure is or there are none
 pub after_unkept : (f : Failures) (tests : Bool) (xs : List Stopped) → (tests ≡ true → f.soft ≡ false) → (tests ≡ true → f.hard ≡ false) → (tests ≡ false → xs ≡ []) → f ≡ after_stops f xs
 after_unkept f true xs soft hard none =
     let kept : all_kept f.soft f.hard xs ≡ [] = ap (λ (b : Bool). all_kept b f.hard xs) (soft refl) ∙ ap (λ (b : Bool). all_kept false b xs) (hard refl) ∙ all_kept-none xs in

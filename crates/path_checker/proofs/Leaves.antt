@@ -24,7 +24,7 @@ only-complete k es e done failed fine found ids al es' e' r =
 only-reaches : (k : Kept) (es : List Event) (e : Ending) → CoveredFrom k.events es → Reaches (Only es e) k k.facts (k.events ++ es) e
 only-reaches k es e fine = record { since = es; parts = refl; covered = fine; count = refl; path = λ ids al. (al, (refl, refl)) }
 
--- it goes on in this state
+-- the course goes on in this state
 pub Explores-done : (k : Kept) (es : List Event) (s : State) → CoveredFrom k.events es → Explores (Only es (Done s)) (k ∷ []) (record { facts = k.facts; events = k.events ++ es; state = s } ∷ []) []
 Explores-done k es s fine =
     let to : Kept = record { facts = k.facts; events = k.events ++ es; state = s } in
@@ -37,7 +37,7 @@ Explores-done k es s fine =
       stopped = λ x h. absurd h;
     })
 
--- it fails as a condition does
+-- the course fails as a condition does
 pub Explores-fails : (k : Kept) (es : List Event) (p : ℕ) → CoveredFrom k.events es → Explores (Only es (Condition p k.state.soft_failure)) (k ∷ []) [] (stopped_by k es p ∷ [])
 Explores-fails k es p fine =
     let to : Stopped = stopped_by k es p in
@@ -50,7 +50,7 @@ Explores-fails k es p fine =
       ];
     })
 
--- it ends everything
+-- the course ends the procedure
 pub Explores-ends : (k : Kept) (es : List Event) (p : ℕ) → CoveredFrom k.events es → Explores (Only es (Directive p)) (k ∷ []) [] []
 Explores-ends k es p fine =
     Explores-one (Only es (Directive p)) k [] [] (record {
@@ -65,7 +65,7 @@ Either a b ids s es e = a ids s es e ⊎ b ids s es e
 Reaches-lift : (a b : Course) (k : Kept) (facts : List Knowledge) (events : List Event) (e : Ending) → ((ids : List Identity) (es : List Event) → a ids k.state es e → b ids k.state es e) → Reaches a k facts events e → Reaches b k facts events e
 Reaches-lift a b k facts events e lift r = record { since = r.since; parts = r.parts; covered = r.covered; count = r.count; path = λ ids al. let x = r.path ids al in (x.0, lift ids r.since x.1) }
 
--- one thing or another
+-- one course or another
 pub Explores-either : (a b : Course) (k : Kept) (d d' : List Kept) (f f' : List Stopped) → Explores a (k ∷ []) d f → Explores b (k ∷ []) d' f' → Explores (Either a b) (k ∷ []) (d ++ d') (f ++ f')
 Explores-either a b k d d' f f' x y =
     let p = FromOne-of a k d f x in
@@ -85,7 +85,7 @@ Explores-either a b k d d' f f' x y =
       ];
     })
 
--- the same, for the identities that are allowed
+-- both courses are the same for the identities that are allowed
 pub record Same (k : Kept) (a b : Course) : Type 0 where
   pub there : (ids : List Identity) → Allows k.facts ids → (es : List Event) (e : Ending) → a ids k.state es e → b ids k.state es e
   pub back : (ids : List Identity) → Allows k.facts ids → (es : List Event) (e : Ending) → b ids k.state es e → a ids k.state es e
@@ -104,7 +104,7 @@ Explores-same k a b d f same x =
 
 -- ---- facts
 
--- a course that happens only where one more fact is so
+-- a course that is possible only if one more fact holds
 abbrev pub Where : (List Identity → Type 0) → Course → Course
 Where fact a ids s es e = fact ids × a ids s es e
 

@@ -38,7 +38,7 @@ pub same_lent : (xs more : List Lent) (x : Lent) → more ≡ xs ++ x ∷ [] →
 same_lent xs more x pushed =
     subst (λ (ms : List Match). SameMembers ms (match_of x.own.now ∷ all_lent xs)) (sym (ap all_lent pushed ∙ lent_last xs x)) (same_pushed (match_of x.own.now) (all_lent xs))
 
--- one match more than others, where those are the same as some
+-- one more match, over others with the same members
 pub same_over : (m : Match) (all xs ys : List Match) → SameMembers all (m ∷ xs) → SameMembers xs ys → SameMembers all (m ∷ ys)
 same_over m all xs ys more same any = (
   λ h. elim ((more any).0 h) [

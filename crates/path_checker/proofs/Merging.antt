@@ -19,7 +19,7 @@ use Rattle.path_checker.proofs.Walking.{Walks}
 pub Merges-all : {A : Type 0} (S : A → A → Type 0) (xs : List A) → ((x : A) → S x x) → Merges S xs xs
 Merges-all S xs self = record { part = λ x i. i; each = λ x i. (x, i, self x) }
 
--- ---- one after another, from the last on
+-- ---- one after another, from the last one on
 
 -- some are left, and those that are kept stand for the others
 pub record MergesLeft {A : Type 0} (S : A → A → Type 0) (all left kept : List A) : Type 0 where

@@ -1,4 +1,4 @@
--- Values that are none of a list, and the least number that is none.
+-- Values that are not in a list, and the least number that is not.
 use Rattle.std.proofs.Common.{◌≡◌, ◌≢◌, ◌+◌, ◌<◌, ◌≤◌, ℕ, zero, suc, List, [], ◌∷◌, ◌++◌, length, Option, Some, None, sym, ◌∙◌, subst, arith, inl, inr, ⊎_elim}
 use Rattle.std.specs.Prelude.{◌↔◌, ◌==◌, if◌then◌else◌, false}
 use Rattle.std.specs.List.{AllByRecursion}
@@ -7,7 +7,7 @@ use Rattle.path_checker.specs.Exploring.{In}
 use Rattle.path_checker.specs.Knowing.{Known, IsNone, AgreesWith}
 use Rattle.path_checker.specs.Forking.{Narrows, IsOpen, Tells, leaving_out}
 
--- none of these is it
+-- the value is none of these
 abbrev pub IsApart : {A : Type 0} → A → List A → Type 0
 IsApart value others = AllByRecursion (λ other. other ≢ value) others
 
@@ -96,7 +96,7 @@ in-without n m (x ∷ xs) other (inr i) =
     (λ h. rw h.0 (inr (in-without n m xs other i)))
     (eqb_tells x n)
 
--- so many numbers need so long a list
+-- a list that has all numbers below n has at least n elements
 pub room_for : (n : ℕ) (xs : List ℕ) → ((m : ℕ) → m < n → In m xs) → n ≤ length xs
 room_for zero xs all = omega arith
 room_for (suc n) xs all =

@@ -1,4 +1,4 @@
--- Overrides that follow one another.
+-- Several overrides in a row.
 use Rattle.std.proofs.Common.{◌≡◌, ℕ, ◌+◌, ◌-◌, ◌<◌, ◌≤◌, List, [], ◌∷◌, ◌++◌, length, get_or, take, drop, arith, refl, sym, ap, ◌∙◌, subst, append_assoc, inl, inr}
 use Rattle.std.proofs.lemmas.List.{append-nil, take-append-drop, drop-drop, take_more, get_or-drop, length-drop}
 use Rattle.suit_params.specs.declared.param.Param.{Param}
@@ -27,7 +27,7 @@ use Rattle.path_checker.proofs.OverridesEach.{set_at, each_override, Explores-se
 use Rattle.path_checker.proofs.Uncovering.{Uncovered-lift}
 use Rattle.path_checker.proofs.Walking.{Walks, Walks-then, Walks-halt, runs_course, does_course}
 
--- one more
+-- one more override at the end
 pub overrides-last : (xs : List Step) (x : Step) → AreOverrides (sequence_tree xs) → IsOverride (command_tree x.command) → AreOverrides (sequence_tree (xs ++ x ∷ []))
 overrides-last [] x all one = (one, tt)
 overrides-last (y ∷ xs) x all one = (all.0, overrides-last xs x all.1 one)
@@ -138,7 +138,7 @@ Walks-steps steps xs i count whole from now mid failed0 failed f w part x same =
     let w' = Walks-parted xs ys count whole from now failed0 failed (subst (λ (t : List Step). Walks whole from failed0 (runs_course (sequence_tree t) count) now failed) both w) in
     Walks-then whole (runs_course (sequence_tree xs) count) (runs_course (sequence_tree ys) count) from now mid failed0 failed failed w' (record { done = mid; failed = f; next_is = refl; failed_is = same; explores = x })
 
--- and where they halt
+-- the next steps of a walk halt
 pub Walks-halted : (steps xs : List Step) (i count : ℕ) (whole : Course) (from now : List Kept) (failed0 failed : Failures) → Walks whole from failed0 (runs_course (sequence_tree (drop i steps)) count) now failed → xs ≡ take (length xs) (drop i steps) → (h : Halt) → Halts (runs_course (sequence_tree xs) count) now h → Halts whole from h
 Walks-halted steps xs i count whole from now failed0 failed w part h u =
     let ys : List Step = drop (i + length xs) steps in
@@ -154,12 +154,12 @@ Carries-steps steps xs i count whole from now mid failed f w part x =
     let w' = Carries-parted xs ys count whole from now [] failed (subst (λ (t : List Step). Carries whole from (runs_course (sequence_tree t) count) now [] failed) both w) in
     Carries-then whole (runs_course (sequence_tree xs) count) (runs_course (sequence_tree ys) count) from now mid [] failed f w' x
 
--- the rest of small steps
+-- the rest of a small sequence
 pub small_rest : (count : ℕ) (xs ys : List Step) → IsSmallSequence count (sequence_tree (xs ++ ys)) → IsSmallSequence count (sequence_tree ys)
 small_rest count [] ys small = small
 small_rest count (x ∷ xs) ys small = small_rest count xs ys small.1
 
--- and their first part
+-- a part of a small sequence
 pub small_part : (steps xs : List Step) (i count : ℕ) → xs ≡ take (length xs) (drop i steps) → IsSmallSequence count (sequence_tree (drop i steps)) → IsSmallSequence count (sequence_tree xs)
 small_part steps xs i count part small = first_small xs (drop (i + length xs) steps) (subst (λ (t : List Step). IsSmallSequence count (sequence_tree t)) (both_parts steps xs i part) small)
   where

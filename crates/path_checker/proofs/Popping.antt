@@ -85,7 +85,7 @@ Pops-end course from failed0 now next failed w none =
       explores = subst (λ (x : List Kept). Explores course x next w.added) (sym all) w.explores;
     }
 
--- what is empty has none
+-- an empty list has no elements
 pub not_empty : (n : ℕ) (empty : Bool) → empty ≡ (n == 0) → empty ≡ true → 0 < n → ⊥
 not_empty n empty is there lt = elim (eqb_tells n 0) [
   | inl h ↦ absurd (omega (arith, h.1, lt))
@@ -101,7 +101,7 @@ none_left (x ∷ xs) h = absurd (h (omega arith))
 abbrev pub each_course : CommandTree → ℕ → ℕ → List ℕ → Course
 each_course cmd count p cs ids = Each (λ c. At cmd count p c ids) cs
 
--- with one selected it is done there
+-- with one component selected, the command is done at that one
 pub each_sole : (cmd : CommandTree) (count p c : ℕ) (k : Kept) → k.state.selection ≡ c ∷ [] → Same k (At cmd count p c) (each_course cmd count p k.state.selection)
 each_sole cmd count p c k sole = record {
   there = λ ids al es e r. at_sole (λ d. At cmd count p d ids) c k.state es e sole r;

@@ -104,7 +104,7 @@ row_keyed stays rows after c list is low e =
           (subst (λ (ps : Parameters). IsOverridden (together rows) ps c list) (sym exact) (is_overridden (together rows) c list is.keyed.whole low));
     }
 
--- overridden, or left as they were
+-- the rows are overridden, or are as they were
 pub row_keyed_or_left : {A E : Type 0} → StaysWhole → (rows after : List Row) (c : ℕ) (list : List Param) (result : Result A E) → AreKeyed rows → c < 8
     → OnOk result (after ≡ slice_set rows c (overridden_row (get_or rows c []) list)) → OnErr result (after ≡ rows) → AreKeyed after
 row_keyed_or_left stays rows after c list (Ok x) is low exact same = row_keyed stays rows after c list is low exact
@@ -114,7 +114,7 @@ none_together : together (replicate 8 (replicate 12 None)) ≡ none_in_force
 unfolding none_in_force
 none_together = refl
 
--- at first
+-- the first rows
 pub first_rows : StaysWhole → StartsEmpty → (rows : List Row) → rows ≡ replicate 8 (replicate 12 None) → AreKeyed rows
 first_rows stays empty rows e =
     let flat : together rows ≡ none_in_force = ap (λ (rs : List Row). together rs) e ∙ none_together in
@@ -146,7 +146,7 @@ cells_all xs ys i full_x full_y le so_far =
     let other : length (map option_copied ys) ≡ 12 = length-map ys option_copied ∙ full_y in
     sym (take_all i (map option_copied xs) (omega (arith, le, one))) ∙ so_far ∙ take_all i (map option_copied ys) (omega (arith, le, other))
 
--- where it went well, they are overridden
+-- after `Ok` the rows are overridden
 pub row_exact_ok : {A E : Type 0} (rows after : List Row) (ps : Parameters) (c : ℕ) (list : List Param) (result : Result A E) → AreKeyed rows → c < 8 → together rows ≡ ps
     → OnOk result (after ≡ slice_set rows c (overridden_row (get_or rows c []) list)) → OnOk result (together after ≡ overridden ps c list)
 row_exact_ok rows after ps c list (Ok x) is low flat e = row_exact rows after c list is low e ∙ ap (λ (from : Parameters). overridden from c list) flat

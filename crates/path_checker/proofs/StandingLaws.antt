@@ -69,7 +69,7 @@ after_write standing after c loses events stand c' d' s' = (
   ],
 )
 
--- and after a swap
+-- the matches that stand after a swap
 pub stands_swap : (standing between after : StandingMatches) (events : List Event) (c s : ℕ) → Loses standing c between → Loses between s after → Stands standing events → Stands after (events ++ Wrote c ∷ Wrote s ∷ [])
 stands_swap standing between after events c s one two stand =
     subst (Stands after) (append_assoc events (Wrote c ∷ []) (Wrote s ∷ []))
@@ -101,7 +101,7 @@ same_one one other is = ap (first one) is
 pub told_matched : (standing after : StandingMatches) (told : Told) (c : ℕ) (own : Bor LentMatch) → told ≡ tells.Matched c own → Gains standing c (match_of own.now) after → (event : Event) → told_by told ≡ event ∷ [] → StandsAfter standing event after
 told_matched standing after told c own is gains event one =
     subst (λ (e : Event). StandsAfter standing e after) (same_one _ event (subst (λ (t : Told). told_by t ≡ event ∷ []) is one))
-    (after_match standing after c own.now.digest.now own.now.size gains)
+    (after_match standing after c (match_of own.now).0 (match_of own.now).1 gains)
 
 pub told_wrote : (standing after : StandingMatches) (told : Told) (c : ℕ) → told ≡ tells.Wrote c → Loses standing c after → (event : Event) → told_by told ≡ event ∷ [] → StandsAfter standing event after
 told_wrote standing after told c is loses event one =
@@ -111,20 +111,20 @@ told_wrote standing after told c is loses event one =
 by_plain : (standing : StandingMatches) (plain event : Event) → IsPlain plain → plain ∷ [] ≡ event ∷ [] → StandsAfter standing event standing
 by_plain standing plain event is one = subst (λ (e : Event). StandsAfter standing e standing) (same_one plain event one) (after_plain standing plain is)
 
--- and after those of an override
+-- the matches that stand after an override at one component
 pub stands_set : (matches : StandingMatches) (events : List Event) (c : ℕ) (list : List Param) → Stands matches events → Stands matches (events ++ set_events c list)
 stands_set matches events c [] stand = subst (Stands matches) (sym (append-nil events)) stand
 stands_set matches events c (param ∷ list) stand =
     let one : Stands matches (events ++ Set c param ∷ []) = after_plain matches (Set c param) (λ c' d' s'. (λ is. absurd cc, λ w. w)) events stand in
     subst (Stands matches) (append_assoc events (Set c param ∷ []) (set_events c list)) (stands_set matches (events ++ Set c param ∷ []) c list one)
 
--- at some components
+-- the matches that stand after an override at some components
 pub stands_sets : (matches : StandingMatches) (events : List Event) (cs : List ℕ) (list : List Param) → Stands matches events → Stands matches (events ++ sets_at cs list)
 stands_sets matches events [] list stand = subst (Stands matches) (sym (append-nil events)) stand
 stands_sets matches events (c ∷ cs) list stand =
     subst (Stands matches) (append_assoc events (set_events c list) (sets_at cs list)) (stands_sets matches (events ++ set_events c list) cs list (stands_set matches events c list stand))
 
--- of overrides that follow one another
+-- the matches that stand after several overrides in a row
 stands_command : (matches : StandingMatches) (events : List Event) (command : CommandTree) (cs : List ℕ) → Stands matches events → Stands matches (events ++ command_sets command cs)
 stands_command matches events (Override list) cs stand = stands_sets matches events cs list stand
 stands_command matches events (Test kind report) cs stand = subst (Stands matches) (sym (append-nil events)) stand
@@ -153,6 +153,8 @@ told_other standing (tells.Several several) no_match no_write event one = λ eve
 told_other standing (tells.Sets c list) no_match no_write event one = λ events stand. subst (λ (es : List Event). Stands standing (events ++ es)) one (stands_sets standing events (c ∷ []) list.now stand)
 told_other standing (tells.SetsFirst n list) no_match no_write event one = λ events stand. subst (λ (es : List Event). Stands standing (events ++ es)) one (stands_sets standing events (range_with_len 0 n) list.now stand)
 told_other standing (tells.SetsBoth c d list) no_match no_write event one = λ events stand. subst (λ (es : List Event). Stands standing (events ++ es)) one (stands_sets standing events (c ∷ d ∷ []) list.now stand)
+told_other standing (tells.Two f s) no_match no_write event one = absurd cc
+told_other standing (tells.Three f s t) no_match no_write event one = absurd cc
 told_other standing (tells.SetsAt sets) no_match no_write event one = λ events stand. subst (λ (es : List Event). Stands standing (events ++ es)) one (stands_sets standing events sets.now.components.now sets.now.list.now stand)
 
 -- ---- where the same matches are held

@@ -1,4 +1,4 @@
--- What follows at once, and what follows that.
+-- What is run next, and the rest after that.
 use Rattle.std.proofs.Common.{◌≡◌, ℕ, ◌+◌, ◌<◌, List, [], ◌∷◌, ◌++◌, length, get_or, drop, refl, sym, ap, ◌∙◌, subst, inl, inr}
 use Rattle.suit_commands.specs.declared.command.Step.{Step}
 use Rattle.suit_commands.specs.Tree.{CommandTree, TryEach, SequenceTree, BranchesTree}
@@ -52,13 +52,13 @@ module _ (branches : BranchesTree) (place : ℕ) (components : List ℕ) (behind
   abbrev tries_rest : Course
   tries_rest = RunsRest (OfTries branches place components ∷ behind) count
 
-  -- those that are selected
+  -- the components that are selected
   pub GoesOn-each : (k : Kept) → components ≡ k.state.selection → GoesOn (TriesThen branches place behind count) (k ∷ []) tries_rest (k ∷ [])
   GoesOn-each k is =
       subst (λ (cs : List ℕ). GoesOn (TriesThen branches place behind count) (k ∷ []) (RunsRest (OfTries branches place cs ∷ behind) count) (k ∷ [])) (sym is)
       (GoesOn-moved (TriesThen branches place behind count) (RunsRest (OfTries branches place k.state.selection ∷ behind) count) k k.state (k ∷ []) refl (λ ids es e r. r) (λ ids es p r. r))
 
-  -- the first of them
+  -- the first component
   pub GoesOn-first : (c : ℕ) (left : List ℕ) (later : List Later) (from : List Kept) → components ≡ c ∷ left → later ≡ OfTries branches place left ∷ behind → GoesOn tries_rest from (TriesAt branches place c later count) from
   GoesOn-first c left later from is later_is =
       let here : Course = rest_course branches count place c in
@@ -69,13 +69,13 @@ module _ (branches : BranchesTree) (place : ℕ) (components : List ℕ) (behind
         uncovers = λ facts events u. Uncovers-left here others (RunsRest behind count) from facts events u;
       }))
 
--- nothing happens, and then something follows
+-- a behaviour after one that does nothing
 behind_only : (second : Behaviour) (s : State) (es : List Event) (e : Ending) → Then (λ t x y. (x ≡ []) × (y ≡ Done t)) second s es e → second s es e
 behind_only second s es e (inl (f, r)) = absurd (subst IsFailure r.1 f)
 behind_only second s es e (inr (m, x, y, is, r, q)) =
     subst (λ (t : List Event). second s t e) (sym (is ∙ ap (λ (t : List Event). t ++ y) r.0)) (subst (λ (t : State). second t y e) (same_state m s r.1) q)
 
--- none of them is left
+-- no component is left
 pub GoesOn-at_none : (branches : BranchesTree) (place : ℕ) (components : List ℕ) (behind : List Later) (count : ℕ) (k : Kept) → components ≡ [] → GoesOn (RunsRest (OfTries branches place components ∷ behind) count) (k ∷ []) (RunsRest behind count) (k ∷ [])
 GoesOn-at_none branches place components behind count k is =
     subst (λ (cs : List ℕ). GoesOn (RunsRest (OfTries branches place cs ∷ behind) count) (k ∷ []) (RunsRest behind count) (k ∷ [])) (sym is)

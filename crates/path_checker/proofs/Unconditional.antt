@@ -65,7 +65,7 @@ straight_rest : (xs ys : List Step) → AreStraight (sequence_tree (xs ++ ys)) �
 straight_rest [] ys all = all
 straight_rest (x ∷ xs) ys all = straight_rest xs ys all.1
 
--- those after some
+-- the commands after the first ones
 pub straight_steps : (steps xs : List Step) (i : ℕ) → xs ≡ take (length xs) (drop i steps) → AreStraight (sequence_tree (drop i steps)) → AreStraight (sequence_tree (drop (i + length xs) steps))
 straight_steps steps xs i part all = straight_rest xs (drop (i + length xs) steps) (subst (λ (t : List Step). AreStraight (sequence_tree t)) (both_parts steps xs i part) all)
 
@@ -127,7 +127,7 @@ conditional_next tests steps xs at step none lt is next here =
     let e : at + length xs ≡ at = omega (arith, none) in
     next step (omega (arith, e, lt)) (subst (λ (n : ℕ). IsInPlace tests (command_tree (get_or steps n step).command)) (sym e) (subst (λ (x : Step). IsInPlace tests (command_tree x.command)) is (unconditional_in_place tests (command_tree step.command) here)))
 
--- a try each in which no condition is met has a first branch
+-- a try each that runs no condition has a first branch
 pub first_there : (bs : List (Option SequenceTree)) → FirstIsUnconditional (branches_tree bs) → 0 < length bs
 first_there [] first = absurd first
 first_there (b ∷ bs) first = omega arith
@@ -251,7 +251,7 @@ swapped-front {X} xs i j d le lt =
           ∙ ap (λ (ys : List X). ys ++ get_or xs i d ∷ []) (take-set-le i xs i (get_or xs j d) (omega arith)) ∙ ap (λ (n : ℕ). take i xs ++ get_or xs n d ∷ []) same
     ]
 
--- and those behind are as they were
+-- and those after it are as they were
 swapped-rest : {X : Type 0} → (xs : List X) (i j : ℕ) (d : X) → i ≤ j → j < length xs → drop (j + 1) (swap xs i j) ≡ drop (j + 1) xs
 swapped-rest {X} xs i j d le lt =
     let is : set (set xs i (get_or xs j d)) j (get_or xs i d) ≡ swap xs i j = swap_is xs i j d (omega (arith, le, lt)) lt in

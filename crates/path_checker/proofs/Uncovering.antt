@@ -57,7 +57,7 @@ Uncovers-second first second from mid failed facts events a (k, i, u) =
     let m = a.reached k i in
     (m.0, m.1, Uncovered-then first second (then_course first second) m.0 k (Done k.state) facts events (λ ids es fs place p q. inr (k.state, es, fs, refl, p, q)) m.2 u)
 
--- an inner sequence that ends by a directive ends the outer command so
+-- an inner sequence that ends in a failed directive ends the outer command likewise
 pub Uncovers-outer : (body outer : Course) (s : State) (c : ℕ) (soft : Bool) (from : List Kept) (facts : List Knowledge) (events : List Event) → AllAt s from → ((ids : List Identity) (es : List Event) (place : ℕ) → body ids (entry_state s c soft) es (Directive place) → outer ids s es (Directive place)) → Uncovers body (all_entered s c soft from) facts events → Uncovers outer from facts events
 Uncovers-outer body outer s c soft from facts events same lift (kin, i, v) =
     let y = entered-from s c soft kin from i in

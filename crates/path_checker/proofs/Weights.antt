@@ -11,7 +11,7 @@ abbrev mutual
   weight NoSteps = 0
   weight (StepThen place command rest) = 4 + 22 * once_weight command + weight rest
 
-  -- of a command at one component
+  -- the weight of a command at one component
   pub once_weight : CommandTree → ℕ
   once_weight (TryEach branches) = 4 + branches_weight branches
   once_weight _ = 0
@@ -37,12 +37,12 @@ last_weight [] last = omega arith
 last_weight (None ∷ bs) last = last_weight bs last
 last_weight (Some s ∷ bs) last = omega (arith, last_weight bs last)
 
--- a command, and those behind it
+-- a command, and those after it
 pub step_weight : (steps : List Step) (i : ℕ) (d : Step) → i < length steps
     → weight (sequence_tree (drop i steps)) ≡ 4 + 22 * once_weight (command_tree (get_or steps i d).command) + weight (sequence_tree (drop (i + 1) steps))
 step_weight steps i d lt = ap (λ (ss : List Step). weight (sequence_tree ss)) (drop_next steps i d lt)
 
--- what stands behind a command weighs no more than all
+-- the commands from an index on weigh no more than all
 pub weight_after : (steps : List Step) (i : ℕ) → weight (sequence_tree (drop i steps)) ≤ weight (sequence_tree steps)
 weight_after steps zero = omega arith
 weight_after [] (suc i) = omega arith
@@ -57,7 +57,7 @@ few_components zero m w le = omega arith
 few_components (suc n) zero w le = absurd (omega (arith, le))
 few_components (suc n) (suc m) w le = omega (arith, few_components n m w (omega (arith, le)), more_components n w, more_components m w)
 
--- a try each at one component more
+-- a try each at one more component
 pub tries_weight : (branches : BranchesTree) (place c : ℕ) (components left : List ℕ) (behind later : List Later) → components ≡ c ∷ left → later ≡ OfTries branches place left ∷ behind
     → 3 + branches_weight branches + rest_weight later + 1 ≡ 2 + length components * (4 + branches_weight branches) + rest_weight behind
 tries_weight branches place c components left behind later is later_is =

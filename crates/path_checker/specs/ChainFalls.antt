@@ -1,4 +1,4 @@
--- What is before a part is shorter.
+-- The parts before the last one are fewer than all parts.
 use Rattle.std.specs.Prelude.{◌≤◌, max, length}
 use Rattle.std.proofs.Common.{arith}
 use Rattle.path_checker.specs.declared.judge_plan.trace.Last.{Last}

@@ -1,4 +1,4 @@
--- Parts of a path that share what they begin with: the last part comes first.
+-- The events of a path in parts, the last part first. Paths that begin alike share their parts.
 use Rattle.std.specs.Prelude.{◌≡◌, List, [], ◌∷◌, Option, Some, None}
 use Rattle.path_model.specs.declared.event.Event.{Event}
 use Rattle.path_checker.specs.declared.judge_plan.trace.Last.{Last}
@@ -11,7 +11,7 @@ parts_from lasts.None = []
 parts_from (lasts.Four part) = four_told part.now.told ∷ part.now.before
 parts_from (lasts.Many stretch) = all_told stretch.now.told.now ∷ stretch.now.before
 
--- the last part, and those before it
+-- the parts are empty, or they are this last part and those before it
 abbrev pub Parted : List (List Event) → Option (Piece × Last) → Type 0
 Parted parts None = parts ≡ []
 Parted parts (Some last) = parts ≡ piece_told last.0 ∷ parts_from last.1

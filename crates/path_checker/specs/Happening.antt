@@ -1,5 +1,5 @@
--- The events that lent ones are.
-use Rattle.std.specs.Prelude.{ℕ, false, List, [], ◌∷◌, ◌++◌, take}
+-- The events that recorded ones stand for.
+use Rattle.std.specs.Prelude.{ℕ, false, List, [], ◌∷◌, ◌++◌, Option, Some, None, take}
 use Rattle.std.specs.Option.{option_copied}
 use Rattle.std.specs.List.{range_with_len}
 use Rattle.path_model.specs.declared.event.Event.{Event}
@@ -14,6 +14,8 @@ use Rattle.suit_commands.specs.Tree.{CommandTree, Override, SequenceTree, NoStep
 use Rattle.suit_commands.specs.View.{sequence_tree}
 use Rattle.path_checker.specs.Selecting.{components_of}
 use Rattle.path_checker.specs.Matches.{match_of, match_event, covered_event}
+use Rattle.path_checker.specs.declared.judge_plan.brief.Brief.{Brief}
+use Rattle.path_checker.specs.declared.judge_plan.brief.Brief.TheVariants as brief
 use Rattle.path_checker.specs.declared.judge_plan.trace.Invoke.{Invoke}
 use Rattle.path_checker.specs.declared.judge_plan.trace.Told.{Told}
 use Rattle.path_checker.specs.declared.judge_plan.trace.Told.TheVariants as told
@@ -36,7 +38,7 @@ event_of (lent.Failed place) = events.Failed place
 abbrev pub invoke_event : Invoke → Event
 invoke_event invoke = events.Invoked invoke.component (option_copied invoke.digest) invoke.size false
 
--- those of an override at some components
+-- the events of an override at some components
 abbrev pub sets_at : List ℕ → List Param → List Event
 sets_at [] list = []
 sets_at (component ∷ components) list = set_events component list ++ sets_at components list
@@ -45,7 +47,7 @@ abbrev pub command_sets : CommandTree → List ℕ → List Event
 command_sets (Override list) components = sets_at components list
 command_sets _ components = []
 
--- those of overrides that follow one another, at the same components
+-- the events of several overrides in a row, at the same components
 abbrev pub sequence_sets : SequenceTree → List ℕ → List Event
 sequence_sets NoSteps components = []
 sequence_sets (StepThen place command rest) components = command_sets command components ++ sequence_sets rest components
@@ -55,6 +57,11 @@ sets_of sets = sets_at sets.components.now sets.list.now
 
 abbrev pub several_sets : Several → List Event
 several_sets several = sequence_sets (sequence_tree several.steps.now) (components_of several.components)
+
+abbrev pub brief_event : Brief → Event
+brief_event (brief.Tried component kind passed) = events.Tried component kind passed
+brief_event (brief.Missed component) = events.Missed component
+brief_event (brief.Wrote component) = events.Wrote component
 
 abbrev pub told_by : Told → List Event
 told_by (told.Tried component kind passed) = events.Tried component kind passed ∷ []
@@ -70,10 +77,21 @@ told_by (told.SetsFirst count list) = sets_at (range_with_len 0 count) list.now
 told_by (told.SetsBoth first second list) = sets_at (first ∷ second ∷ []) list.now
 told_by (told.SetsAt sets) = sets_of sets.now
 told_by (told.Several several) = several_sets several.now
+told_by (told.Two first second) = brief_event first ∷ brief_event second ∷ []
+told_by (told.Three first second third) = brief_event first ∷ brief_event second ∷ brief_event third ∷ []
 
 abbrev pub all_told : List Told → List Event
 all_told [] = []
 all_told (told ∷ rest) = told_by told ++ all_told rest
+
+-- the events of the last one, if there is one
+abbrev pub last_told : Option Told → List Event
+last_told None = []
+last_told (Some told) = told_by told
+
+-- the events of a list, and then of the last one, which is held back
+abbrev pub told_since : List Told → Option Told → List Event
+told_since told last = all_told told ++ last_told last
 
 abbrev pub four_told : Four → List Event
 four_told told = all_told told.first ++ told_by told.last

@@ -5,6 +5,7 @@ use Rattle.path_model.specs.Runs.{entry_state, completed_state}
 use Rattle.path_model.specs.Path.{start_state}
 use Rattle.path_checker.specs.Exploring.{Course, In, Kept, Stopped, Explores, Failures, keeps, after_stops, kept_if}
 
+-- the state in which an inner sequence begins
 abbrev pub entered : State → ℕ → Bool → Kept → Kept
 entered state component soft_failure k = record { facts = k.facts; events = k.events; state = entry_state state component soft_failure }
 
@@ -12,11 +13,12 @@ abbrev pub all_entered : State → ℕ → Bool → List Kept → List Kept
 all_entered state component soft_failure [] = []
 all_entered state component soft_failure (k ∷ ks) = entered state component soft_failure k ∷ all_entered state component soft_failure ks
 
--- each has this state
+-- all of these are in this state
 abbrev pub AllAt : State → List Kept → Type 0
 AllAt state ks = (k : Kept) → In k ks → k.state ≡ state
 
--- after a sequence that completed
+-- the state after an inner sequence that completed: its parameters stay, the selection and soft failure are the outer
+-- ones
 abbrev pub left : State → Kept → Kept
 left state k = record { facts = k.facts; events = k.events; state = completed_state state k.state }
 
@@ -24,18 +26,20 @@ abbrev pub all_left : State → List Kept → List Kept
 all_left state [] = []
 all_left state (k ∷ ks) = left state k ∷ all_left state ks
 
--- after a failure that is passed over
+-- the state after a failure that is passed over: all is as it was around the inner sequence
 abbrev pub resumed : State → Stopped → Kept
 resumed state stop = record { facts = stop.facts; events = stop.events; state = state }
 
--- and after one that is passed on
+-- the failure of the outer sequence that a hard failure of the inner one leads to
 abbrev pub hardened : State → Stopped → Stopped
 hardened state stop = record { facts = stop.facts; events = stop.events; place = stop.place; soft_failure = state.soft_failure }
 
+-- a soft failure goes on as a state
 abbrev pub if_soft : State → Stopped → Bool → List Kept
 if_soft state stop true = resumed state stop ∷ []
 if_soft state stop false = []
 
+-- any other failure fails the outer sequence
 abbrev pub if_hard : State → Stopped → Bool → List Stopped
 if_hard state stop true = []
 if_hard state stop false = hardened state stop ∷ []
@@ -48,7 +52,7 @@ abbrev pub hardly : State → List Stopped → List Stopped
 hardly state [] = []
 hardly state (stop ∷ stops) = if_hard state stop stop.soft_failure ++ hardly state stops
 
--- where no branch completed
+-- the failure of a try each in which no branch completed
 abbrev pub exhausted_at : State → ℕ → Kept → Stopped
 exhausted_at state place k = record { facts = k.facts; events = k.events; place = place; soft_failure = state.soft_failure }
 
@@ -56,13 +60,13 @@ abbrev pub exhausted : State → ℕ → List Kept → List Stopped
 exhausted state place [] = []
 exhausted state place (k ∷ ks) = exhausted_at state place k ∷ exhausted state place ks
 
--- no failures of an inner sequence so far: those with soft failure are kept where something goes on from them, or where
--- those of the outer sequence are
+-- no failures of an inner sequence yet: soft ones are kept if something goes on from them, and all are kept if the
+-- outer sequence keeps the failure that they lead to
 abbrev pub none_inside : Bool → Failures → State → Failures
 none_inside true failures state = record { items = []; soft = true; hard = keeps failures state.soft_failure }
 none_inside false failures state = record { items = []; soft = keeps failures state.soft_failure; hard = keeps failures state.soft_failure }
 
--- a branch was run, and left, with these failures kept inside
+-- a branch was run and left, where these failures were kept inside it
 pub record BranchAdds (course : Course) (state : State) (inside rest old_next new_next : List Kept) (old_stops : Failures) (old_failed new_failed : Failures) : Type 0 where
   pub done : List Kept
   pub stops : List Stopped
@@ -71,7 +75,7 @@ pub record BranchAdds (course : Course) (state : State) (inside rest old_next ne
   pub rest_is : rest ≡ softly state (after_stops old_stops stops).items
   pub explores : Explores course inside done stops
 
--- an inner sequence was run, and left: its soft failures go on
+-- an inner sequence was run and left, and its soft failures go on
 pub record InsideAdds (course : Course) (state : State) (from old_next new_next : List Kept) (old_failed new_failed : Failures) : Type 0 where
   pub done : List Kept
   pub stops : List Stopped
@@ -79,7 +83,7 @@ pub record InsideAdds (course : Course) (state : State) (from old_next new_next 
   pub failed_is : new_failed ≡ after_stops old_failed (hardly state (after_stops (none_inside true old_failed state) stops).items)
   pub explores : Explores course from done stops
 
--- an inner sequence was run in a state in place, and no failure of it is kept
+-- an inner sequence was run on a state in place, and none of its failures is kept
 pub record RunsInside (course : Course) (component : ℕ) (soft_failure : Bool) (from : Kept) (goes_on : Bool) (to : Kept) : Type 0 where
   pub inside : Kept
   pub to_is : to ≡ left from.state inside

@@ -1,4 +1,4 @@
--- Sequences in which an invoke stands, and runs on which each invoke is covered.
+-- Sequences that hold an invoke, and runs on which each invoke is covered.
 use Rattle.std.specs.Prelude.{◌≡◌, ◌⊎◌, List}
 use Rattle.std.specs.List.{AllByRecursion}
 use Rattle.suit_commands.specs.declared.kinds.ActKind.TheVariants as acts
@@ -37,7 +37,7 @@ IsInvoke _ = ⊥
 abbrev pub AreQuiet : List Event → Type 0
 AreQuiet events = AllByRecursion (λ event. IsInvoke event → ⊥) events
 
--- whatever happens from these states, each invoke of it is covered
+-- on each run from these states, for all identities that their facts allow, each invoke is covered
 abbrev pub Covers : Course → List Kept → Type 0
 Covers course from =
     (k : Kept) → In k from → (identities : List Identity) → Allows k.facts identities

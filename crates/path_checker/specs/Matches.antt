@@ -1,18 +1,29 @@
--- The matches in a search tree. How they are found, no definition says.
-use Rattle.std.specs.Prelude.{◌↔◌, ℕ, true, List, [], ◌∷◌, Option, Some, None}
+-- Matches, and lists of them. No definition says how they are found.
+use Rattle.std.specs.Prelude.{◌≡◌, ◌↔◌, ℕ, true, List, [], ◌∷◌, Option, Some, None}
 use Rattle.suit_params.specs.declared.digest.Digest.{Digest}
+use Rattle.suit_params.specs.InForce.{number_of}
 use Rattle.path_model.specs.declared.event.Event.{Event}
 use Rattle.path_model.specs.declared.event.Event.TheVariants.{Matched, Invoked}
 use Rattle.path_checker.specs.declared.judge_plan.matches.Lent.{Lent}
 use Rattle.path_checker.specs.declared.judge_plan.matches.Match.{Match as LentMatch}
+use Rattle.path_checker.specs.declared.judge_plan.stated.Stated.{Stated}
 use Rattle.path_checker.specs.Exploring.{In}
 
--- a digest, and a size, which may be absent
+-- a digest, and a size if there is one
 abbrev pub Match : Type 0
 Match = Digest × Option ℕ
 
+-- what two parameters state: the digest, and the number of the other one, if it has one
+abbrev pub stated_by : Stated → Match
+stated_by stated = (stated.digest.now, number_of (Some stated.size.now))
+
+-- what is stated where this digest and this size are in force: nothing if there is no digest
+abbrev pub IsStated : Option Digest → Option ℕ → Option Stated → Type 0
+IsStated digest size None = None ≡ digest
+IsStated digest size (Some stated) = (Some (stated_by stated).0 ≡ digest) × ((stated_by stated).1 ≡ size)
+
 abbrev pub match_of : LentMatch → Match
-match_of lent = (lent.digest.now, lent.size)
+match_of lent = stated_by lent.stated
 
 abbrev pub all_lent : List Lent → List Match
 all_lent [] = []
@@ -30,6 +41,6 @@ match_event component one = Matched component one.0 one.1
 abbrev pub covered_event : ℕ → Match → Event
 covered_event component one = Invoked component (Some one.0) one.1 true
 
--- the same stand in both, in any order
+-- both have the same members, in any order
 abbrev pub SameMembers : List Match → List Match → Type 0
 SameMembers some others = (one : Match) → In one some ↔ In one others

@@ -1,4 +1,4 @@
--- Overrides that follow one another.
+-- Several overrides in a row.
 use Rattle.std.specs.Prelude.{List, ◌++◌}
 use Rattle.suit_commands.specs.Tree.{CommandTree, Override, SequenceTree, NoSteps, StepThen}
 use Rattle.path_model.specs.Behaviour.{State}
@@ -22,7 +22,7 @@ after_command state (Override list) = record {
 }
 after_command state _ = state
 
--- the state after overrides at its selected components
+-- the state after overrides at its selected components, in order
 abbrev pub after_overrides : State → SequenceTree → State
 after_overrides state NoSteps = state
 after_overrides state (StepThen place command rest) = after_overrides (after_command state command) rest

@@ -10,24 +10,25 @@ use Rattle.path_checker.specs.Exploring.{Kept}
 use Rattle.path_checker.specs.declared.judge_plan.CheckVerdict.{CheckVerdict}
 use Rattle.path_checker.specs.declared.judge_plan.CheckVerdict.TheVariants as verdicts
 
--- the largest width that is judged
+-- the largest width of a procedure that is judged
 abbrev pub widest : ℕ
 widest = 4194304
 
--- of a procedure that is not too wide
+-- the verdict is right for a procedure that is not too wide
 abbrev pub Judges : PlanTree → CheckVerdict → Type 0
 Judges plan verdicts.Safe = Safe plan
 Judges plan (verdicts.Unsafe bad) = IsBadPath plan bad
 Judges plan (verdicts.TooWide width) = ⊥
 Judges plan verdicts.NoMemory = Unit {0}
 
--- the events that led to a state, and identities that its facts allow
+-- the verdict tells the events that led to the state, and identities that its facts allow
 abbrev pub Tells : Kept → CheckVerdict → Type 0
 Tells k verdicts.Safe = ⊥
 Tells k (verdicts.Unsafe bad) = IsChosen k.facts bad.identities × (bad.events ≡ k.events)
 Tells k (verdicts.TooWide width) = ⊥
 Tells k verdicts.NoMemory = Unit {0}
 
+-- the verdict is right for a procedure of any width: one that is too wide is told by its width, and any other is judged
 abbrev pub JudgesPlan : PlanTree → CheckVerdict → Type 0
 JudgesPlan plan verdicts.Safe = (width_number plan ≤ widest) × Safe plan
 JudgesPlan plan (verdicts.Unsafe bad) = (width_number plan ≤ widest) × IsBadPath plan bad

@@ -1,4 +1,4 @@
--- Walks through whole procedures.
+-- Runs of whole procedures.
 use Rattle.std.specs.Prelude.{◌⊎◌, ℕ, []}
 use Rattle.suit_commands.specs.Tree.{SequenceTree, PlanTree}
 use Rattle.path_model.specs.Behaviour.{Then}
@@ -9,21 +9,22 @@ use Rattle.path_checker.specs.Invoking.{Invokes}
 use Rattle.path_checker.specs.Knowing.{nothing_known}
 use Rattle.path_checker.specs.Small.{IsSmallSequence}
 
--- a member or the shared sequence
+-- a member or the shared sequence, run from the state in which it begins
 abbrev pub FromStart : SequenceTree → ℕ → Course
 FromStart sequence count identities state = Runs sequence identities count (start_state state)
 
--- where a procedure begins: nothing is known of its components, and nothing has happened
+-- the state in which a procedure begins: nothing is known of the identities, and nothing has happened
 abbrev pub first_kept : ℕ → Kept
 first_kept count = record { facts = nothing_known count; events = []; state = first_state }
 
+-- the sequences of the procedure select only components below 8
 pub record ArePlan (plan : PlanTree) : Type 0 where
   pub shared : IsSmallSequence plan.count plan.shared
   pub first : IsSmallSequence plan.count plan.first
   pub second : IsSmallSequence plan.count plan.second
   pub third : IsSmallSequence plan.count plan.third
 
--- ---- from the shared sequence before the second or the third member on
+-- ---- the rest of the procedure, from the shared sequence before its second or third member
 
 abbrev pub FromThird : PlanTree → Course
 FromThird plan identities =
@@ -34,7 +35,7 @@ FromSecond plan identities =
     Then (FromStart plan.shared plan.count identities)
     (Then (FromStart plan.second plan.count identities) (FromThird plan identities))
 
--- ---- whether an invoke stands there
+-- ---- whether that rest holds an invoke
 
 abbrev pub ThirdInvokes : PlanTree → Type 0
 ThirdInvokes plan = Invokes plan.shared ⊎ Invokes plan.third

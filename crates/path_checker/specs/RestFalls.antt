@@ -1,4 +1,4 @@
--- What follows behind is shorter than all that follows.
+-- The rest after the next thing to run is shorter than the whole rest.
 use Rattle.std.specs.Prelude.{◌≤◌, max, length}
 use Rattle.std.proofs.Common.{arith}
 use Rattle.path_checker.specs.declared.judge_plan.rest.First.{First}

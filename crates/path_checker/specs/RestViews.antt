@@ -1,4 +1,4 @@
--- What follows, one after another.
+-- The rest of a procedure as a list of what is run in order.
 use Rattle.std.specs.Prelude.{List, [], ◌∷◌, ◌++◌, Some, drop}
 use Rattle.suit_commands.specs.Tree.{BranchesTree}
 use Rattle.suit_commands.specs.View.{sequence_tree, branches_tree}

@@ -1,4 +1,4 @@
--- Components that there is room for: the first eight.
+-- Components that there is room for: their numbers are below 8.
 use Rattle.std.specs.Prelude.{◌<◌, ◌≤◌, ℕ, Bool, true, false, List}
 use Rattle.std.specs.List.{AllByRecursion}
 use Rattle.suit_commands.specs.declared.selection.Selection.{Selection}
@@ -6,9 +6,11 @@ use Rattle.suit_commands.specs.declared.selection.Selection.TheVariants.{One, Al
 use Rattle.path_checker.specs.Unconditional.{IsUnconditional, AreUnconditional, FirstIsUnconditional}
 use Rattle.suit_commands.specs.Tree.{CommandTree, Test, Act, Override, Index, TryEach, RunSequence, SequenceTree, NoSteps, StepThen, BranchesTree, NoBranches, BranchThen, NullThen}
 
+-- each component is below 8
 abbrev pub AreSmall : List ℕ → Type 0
 AreSmall components = AllByRecursion (λ component. component < 8) components
 
+-- out of so many components, a command selects only components below 8
 abbrev pub SelectsSmall : ℕ → Selection → Type 0
 SelectsSmall count (One component) = component < 8
 SelectsSmall count All = count ≤ 8
@@ -30,13 +32,13 @@ abbrev mutual
   AreSmallBranches count (NullThen rest) = AreSmallBranches count rest
   AreSmallBranches count (BranchThen inner rest) = IsSmallSequence count inner × AreSmallBranches count rest
 
--- a command that is a condition, or holds none that is met
+-- a straight command: it is a condition, or it runs none
 abbrev pub IsStraight : CommandTree → Type 0
 IsStraight (TryEach branches) = FirstIsUnconditional branches
 IsStraight (RunSequence inner) = AreUnconditional inner
 IsStraight _ = Unit {0}
 
--- a command that is done in a state in place: conditions are among them where their failures are not kept
+-- a command that can run on a state in place: conditions can only if their failures are not kept
 abbrev pub IsInPlace : Bool → CommandTree → Type 0
 IsInPlace true command = IsStraight command
 IsInPlace false command = IsUnconditional command

@@ -1,4 +1,4 @@
--- The matches that stand after events, and parts of events in the order in which they happened.
+-- The matches that stand after events, and lists of events in parts.
 use Rattle.std.specs.Prelude.{◌↔◌, ◌≡◌, ◌≢◌, ◌⊎◌, ℕ, List, [], ◌∷◌, ◌++◌, Option, Some, None, slice_get}
 use Rattle.suit_params.specs.declared.digest.Digest.{Digest}
 use Rattle.path_model.specs.declared.event.Event.{Event}
@@ -7,39 +7,39 @@ use Rattle.path_checker.specs.declared.judge_plan.standing.StandingMatches.{Stan
 use Rattle.path_checker.specs.Exploring.{In}
 use Rattle.path_checker.specs.Matches.{Match, matches_from}
 
--- parts of which the last comes first, in the order in which they happened
+-- the events of all parts in order, where the last part comes first in the list
 abbrev pub all_in_order : List (List Event) → List Event
 all_in_order [] = []
 all_in_order (part ∷ parts) = all_in_order parts ++ part
 
--- events, and those since then
+-- the events of a path: those that are shared, and then those since
 abbrev pub with_since : List Event → Option (List Event) → List Event
 with_since past None = past
 with_since past (Some since) = past ++ since
 
--- the matches of a component
+-- the matches that stand for a component
 abbrev pub held_of : StandingMatches → ℕ → List Match
 held_of standing component = matches_from (slice_get standing.of.items component)
 
--- one match of a component more
+-- one match is added to those of a component
 abbrev pub Gains : StandingMatches → ℕ → Match → StandingMatches → Type 0
 Gains before component one after =
     (other : ℕ) (any : Match) → In any (held_of after other) ↔ (((other ≡ component) × (any ≡ one)) ⊎ In any (held_of before other))
 
--- without the matches of a component
+-- the matches of a component are dropped
 abbrev pub Loses : StandingMatches → ℕ → StandingMatches → Type 0
 Loses before component after =
     (other : ℕ) (any : Match) → In any (held_of after other) ↔ ((other ≢ component) × In any (held_of before other))
 
--- the same matches of a component
+-- the same matches of a component stand in both
 abbrev pub SameHeld : StandingMatches → StandingMatches → ℕ → Type 0
 SameHeld one other component = (any : Match) → In any (held_of one component) ↔ In any (held_of other component)
 
--- these matches stand after those events, and no others
+-- these matches stand after the events, and no others do
 abbrev pub Stands : StandingMatches → List Event → Type 0
 Stands standing events =
     (component : ℕ) (digest : Digest) (size : Option ℕ) → In (digest, size) (held_of standing component) ↔ HasMatched events component digest size
 
--- the matches that stand after one more event
+-- if the first matches stand after some events, the second ones stand after one event more
 abbrev pub StandsAfter : StandingMatches → Event → StandingMatches → Type 0
 StandsAfter standing event after = (events : List Event) → Stands standing events → Stands after (events ++ event ∷ [])

@@ -1,4 +1,4 @@
--- The effect of single steps on a state, and of a command at one component.
+-- What single steps, and commands at one component, do to a state.
 use Rattle.std.specs.Prelude.{ℕ, Bool, List, [], ◌∷◌, ◌++◌}
 use Rattle.suit_params.specs.declared.param.Param.{Param}
 use Rattle.suit_params.specs.InForce.{Parameters, overridden}
@@ -26,12 +26,12 @@ stopped_by k events place = record { facts = k.facts; events = k.events ++ event
 abbrev pub stopped_after : Kept → Ended → ℕ → Stopped
 stopped_after k ended place = record { facts = k.facts; events = after_end k.events ended place; place = place; soft_failure = k.state.soft_failure }
 
--- soft failure after an override
+-- the soft failure after an override at one component
 abbrev pub soft_after_all : Bool → List Param → Bool
 soft_after_all soft_failure [] = soft_failure
 soft_after_all soft_failure (param ∷ list) = soft_after_all (soft_after soft_failure param) list
 
--- the parameters in force, and soft failure, after an override at some components
+-- the parameters in force after an override at some components
 abbrev pub overridden_at : Parameters → List ℕ → List Param → Parameters
 overridden_at parameters [] list = parameters
 overridden_at parameters (component ∷ components) list = overridden_at (overridden parameters component list) components list
@@ -43,7 +43,7 @@ soft_at soft_failure (component ∷ components) list = soft_at (soft_after_all s
 abbrev pub with_selection : Kept → List ℕ → Kept
 with_selection k selection = record { facts = k.facts; events = k.events; state = record k.state { selection = selection } }
 
--- ---- a command at one component; set component index is done at none
+-- ---- a command at one component; set component index does nothing there
 
 abbrev pub At : CommandTree → ℕ → ℕ → ℕ → Course
 At (Test kind report) count place component identities = Tests kind identities place component

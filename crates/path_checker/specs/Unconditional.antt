@@ -1,4 +1,4 @@
--- Commands in which no condition is met: a state is followed by one state at most, and none ends by a condition.
+-- Commands that run no condition: each state leads to one state at most, and no sequence ends in a failed condition.
 use Rattle.suit_commands.specs.Tree.{CommandTree, Test, Act, Index, Override, TryEach, RunSequence, SequenceTree, NoSteps, StepThen, BranchesTree, NoBranches, BranchThen, NullThen}
 
 abbrev mutual
@@ -14,7 +14,7 @@ abbrev mutual
   AreUnconditional NoSteps = Unit {0}
   AreUnconditional (StepThen place command rest) = IsUnconditional command × AreUnconditional rest
 
-  -- no other branch is run
+  -- the first branch completes or ends the procedure, so that no other is run
   pub FirstIsUnconditional : BranchesTree → Type 0
   FirstIsUnconditional NoBranches = ⊥
   FirstIsUnconditional (NullThen rest) = Unit {0}

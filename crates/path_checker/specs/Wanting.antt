@@ -1,4 +1,4 @@
--- The identities that conditions ask for, and how they end by them.
+-- The identifiers and slots that conditions ask for, and how an identity decides these conditions.
 use Rattle.std.specs.Prelude.{◌⊎◌, ℕ, true, false, Option, Some, None, option_map}
 use Rattle.suit_commands.specs.declared.kinds.TestKind.{TestKind}
 use Rattle.suit_commands.specs.declared.kinds.TestKind.TheVariants as tests

@@ -6,6 +6,7 @@ ghost use Rattle.suit_commands.specs.Plans.{plan_tree};
 ghost use Rattle.path_checker.specs.Procedures.{ArePlan};
 ghost use Rattle.path_checker.specs.PlanVerdicts.{Tells, Judges, JudgesPlan};
 
+mod brief;
 mod choice;
 mod conditions;
 mod directives;
@@ -38,6 +39,7 @@ mod same_param;
 mod selected;
 mod sets;
 mod standing;
+mod stated;
 mod straight;
 mod trace;
 mod unconditional;
@@ -55,10 +57,10 @@ use std::alloc::Global;
 use std::cell::Cell;
 use suit_commands::{Plan, width};
 
-// The largest width of a procedure that is judged.
+// Wider procedures than this are not judged.
 const WIDEST: u64 = 4_194_304;
 
-// How many bytes there are for events at first: as many as a small procedure needs.
+// The initial capacity of the event arena in bytes: enough for a small procedure.
 const ROOM: usize = 900;
 
 /// The verdict on a whole procedure.
@@ -66,15 +68,16 @@ const ROOM: usize = 900;
 pub enum CheckVerdict {
     /// Each invoke is covered on each path, for all identities.
     Safe,
-    /// The last invoke of this path is not covered.
+    /// The last event of this path is an invoke that is not covered.
     Unsafe(BadPath),
-    /// The procedure is too wide to judge; its width, which saturates at 64 bits.
+    /// The procedure is too wide to judge. Holds its width, saturated at 64 bits.
     TooWide(u64),
     /// Memory ran out.
     NoMemory,
 }
 
-// The path to an invoke that is not covered, with identities that it is a path for.
+// Builds the verdict for a state whose last event is an uncovered invoke: its path, and identities for which it is a
+// path.
 fn told(alloc: Global, k: Kept<'_>) -> CheckVerdict
     ensures { Tells k.entry result }
 {
@@ -87,7 +90,7 @@ fn told(alloc: Global, k: Kept<'_>) -> CheckVerdict
     }
 }
 
-// Whether each invoke is covered, with this memory.
+// Judges a procedure in the given memory.
 fn judge_in<'a>(memory: Memory<'a>, plan: Plan<'a>) -> CheckVerdict
     requires { ArePlan (plan_tree plan) }
     ensures { Judges (plan_tree plan.entry) result }
@@ -102,7 +105,7 @@ fn judge_in<'a>(memory: Memory<'a>, plan: Plan<'a>) -> CheckVerdict
     }
 }
 
-// Whether each invoke is covered, with events in this memory.
+// Judges a procedure whose events go to the given arena. `left` is what may still be spent on comparing states.
 fn judge_with<'a>(
     alloc: Global,
     events: &'a Bump,
@@ -122,7 +125,7 @@ fn judge_with<'a>(
     }
 }
 
-// Whether each invoke is covered. Where none stands, nothing is made.
+// Judges a procedure. One without an invoke is safe, and takes no memory.
 fn judge(alloc: Global, plan: &Plan<'_>) -> CheckVerdict
     requires { ArePlan (plan_tree plan.now) }
     ensures { Judges (plan_tree plan.now) result }
@@ -137,10 +140,11 @@ fn judge(alloc: Global, plan: &Plan<'_>) -> CheckVerdict
     judge_with(alloc, &events, &left, *plan)
 }
 
-/// Judges a procedure of the grammar for all identities of its components (draft-ietf-suit-manifest-25, section 6.4).
-/// It is too wide exactly where its work times its spread is above 4,194,304. Otherwise it is safe exactly where each
-/// invoke of each path is covered, and an unsafe one is told by a path whose last event is its first invoke that is not
-/// covered, with identities that it is a path for. Where memory runs out, it is not too wide.
+/// Judges a procedure for all identities of its components (draft-ietf-suit-manifest-25, section 6.4).
+///
+/// A procedure whose width, its work times its spread, is above 4,194,304 is `TooWide`. Any other is `Safe` if each
+/// invoke on each path is covered, and `Unsafe` if not, with a path whose last event is its first uncovered invoke and
+/// with identities for which it is a path. `NoMemory` says nothing but that the procedure is not too wide.
 pub fn check(alloc: Global, plan: &Plan<'_>) -> CheckVerdict
     requires { IsPlan (plan_tree plan.now) }
     ensures judged { JudgesPlan (plan_tree plan.now) result }

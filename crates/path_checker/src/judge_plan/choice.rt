@@ -10,7 +10,7 @@ use crate::judge_plan::known::{Known, is_among};
 use path_model::{Identities, Identity};
 use std::alloc::{AllocError, Global};
 
-// The least number that is none of these. It is at most their count.
+// The least number that is not one of `numbers`. It is at most their count.
 pub(crate) fn least_outside(numbers: &[u64]) -> u64
     ensures { IsLeastOutside numbers.now result }
 {
@@ -21,7 +21,7 @@ pub(crate) fn least_outside(numbers: &[u64]) -> u64
     number
 }
 
-// Sixteen bytes are an identifier, by their type. Does nothing.
+// Does nothing. Its contract says that sixteen bytes are an identifier.
 fn identifier_bounds(id: &[u8])
     requires { length id.now ≡ 16 }
     ensures { IsIdentifier id.now }
@@ -38,8 +38,8 @@ fn chosen_identifier(known: &Known<[u8; 16]>) -> Option<[u8; 16]>
     chosen
 }
 
-// The identity of a component: where an identifier is known only by what it is not, it is absent, and a slot is then
-// the least number that it may be.
+// An identity that the knowledge allows. An unknown identifier is absent, and an unknown slot is the least number that
+// is not ruled out.
 fn chosen_one(known: &Knowledge) -> Identity
     ensures allowed { AllowsOne known.now result }
     ensures bounds { IsIdentity result }

@@ -16,7 +16,7 @@ use crate::judge_plan::memory::Memory;
 use std::alloc::AllocError;
 use suit_commands::TestKind;
 
-// The state under other facts.
+// The state with other facts.
 fn under<'a>(k: Kept<'a>, facts: Facts) -> Kept<'a>
     ensures { result ≡ knowing k.entry facts }
 {
@@ -25,7 +25,7 @@ fn under<'a>(k: Kept<'a>, facts: Facts) -> Kept<'a>
     k
 }
 
-// An identity condition that asks for something: where the facts leave it open, both are kept, each with its fact.
+// A condition on an identity, for what it asks for. If the facts leave it open, both outcomes are kept, with their facts.
 fn own_test<'a>(
     memory: Memory<'a>,
     place: u64,
@@ -56,7 +56,7 @@ fn own_test<'a>(
     }
 }
 
-// A condition on the identity.
+// A condition on an identity.
 fn identity_test<'a>(
     memory: Memory<'a>,
     place: u64,
@@ -78,7 +78,7 @@ fn identity_test<'a>(
     }
 }
 
-// Image match, under the digest and size in force.
+// Image match, for the digest and the size in force.
 fn image_match<'a>(
     memory: Memory<'a>,
     place: u64,
@@ -92,11 +92,10 @@ fn image_match<'a>(
         (Adds (λ identities. Tests TestKind.ImageMatch identities place component) (k.entry ∷ [])
         next.old.items next.new.items failed.old failed.new) }
 {
-    match k.params.digest(component) {
+    match k.params.stated(component) {
         None => stop(k, place, Ended::Missed { component }, failed),
-        Some(digest) => {
-            let size = k.params.size(component);
-            let own = Match::lent(memory, place, component, digest, size)?;
+        Some(stated) => {
+            let own = Match::lent(memory, place, component, stated)?;
             let matched = Happened::Matched { component, own };
             stop_also(memory, &k, place, Ended::Missed { component }, failed)?;
             pass(memory, k, matched, next)
@@ -153,7 +152,7 @@ fn abort<'a>(
 
 // ---- where failures are not kept
 
-// An identity condition that asks for something.
+// A condition on an identity, for what it asks for: whether it may be met.
 fn pass_own_test<'a>(
     memory: Memory<'a>,
     place: u64,
@@ -179,7 +178,7 @@ fn pass_own_test<'a>(
     Ok(false)
 }
 
-// A condition on the identity.
+// A condition on an identity: whether it may be met.
 fn pass_identity_test<'a>(
     memory: Memory<'a>,
     place: u64,
@@ -199,7 +198,7 @@ fn pass_identity_test<'a>(
     }
 }
 
-// Image match, under the digest and size in force.
+// Image match, for the digest and the size in force: whether it may be met.
 fn pass_image_match<'a>(
     memory: Memory<'a>,
     place: u64,
@@ -211,10 +210,9 @@ fn pass_image_match<'a>(
         (λ passes. Passes (λ identities. Tests TestKind.ImageMatch identities place component)
         (k.old ∷ []) (kept_if passes k.new)) }
 {
-    match k.params.digest(component) {
-        Some(digest) => {
-            let size = k.params.size(component);
-            let own = Match::lent(memory, place, component, digest, size)?;
+    match k.params.stated(component) {
+        Some(stated) => {
+            let own = Match::lent(memory, place, component, stated)?;
             let matched = Happened::Matched { component, own };
             happens(memory, k, matched)?;
             Ok(true)
@@ -246,7 +244,7 @@ fn pass_check_content<'a>(
     Ok(false)
 }
 
-/// A condition whose failure ends the procedure: whether it may be met. The state is then the one after it.
+/// A condition whose failure ends the procedure: whether it may be met. If so, the state becomes the one after it.
 pub(crate) fn pass_test<'a>(
     memory: Memory<'a>,
     place: u64,
@@ -270,7 +268,7 @@ pub(crate) fn pass_test<'a>(
     }
 }
 
-/// A condition: the states after it, and its failures.
+/// A condition: adds the state after it, and its failure.
 pub(crate) fn test<'a>(
     memory: Memory<'a>,
     place: u64,

@@ -74,7 +74,7 @@ fn copy<'a>(
     }
 }
 
-// Both sides are written.
+// Both components are written.
 fn swap<'a>(
     memory: Memory<'a>,
     place: u64,
@@ -108,9 +108,9 @@ fn invoke<'a>(
     ensures err { IfErr result
         (λ h. Halts (λ identities. Acts ActKind.Invoke place component) (k.old ∷ []) h) }
 {
-    let size = k.params.size(component);
-    match k.params.digest(component) {
+    match k.params.stated(component) {
         None => {
+            let size = k.params.size(component);
             let bad = Happened::Uncovered {
                 component,
                 digest: None,
@@ -119,16 +119,16 @@ fn invoke<'a>(
             happens(memory, k, bad)?;
             Err(Halt::Uncovered(Uncovered::copy(memory, k)?))
         }
-        Some(digest) => {
-            let own = k.history.invoked(memory, place, component, digest, size)?;
+        Some(stated) => {
+            let own = k.history.invoked(memory, place, component, stated)?;
             if k.history.has_matched(memory, component, own) {
                 happens(memory, k, Happened::Covered { component, own })?;
                 return Ok(true);
             }
             let bad = Happened::Uncovered {
                 component,
-                digest: Some(digest),
-                size,
+                digest: Some(stated.digest),
+                size: stated.size(),
             };
             happens(memory, k, bad)?;
             Err(Halt::Uncovered(Uncovered::copy(memory, k)?))
@@ -136,7 +136,8 @@ fn invoke<'a>(
     }
 }
 
-/// A directive that acts on contents: whether the procedure goes on. Where it fails, the procedure ends.
+/// Runs a write, fetch, copy, swap or invoke at one component. Returns `false` if it can only fail, which ends the
+/// procedure.
 pub(crate) fn act_in<'a>(
     memory: Memory<'a>,
     place: u64,
@@ -181,7 +182,7 @@ fn soft_after_all(soft_failure: bool, list: &ParamList) -> bool
     soft_failure
 }
 
-/// Override parameters.
+/// Overrides parameters at one component.
 pub(crate) fn override_in<'a>(
     memory: Memory<'a>,
     list: &'a ParamList,
@@ -199,7 +200,7 @@ pub(crate) fn override_in<'a>(
     Ok(())
 }
 
-/// Overrides the parameters of some components, one after another.
+/// Overrides the parameters in force of some components, in order.
 pub(crate) fn override_all<'a>(
     alloc: Global,
     list: &'a ParamList,
@@ -226,7 +227,7 @@ pub(crate) fn soft_at(soft_failure: bool, list: &ParamList, components: &[u32]) 
     soft_failure
 }
 
-/// Override parameters at each selected component.
+/// Overrides parameters at each selected component.
 pub(crate) fn override_each_in<'a>(
     memory: Memory<'a>,
     list: &'a ParamList,
@@ -244,9 +245,9 @@ pub(crate) fn override_each_in<'a>(
     Ok(())
 }
 
-// ---- where many states are kept at once
+// ---- sharing between many states
 
-/// Where some parameters of a state were overridden and many states are kept, shares them with those that were made last.
+/// While many states are kept, shares parameters that were overridden with equal ones that were made recently.
 pub(crate) fn settle<'a>(memory: Memory<'a>, k: &mut Kept<'a>) -> Result<(), AllocError>
     ensures { OnOk result (k.new ≡ k.old) }
 {

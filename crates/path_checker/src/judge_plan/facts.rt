@@ -1,4 +1,4 @@
-//! Knowledge of the identities of all components.
+//! What is known of the identities of all components.
 
 ghost use Rattle.std.specs.Prelude.{◌≡◌, ◌<◌, length, slice_set, IsTrue, IfSome, IfOk, OnOk};
 ghost use Rattle.path_checker.specs.Knowing.{nothing, nothing_known};
@@ -22,7 +22,7 @@ pub(crate) enum Own {
     Slot(u64),
 }
 
-/// Knowledge of one component's identity.
+/// What is known of one component's identity.
 #[derive(Debug, Drop)]
 pub(crate) struct Knowledge {
     pub vendor: Known<[u8; 16]>,
@@ -31,7 +31,7 @@ pub(crate) struct Knowledge {
     pub slot: Known<u64>,
 }
 
-/// Knowledge of one component's identity, its fingerprint, and how many values it is not.
+/// What is known of one component's identity, with its fingerprint and the number of values that are ruled out.
 #[derive(Drop)]
 struct Printed {
     print: u64,
@@ -47,7 +47,7 @@ impl Model for Printed {
     ghost view = { λ a. a.known };
 }
 
-/// The same, shared by copies.
+/// What is known of one component's identity, shared between copies.
 #[derive(Drop)]
 pub(crate) struct Shared {
     held: Rc<Printed>,
@@ -61,7 +61,7 @@ impl Model for Shared {
     ghost view = { λ a. a.held.value };
 }
 
-// Knowledge of the identity of each component, from the first on, and its fingerprint.
+// What is known of each component's identity, in the order of the components, and the fingerprint of all of it.
 #[derive(Drop)]
 struct Each {
     all: Vec<Shared>,
@@ -77,8 +77,8 @@ impl Model for Each {
     ghost view = { λ a. a.all.items };
 }
 
-/// Knowledge of the identity of each component, from the first on. Copies share it, and where one component's differs,
-/// that of the others.
+/// What is known of each component's identity, in the order of the components. Copies share all of it, or all but the
+/// components in which they differ.
 #[derive(Drop)]
 pub(crate) struct Facts {
     held: Rc<Each>,
@@ -93,7 +93,7 @@ impl Model for Facts {
     ghost view = { λ a. a.held.value };
 }
 
-/// Whether a component has something of its own, or the facts where it has and where it has not.
+/// Whether a component has a given identifier or slot: known, or the facts for either case.
 #[derive(Drop)]
 pub(crate) enum Fork {
     Has,
@@ -102,7 +102,7 @@ pub(crate) enum Fork {
 }
 
 impl Knowledge {
-    // Nothing is known. Takes no memory.
+    // Creates knowledge of nothing. Does not allocate.
     fn new(alloc: Global) -> Knowledge
         ensures { result ≡ nothing }
     {
@@ -125,7 +125,7 @@ impl Knowledge {
         })
     }
 
-    // Whether the same is known.
+    // Whether both know the same.
     fn is_same(&self, other: &Knowledge) -> bool
         ensures { IsTrue result → self.now ≡ other.now }
     {
@@ -135,7 +135,7 @@ impl Knowledge {
             && self.slot.is_same(&other.slot)
     }
 
-    // Whether it is the other one, which has this too.
+    // Whether this is `from` after learning `own`.
     fn is_learnt(&self, from: &Knowledge, own: &Own) -> bool
         ensures { IsTrue result → self.now ≡ learnt from.now own.now }
     {
@@ -175,14 +175,14 @@ impl Knowledge {
         )
     }
 
-    // How many values it is not.
+    // How many values are ruled out.
     fn others(&self) -> u64 {
         let names = self.vendor.others().saturating_add(self.class.others());
         let numbers = self.device.others().saturating_add(self.slot.others());
         names.saturating_add(numbers)
     }
 
-    // Whether it has this, where that is known.
+    // Whether the component has this value, if that is known.
     fn tells(&self, own: &Own) -> Option<bool>
         ensures { TellsOne self.now own.now result }
     {
@@ -194,7 +194,7 @@ impl Knowledge {
         }
     }
 
-    // It has this.
+    // Learns that the component has this value.
     fn learn(&mut self, alloc: Global, own: &Own)
         ensures { self.new ≡ learnt self.old own.now }
     {
@@ -206,7 +206,7 @@ impl Knowledge {
         }
     }
 
-    // A copy that has this.
+    // A copy that has learnt this value.
     fn with(&self, alloc: Global, own: &Own) -> Result<Knowledge, AllocError>
         ensures { IfOk result (λ other. other ≡ learnt self.now own.now) }
     {
@@ -215,7 +215,7 @@ impl Knowledge {
         Ok(other)
     }
 
-    // It has this not.
+    // Rules this value out.
     fn exclude(&mut self, own: &Own) -> Result<(), AllocError>
         ensures { OnOk result (self.new ≡ excluded self.old own.now) }
     {
@@ -227,7 +227,7 @@ impl Knowledge {
         }
     }
 
-    // A copy that has it not.
+    // A copy that rules this value out.
     fn without(&self, alloc: Global, own: &Own) -> Result<Knowledge, AllocError>
         ensures { IfOk result (λ other. other ≡ excluded self.now own.now) }
     {
@@ -238,7 +238,7 @@ impl Knowledge {
 }
 
 impl Printed {
-    // Nothing is known. Its fingerprint is 0.
+    // Creates knowledge of nothing. Its fingerprint is 0.
     fn unknown(alloc: Global) -> Printed
         ensures { result ≡ nothing }
     {
@@ -263,7 +263,7 @@ impl Printed {
 }
 
 impl Shared {
-    // Nothing is known.
+    // Creates knowledge of nothing.
     fn unknown(alloc: Global) -> Result<Shared, AllocError>
         ensures { IfOk result (λ shared. shared ≡ nothing) }
     {
@@ -277,14 +277,13 @@ impl Shared {
         Ok(Shared { held })
     }
 
-    /// The knowledge.
     pub(crate) fn known(&self) -> &Knowledge
         ensures { result.now ≡ self.now }
     {
         &self.held.known
     }
 
-    // The same, shared.
+    // A copy that shares the memory.
     fn copy(&self) -> Result<Shared, AllocError>
         ensures { IfOk result (λ other. other ≡ self.now) }
     {
@@ -292,28 +291,28 @@ impl Shared {
         Ok(Shared { held })
     }
 
-    // Whether the same is known.
+    // Whether both know the same.
     fn is_same(&self, other: &Shared) -> bool
         ensures { IsTrue result → self.now ≡ other.now }
     {
         self.known().is_same(other.known())
     }
 
-    // Whether it is the same as one that is not shared. Nearly all others are told by their fingerprint alone.
+    // Whether both know the same. Nearly all that differ are told apart by their fingerprints.
     fn is_alike(&self, other: &Printed) -> bool
         ensures { IsTrue result → self.now ≡ other.now }
     {
         self.held.print == other.print && self.known().is_same(&other.known)
     }
 
-    // Whether it has this, where that is known.
+    // Whether the component has this value, if that is known.
     fn tells(&self, own: &Own) -> Option<bool>
         ensures { TellsOne self.now own.now result }
     {
         self.known().tells(own)
     }
 
-    // One of this knowledge: an equal one of those that were made last, or else one that is kept with them.
+    // Shares equal knowledge among what was made recently, or else allocates this and keeps it there.
     fn found(alloc: Global, printed: Printed, made: &mut Made<Shared>) -> Result<Shared, AllocError>
         ensures { IfOk result (λ shared. shared ≡ printed) }
     {
@@ -330,7 +329,7 @@ impl Shared {
         Ok(own)
     }
 
-    // One of this knowledge. Where many states are kept, an equal one of those that were made last.
+    // Puts knowledge into shared memory. While many states are kept, it shares equal knowledge that was made recently.
     fn made(memory: Memory<'_>, printed: Printed) -> Result<Shared, AllocError>
         ensures { IfOk result (λ shared. shared ≡ printed) }
     {
@@ -346,7 +345,7 @@ impl Shared {
         Ok(shared)
     }
 
-    // One of this knowledge, shared with the one that was made last where that is equal.
+    // Puts knowledge into shared memory, or shares what was made last if that is equal.
     fn shared(
         memory: Memory<'_>,
         known: Knowledge,
@@ -367,7 +366,7 @@ impl Shared {
         Ok(made)
     }
 
-    // The one that was made last, where it is this one, which has this too.
+    // What was made last, if that is this knowledge after learning `own`.
     fn learnt_last(
         &self,
         own: &Own,
@@ -388,7 +387,7 @@ impl Shared {
         Ok(Some(same))
     }
 
-    // One that has this.
+    // This knowledge after learning a value.
     fn with(&self, memory: Memory<'_>, component: usize, own: &Own) -> Result<Shared, AllocError>
         ensures { IfOk result (λ other. other ≡ learnt self.now own.now) }
     {
@@ -400,7 +399,7 @@ impl Shared {
         Shared::shared(memory, known, last)
     }
 
-    // It has this. Others that share the knowledge keep it.
+    // Learns that the component has this value. Copies that share the knowledge keep it as it was.
     fn learn(&mut self, memory: Memory<'_>, component: usize, own: &Own) -> Result<(), AllocError>
         ensures { OnOk result (self.new ≡ learnt self.old own.now) }
     {
@@ -408,7 +407,7 @@ impl Shared {
         Ok(())
     }
 
-    // One that has it not.
+    // This knowledge with a value ruled out.
     fn without(&self, memory: Memory<'_>, component: usize, own: &Own) -> Result<Shared, AllocError>
         ensures { IfOk result (λ other. other ≡ excluded self.now own.now) }
     {
@@ -417,7 +416,7 @@ impl Shared {
     }
 }
 
-// A fingerprint of all: equal where the same is known.
+// The fingerprint of what is known of all components.
 fn print_of(all: &[Shared]) -> u64 {
     let mut print = 0;
     for known in all {
@@ -434,7 +433,7 @@ impl Each {
         Each { all, print }
     }
 
-    // A component has this. Others that share the knowledge keep it.
+    // Learns that a component has this value. Copies that share its knowledge keep it as it was.
     fn learn(&mut self, memory: Memory<'_>, component: usize, own: &Own) -> Result<(), AllocError>
         requires { component < length self.now }
         ensures { OnOk result (self.new ≡ learnt_at self.old component own.now) }
@@ -446,7 +445,7 @@ impl Each {
 }
 
 impl Facts {
-    // That of each component.
+    // The facts made of what is known of each component.
     fn of(alloc: Global, all: Vec<Shared>) -> Result<Facts, AllocError>
         ensures { IfOk result (λ facts. facts ≡ all.items) }
     {
@@ -454,7 +453,7 @@ impl Facts {
         Ok(Facts { held })
     }
 
-    /// Nothing is known of so many components.
+    /// Creates facts that say nothing about `count` components.
     pub(crate) fn unknown(alloc: Global, count: u32) -> Result<Facts, AllocError>
         ensures { IfOk result (λ facts. facts ≡ nothing_known count) }
     {
@@ -466,7 +465,7 @@ impl Facts {
         Facts::of(alloc, held)
     }
 
-    /// The same, shared.
+    /// A copy that shares the memory.
     pub(crate) fn copy(&self) -> Result<Facts, AllocError>
         ensures { IfOk result (λ other. other ≡ self.now) }
     {
@@ -474,7 +473,7 @@ impl Facts {
         Ok(Facts { held })
     }
 
-    // The knowledge of each component, in a list of its own.
+    // What is known of each component, in a new list.
     fn copied(&self, alloc: Global) -> Result<Vec<Shared>, AllocError>
         ensures { IfOk result (λ other. other.items ≡ self.now) }
     {
@@ -485,7 +484,7 @@ impl Facts {
         Ok(held)
     }
 
-    /// Whether the same is known.
+    /// Whether both know the same.
     pub(crate) fn is_same(&self, other: &Facts) -> bool
         ensures { IsTrue result → self.now ≡ other.now }
     {
@@ -503,12 +502,12 @@ impl Facts {
         true
     }
 
-    /// A fingerprint: equal where the same is known.
+    /// A fingerprint. Equal facts have equal ones.
     pub(crate) fn fingerprint(&self) -> u64 {
         self.held.print
     }
 
-    /// What a comparison costs: how many values are left out.
+    /// The cost of a comparison: how many values are ruled out.
     pub(crate) fn cost(&self) -> u64 {
         let mut cost: u64 = 0;
         for known in self.as_slice() {
@@ -517,14 +516,14 @@ impl Facts {
         cost
     }
 
-    /// The knowledge of each component, lent.
+    /// What is known of each component.
     pub(crate) fn as_slice(&self) -> &[Shared]
         ensures { result.now ≡ self.now }
     {
         &self.held.all
     }
 
-    // A copy that differs at one component.
+    // A copy that knows something else of one component.
     fn with(&self, alloc: Global, component: usize, known: Shared) -> Result<Facts, AllocError>
         requires { component < length self.now }
         ensures { IfOk result (λ other. other ≡ slice_set self.now component known) }
@@ -534,7 +533,7 @@ impl Facts {
         Facts::of(alloc, held)
     }
 
-    // A component has this. Others that share the knowledge keep it.
+    // Learns that a component has this value. Copies that share the facts keep them as they were.
     fn learn_at(
         &mut self,
         memory: Memory<'_>,
@@ -555,7 +554,7 @@ impl Facts {
         }
     }
 
-    /// Whether a component may have something of its own. These are then the facts where it has.
+    /// Whether a component may have this value. If so, these become the facts under which it has.
     pub(crate) fn learn(
         &mut self,
         memory: Memory<'_>,
@@ -578,7 +577,7 @@ impl Facts {
         }
     }
 
-    /// Whether a component has something of its own. A component of which there is no identity has nothing.
+    /// Splits the facts by whether a component has this value. A component without an identity has none.
     pub(crate) fn fork(
         &self,
         memory: Memory<'_>,

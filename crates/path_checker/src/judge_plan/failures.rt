@@ -1,4 +1,4 @@
-//! The failed conditions that are kept. One that nothing goes on from is dropped where it comes to be.
+//! The failed conditions that are kept. A failure that nothing goes on from is never stored.
 
 ghost use Rattle.std.specs.Prelude.{◌≡◌, false, [], ◌∷◌, ◌++◌, IsTrue, OnOk, IfOk};
 ghost use Rattle.path_checker.specs.Exploring.{Failures as TheFailures, keeps, after_stops};
@@ -13,7 +13,7 @@ use crate::judge_plan::merged::settled;
 use std::alloc::{AllocError, Global};
 use std::marker::Model;
 
-/// Failed conditions, and which more of them are kept: those with soft failure, and those without.
+/// Failed conditions, and which further ones to keep: those with soft failure, those without, or both.
 #[derive(Drop)]
 pub(crate) struct Failures<'a> {
     pub list: Vec<Stopped<'a>>,
@@ -28,7 +28,7 @@ impl<'a> Model for Failures<'a> {
 }
 
 impl<'a> Failures<'a> {
-    /// None so far.
+    /// No failures yet. Those with soft failure are kept if `soft` is set, and those without if `hard` is.
     pub(crate) fn none(alloc: Global, soft: bool, hard: bool) -> Failures<'a>
         ensures { result ≡ record { items = []; soft = soft; hard = hard } }
     {
@@ -39,21 +39,21 @@ impl<'a> Failures<'a> {
         }
     }
 
-    /// None so far, of which the same are kept.
+    /// No failures yet, with the same choice of which to keep.
     pub(crate) fn none_like(&self, alloc: Global) -> Failures<'a>
         ensures { result ≡ record { items = []; soft = self.now.soft; hard = self.now.hard } }
     {
         Failures::none(alloc, self.soft, self.hard)
     }
 
-    /// Whether a failed condition of a sequence with this soft failure is kept.
+    /// Whether a condition that fails under this soft failure is kept.
     pub(crate) fn keeps(&self, soft_failure: bool) -> bool
         ensures { result ≡ keeps self.now soft_failure }
     {
         if soft_failure { self.soft } else { self.hard }
     }
 
-    /// Whether no more failed condition is kept.
+    /// Whether no further failure is kept.
     pub(crate) fn keeps_none(&self) -> bool
         ensures soft { IsTrue result → self.now.soft ≡ false }
         ensures hard { IsTrue result → self.now.hard ≡ false }
@@ -61,7 +61,7 @@ impl<'a> Failures<'a> {
         !self.soft && !self.hard
     }
 
-    /// One more, where it is kept.
+    /// Adds a failure, if it is to be kept.
     pub(crate) fn add(&mut self, stop: Stopped<'a>) -> Result<(), AllocError>
         ensures { OnOk result (self.new ≡ after_stops self.old (stop.entry ∷ [])) }
     {
@@ -71,7 +71,7 @@ impl<'a> Failures<'a> {
         Ok(())
     }
 
-    /// Those and others, which were kept as these are. Takes no memory where there are none of those.
+    /// Appends failures that were kept by the same choice. Does not allocate if there were none before.
     pub(crate) fn join(&mut self, others: Failures<'a>) -> Result<(), AllocError>
         ensures { OnOk result
             (self.new
@@ -90,7 +90,7 @@ impl<'a> Failures<'a> {
         Ok(())
     }
 
-    /// These, or some that stand for all once they are twice as many as were left the last time.
+    /// Merges the failures once there are at least twice as many as the last merge left. `left` holds that number.
     pub(crate) fn settled(
         self,
         memory: Memory<'a>,
@@ -107,7 +107,7 @@ impl<'a> Failures<'a> {
     }
 }
 
-// The end of a state by a failed condition.
+// Turns a state into the failure that ends it.
 fn failed_at<'a>(k: Kept<'a>, place: u64, ended: Ended) -> Stopped<'a>
     ensures { result ≡ stopped_after k.entry ended place }
 {
@@ -120,7 +120,7 @@ fn failed_at<'a>(k: Kept<'a>, place: u64, ended: Ended) -> Stopped<'a>
     }
 }
 
-/// The end by a failed condition.
+/// Ends a state in a failed condition.
 pub(crate) fn stop<'a>(
     k: Kept<'a>,
     place: u64,
@@ -132,7 +132,7 @@ pub(crate) fn stop<'a>(
     failed.add(failed_at(k, place, ended))
 }
 
-/// The end by a failed condition, of a state that may go on too.
+/// Ends a copy of a state in a failed condition, since the state itself may go on too.
 pub(crate) fn stop_also<'a>(
     memory: Memory<'a>,
     k: &Kept<'a>,
@@ -148,7 +148,7 @@ pub(crate) fn stop_also<'a>(
     Ok(())
 }
 
-/// The same under other facts.
+/// Ends a copy of a state in a failed condition, under other facts.
 pub(crate) fn stop_knowing<'a>(
     memory: Memory<'a>,
     k: &Kept<'a>,

@@ -1,4 +1,4 @@
-//! Fingerprints: equal for equal states, and mostly different for others.
+//! Fingerprints: equal states have equal ones, and different states mostly have different ones.
 
 use suit_params::Param;
 
@@ -8,7 +8,7 @@ pub(crate) fn mixed(print: u64, number: u64) -> u64 {
     product ^ (product >> 32)
 }
 
-/// The fingerprint of bytes.
+/// The fingerprint of a byte slice.
 pub(crate) fn of_bytes(bytes: &[u8]) -> u64 {
     let mut print = 1;
     let mut left = bytes;
@@ -22,7 +22,7 @@ pub(crate) fn of_bytes(bytes: &[u8]) -> u64 {
     print
 }
 
-/// The fingerprint of a parameter, by its length alone if it is long.
+/// The fingerprint of a parameter. Contents, URIs and invoke arguments count by their length alone.
 pub(crate) fn of_param(param: Option<&Param>) -> u64 {
     match param {
         Some(Param::Vendor(id)) => of_bytes(&id[..]),

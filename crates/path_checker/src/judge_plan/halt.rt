@@ -8,7 +8,7 @@ use crate::judge_plan::memory::Memory;
 use std::alloc::{AllocError, AllocFailed};
 use std::marker::Model;
 
-/// A state whose last event is an invoke that is not covered, in memory of its own: what may end early stays small.
+/// A state whose last event is an uncovered invoke. It is boxed, so that `Halt` is small.
 #[derive(Drop)]
 pub(crate) struct Uncovered<'a> {
     held: Box<Kept<'a>>,
@@ -23,7 +23,7 @@ impl<'a> Model for Uncovered<'a> {
 }
 
 impl<'a> Uncovered<'a> {
-    /// The same as a state.
+    /// Boxes a copy of a state.
     pub(crate) fn copy(memory: Memory<'a>, k: &Kept<'a>) -> Result<Uncovered<'a>, AllocError>
         ensures { IfOk result (λ uncovered. uncovered ≡ k.now) }
     {
@@ -32,7 +32,7 @@ impl<'a> Uncovered<'a> {
         Ok(Uncovered { held })
     }
 
-    /// The state.
+    /// Takes the state out of its box.
     pub(crate) fn into_kept(self) -> Kept<'a>
         ensures { result ≡ self.entry }
     {

@@ -1,4 +1,4 @@
-//! Events of a path, lent from the procedure.
+//! Events of a path, which borrow from the procedure.
 
 ghost use Rattle.std.specs.Prelude.{◌≡◌};
 ghost use Rattle.std.specs.Option.{option_copied};
@@ -7,7 +7,7 @@ use crate::judge_plan::matches::Match;
 use suit_commands::TestKind;
 use suit_params::Digest;
 
-/// An event of a path, whose digest is that of the procedure. An override is told apart.
+/// An event of a path, with its digest borrowed from the procedure. Overrides are recorded separately.
 #[derive(Clone, Copy)]
 pub(crate) enum Happened<'a> {
     Tried {
@@ -30,7 +30,7 @@ pub(crate) enum Happened<'a> {
         component: u32,
         own: &'a Match<'a>,
     },
-    /// An invoke that none covers.
+    /// An invoke that no match covers.
     Uncovered {
         component: u32,
         digest: Option<&'a Digest>,
@@ -41,7 +41,7 @@ pub(crate) enum Happened<'a> {
     },
 }
 
-/// How a failed condition ended a sequence: by an event, or as a try each of which each branch had failed before.
+/// How a sequence failed: by a condition, or by a try each whose branches had all failed.
 #[derive(Clone, Copy)]
 pub(crate) enum Ended {
     Tried { component: u32, kind: TestKind },
@@ -49,7 +49,7 @@ pub(crate) enum Ended {
     Exhausted,
 }
 
-/// The digest, in memory of its own.
+/// Copies the digest.
 pub(crate) fn copied(digest: Option<&Digest>) -> Option<Digest>
     ensures { result ≡ option_copied digest.entry }
 {

@@ -7,7 +7,7 @@ ghost use Rattle.path_model.specs.declared.event.Event.{Event as TheEvent};
 ghost use Rattle.path_model.specs.declared.event.Event.TheVariants.{Failed, Wrote};
 ghost use Rattle.suit_commands.specs.View.{sequence_tree};
 ghost use Rattle.path_checker.specs.Happening.{event_of, after_end, sets_at, sequence_sets, told_by};
-ghost use Rattle.path_checker.specs.Matches.{match_of};
+ghost use Rattle.path_checker.specs.Matches.{stated_by, match_of};
 ghost use Rattle.path_checker.specs.Selecting.{components_of};
 ghost use Rattle.path_checker.specs.Standing.{StandsAfter};
 
@@ -17,12 +17,13 @@ use crate::judge_plan::memory::Memory;
 use crate::judge_plan::past::Past;
 use crate::judge_plan::selected::Components;
 use crate::judge_plan::standing::StandingMatches;
+use crate::judge_plan::stated::Stated;
 use crate::judge_plan::trace::Told;
 use path_model::Events;
 use std::alloc::{AllocError, Global};
 use std::marker::Model;
 use suit_commands::Step;
-use suit_params::{Digest, ParamList};
+use suit_params::ParamList;
 
 /// The events that led to a state, and the matches that stand after them.
 #[derive(Drop)]
@@ -44,7 +45,7 @@ impl<'a> Model for History<'a> {
     ghost invariant = { λ a. Stands a.standing a.past };
 }
 
-// The matches that stand after one more event.
+// Updates the matches that stand, after an event.
 fn stand_after<'a>(
     memory: Memory<'a>,
     standing: &mut StandingMatches<'a>,
@@ -64,7 +65,7 @@ fn stand_after<'a>(
 }
 
 impl<'a> History<'a> {
-    /// Nothing has happened. Takes no memory.
+    /// No events and no matches. Does not allocate.
     pub(crate) fn new(alloc: Global) -> History<'a>
         ensures { result ≡ [] }
     {
@@ -74,7 +75,7 @@ impl<'a> History<'a> {
         }
     }
 
-    /// The same.
+    /// A copy that shares the events and the matches.
     pub(crate) fn copy(&self, memory: Memory<'a>) -> Result<History<'a>, AllocError>
         ensures { IfOk result (λ history. history ≡ self.now) }
     {
@@ -83,7 +84,7 @@ impl<'a> History<'a> {
         Ok(History { past, standing })
     }
 
-    /// The same. The next events are in memory of its own.
+    /// The same history, which keeps its next events in memory of its own.
     pub(crate) fn set_apart(self, alloc: Global) -> History<'a>
         ensures { result ≡ self.entry }
     {
@@ -93,21 +94,21 @@ impl<'a> History<'a> {
         }
     }
 
-    /// The same. From now on no copy is made, until `end`.
+    /// Announces that the state is not copied until `end`.
     pub(crate) fn begin(&mut self)
         ensures { self.new ≡ self.old }
     {
         self.past.begin();
     }
 
-    /// The same. Copies are made again.
+    /// Ends what `begin` announced: the state may be copied again.
     pub(crate) fn end(&mut self, memory: Memory<'a>) -> Result<(), AllocError>
         ensures { self.new ≡ self.old }
     {
         self.past.end(memory)
     }
 
-    /// The same, in memory that all states share.
+    /// The same history, with its events in memory that states share.
     pub(crate) fn shared(self, memory: Memory<'a>) -> Result<History<'a>, AllocError>
         ensures { IfOk result (λ history. history ≡ self.entry) }
     {
@@ -118,7 +119,7 @@ impl<'a> History<'a> {
         })
     }
 
-    /// One event more. Where memory runs out, none is left.
+    /// Adds an event. If memory runs out, the history may be left empty.
     pub(crate) fn add(&mut self, memory: Memory<'a>, event: Happened<'a>) -> Result<(), AllocError>
         ensures { OnOk result (self.new ≡ self.old ++ event_of event.entry ∷ []) }
     {
@@ -134,7 +135,7 @@ impl<'a> History<'a> {
         }
     }
 
-    /// The events of an override at some components more. They end no match.
+    /// Adds the events of an override at some components. These end no match.
     pub(crate) fn add_sets(
         &mut self,
         memory: Memory<'a>,
@@ -149,7 +150,7 @@ impl<'a> History<'a> {
         Ok(())
     }
 
-    /// The events of a swap more: both components are written.
+    /// Adds the events of a swap, which writes to both components.
     pub(crate) fn add_swap(
         &mut self,
         memory: Memory<'a>,
@@ -165,7 +166,7 @@ impl<'a> History<'a> {
         Ok(())
     }
 
-    /// The events of overrides at the same components more. They end no match.
+    /// Adds the events of several overrides in a row. These end no match.
     pub(crate) fn add_told(
         &mut self,
         memory: Memory<'a>,
@@ -184,7 +185,7 @@ impl<'a> History<'a> {
         Ok(())
     }
 
-    // An event more, and a failure at a place.
+    // Adds an event, and a failure at a place.
     fn add_failure(
         &mut self,
         memory: Memory<'a>,
@@ -198,7 +199,7 @@ impl<'a> History<'a> {
         self.add(memory, Happened::Failed { place })
     }
 
-    /// The events of a failed condition at a place more.
+    /// Adds the events of a failed condition at a place.
     pub(crate) fn with_end(
         self,
         memory: Memory<'a>,
@@ -221,54 +222,53 @@ impl<'a> History<'a> {
         Ok(history)
     }
 
-    /// A match for an invoke at a place: the one told there last, or one that stands. Where none does, it is made.
+    /// A match for an invoke at a place: the last one there, one that stands, or else a new one.
     pub(crate) fn invoked(
         &self,
         memory: Memory<'a>,
         place: u64,
         component: u32,
-        digest: &'a Digest,
-        size: Option<u64>,
+        stated: Stated<'a>,
     ) -> Result<&'a Match<'a>, AllocError>
-        ensures { IfOk result (λ own. match_of own.now ≡ (digest.now, size)) }
+        ensures { IfOk result (λ own. match_of own.now ≡ stated_by stated.entry) }
     {
-        if let Some(last) = Match::told_last(memory, place, component, digest, size) {
+        if let Some(last) = Match::told_last(memory, place, component, stated) {
             return Ok(last);
         }
-        let wanted = Match::new(digest, size);
+        let wanted = Match::new(stated);
         if let Some(own) = self.standing.found(memory, component, &wanted) {
             memory.keep_told(place, component, own)?;
             return Ok(own);
         }
-        Match::unsearched(memory, digest, size)
+        Match::unsearched(memory, stated)
     }
 
-    /// Whether a component stands as matched so.
+    /// Whether this match of a component stands.
     pub(crate) fn has_matched(&self, memory: Memory<'_>, component: u32, own: &Match<'_>) -> bool
         ensures { IsTrue result
-            ↔ HasMatched self.now component own.now.digest.now own.now.size }
+            ↔ HasMatched self.now component (match_of own.now).0 (match_of own.now).1 }
     {
         self.standing.has(memory, component, own)
     }
 
-    /// Whether the same matches stand.
+    /// Whether the same matches stand in both.
     pub(crate) fn same_matches(&self, other: &History<'a>) -> bool
         ensures { IsTrue result → SameMatches self.now other.now }
     {
         self.standing.is_same(&other.standing)
     }
 
-    /// A fingerprint: equal where the same matches stand.
+    /// A fingerprint. If the same matches stand, it is the same, unless memory runs out.
     pub(crate) fn fingerprint(&self) -> u64 {
         self.standing.fingerprint()
     }
 
-    /// What a comparison of the matches costs.
+    /// The cost of comparing the matches.
     pub(crate) fn cost(&self) -> u64 {
         self.standing.cost()
     }
 
-    /// The events, in memory of their own.
+    /// All events in order, in memory of their own.
     pub(crate) fn told(&self, alloc: Global) -> Result<Events, AllocError>
         ensures { IfOk result (λ events. events ≡ self.now) }
     {

@@ -5,6 +5,7 @@ ghost use Rattle.std.specs.Option.{option_copied};
 ghost use Rattle.suit_params.specs.declared.param.ParamKey.TheVariants.{Content, Uri, Source};
 ghost use Rattle.suit_params.specs.ParamKeys.{key_of};
 ghost use Rattle.suit_params.specs.InForce.{rank, held_at, none_in_force, in_force, overridden, identifier_of, number_of, bytes_of, digest_in, size_in};
+ghost use Rattle.path_checker.specs.Matches.{IsStated};
 ghost use Rattle.path_checker.specs.Rows.{together, overridden_row, AreKeyed};
 ghost use Rattle.path_checker.specs.Wanting.{wanted_by};
 
@@ -13,18 +14,19 @@ use crate::judge_plan::fingerprint::{mixed, of_param};
 use crate::judge_plan::made::Made;
 use crate::judge_plan::memory::{Memory, WAYS};
 use crate::judge_plan::same_param::same_param;
+use crate::judge_plan::stated::Stated;
 use path_model::overriding_laws;
 use std::alloc::{AllocError, Global};
 use std::cell::Cell;
 use std::marker::Model;
 use std::rc::Rc;
 use suit_commands::TestKind;
-use suit_params::{Digest, Param, ParamKey, ParamList, identifier_of, number_of, rank};
+use suit_params::{Param, ParamKey, ParamList, identifier_of, number_of, rank};
 
-// How many components there is room for.
+// How many components there can be.
 const ROWS: usize = 8;
 
-/// A component's parameters in force, by the rank of their keys, and their fingerprint, or 0 where none was made.
+/// The parameters in force for a component, by the ranks of their keys, and a fingerprint, or 0 before it is computed.
 #[derive(Drop)]
 pub(crate) struct Cells<'a> {
     params: [Option<&'a Param>; 12],
@@ -42,7 +44,7 @@ impl<'a> Model for Cells<'a> {
     ghost view = { λ a. lent_params a.params };
 }
 
-/// A component's parameters in force. Copies share them until one is overridden.
+/// The parameters in force for a component. Copies share them until some are overridden.
 #[derive(Drop)]
 pub(crate) struct Row<'a> {
     held: Rc<Cells<'a>>,
@@ -57,12 +59,12 @@ impl<'a> Model for Row<'a> {
     ghost view = { λ a. a.held.value };
 }
 
-/// The parameters in force, each under its own key. Copies share them, and where one component's are overridden, those of
-/// the others.
+/// The parameters in force for all components. Copies share all of them, or all but those of the components in which
+/// they differ.
 #[derive(Drop)]
 pub(crate) struct InForce<'a> {
     held: Rc<Vec<Row<'a>>>,
-    // Whether some were overridden since they were last shared with those of other states.
+    // Whether some were overridden since they were last shared with other states.
     fresh: bool,
 }
 
@@ -72,6 +74,7 @@ impl<'a> Model for InForce<'a> {
 
     ghost Value = { List (Option Param) };
 
+    ghost use Rattle.path_checker.specs.Matches.{IsStated};
     ghost use Rattle.path_checker.specs.Rows.{together, AreKeyed};
 
     ghost view = { λ a. together a.held.value.items };
@@ -100,7 +103,7 @@ fn source_of(param: &Param) -> Option<u32>
     }
 }
 
-// How many bytes a parameter in force has as its value.
+// How many bytes the value of a parameter has.
 fn bytes_in(param: Option<&Param>) -> usize {
     match param {
         Some(Param::Content(bytes)) => bytes.len(),
@@ -121,7 +124,7 @@ impl<'a> Cells<'a> {
         }
     }
 
-    // The same, in memory of its own.
+    // A copy in memory of its own.
     fn copy(&self) -> Cells<'a>
         ensures { result ≡ self.now }
     {
@@ -138,7 +141,7 @@ impl<'a> Cells<'a> {
         params[rank(key)]
     }
 
-    // Replaces the value of one key.
+    // Sets the value of a key.
     fn set(&mut self, param: &'a Param)
         ensures { self.new ≡ slice_set self.old (rank (key_of param.now)) (Some param.now) }
     {
@@ -146,7 +149,7 @@ impl<'a> Cells<'a> {
         params[rank(param.key())] = Some(param);
     }
 
-    // Overrides them by those of a list, in their order.
+    // Overrides them by the parameters of a list, in order.
     fn override_with(&mut self, list: &'a ParamList)
         ensures { self.new ≡ overridden_row self.old list.now }
     {
@@ -156,7 +159,7 @@ impl<'a> Cells<'a> {
         self.print = Cell::new(0);
     }
 
-    // Whether the same is in force.
+    // Whether the same is in force in both.
     fn is_same(&self, other: &Cells<'_>) -> bool
         ensures { IsTrue result → self.now ≡ other.now }
     {
@@ -171,7 +174,7 @@ impl<'a> Cells<'a> {
         true
     }
 
-    // How many bytes are in force.
+    // How many bytes the values have.
     fn bytes(&self) -> usize {
         let content = bytes_in(self.get(ParamKey::Content));
         let uri = bytes_in(self.get(ParamKey::Uri));
@@ -179,7 +182,7 @@ impl<'a> Cells<'a> {
         content.saturating_add(uri).saturating_add(args)
     }
 
-    // Not 0, unless by chance.
+    // A fingerprint. Not 0, except by chance.
     fn fingerprint(&self) -> u64 {
         let mut print = 1;
         for key in &[
@@ -209,7 +212,7 @@ impl<'a> Row<'a> {
         Ok(Row { held })
     }
 
-    // The same, shared.
+    // A copy that shares the memory.
     fn copy(&self) -> Result<Row<'a>, AllocError>
         ensures { IfOk result (λ row. row ≡ self.now) }
     {
@@ -223,7 +226,7 @@ impl<'a> Row<'a> {
         self.held.get(key)
     }
 
-    // Overrides them in place, or in a copy where they are shared.
+    // Overrides them by the parameters of a list, in a copy if they are shared.
     fn override_with(&mut self, alloc: Global, list: &'a ParamList) -> Result<(), AllocError>
         ensures exact { OnOk result (self.new ≡ overridden_row self.old list.now) }
         ensures err { OnErr result (self.new ≡ self.old) }
@@ -242,12 +245,12 @@ impl<'a> Row<'a> {
         }
     }
 
-    // Whether it was made anew, and no other state shares it.
+    // Whether it is new and not shared.
     fn is_fresh(&self) -> bool {
         self.held.print.get() == 0 && Rc::strong_count(&self.held) == 1
     }
 
-    // An equal one of those that were made last with a fingerprint.
+    // An equal row, if one with this fingerprint was made recently.
     fn found(
         &self,
         memory: Memory<'a>,
@@ -267,7 +270,7 @@ impl<'a> Row<'a> {
         Ok(None)
     }
 
-    // The same, shared. Where it was made anew, an equal one of those that were made last, or else this one, which is kept with them.
+    // A copy that shares the memory. A new row shares that of an equal one made recently, or is kept for others.
     fn shared(
         &self,
         memory: Memory<'a>,
@@ -288,7 +291,7 @@ impl<'a> Row<'a> {
         self.copy()
     }
 
-    // Whether the same is in force.
+    // Whether the same is in force in both.
     fn is_same(&self, other: &Row<'_>) -> bool
         ensures { IsTrue result → self.now ≡ other.now }
     {
@@ -299,7 +302,7 @@ impl<'a> Row<'a> {
         self.held.bytes()
     }
 
-    // A fingerprint, made once.
+    // The fingerprint, computed once.
     fn fingerprint(&self) -> u64 {
         let made = self.held.print.get();
         if made != 0 {
@@ -311,7 +314,7 @@ impl<'a> Row<'a> {
     }
 }
 
-// Eight rows with nothing in force. They are shared.
+// Eight rows in which nothing is in force. They share their memory.
 fn empty_rows<'a>(alloc: Global) -> Result<Vec<Row<'a>>, AllocError>
     ensures { IfOk result (λ rows. rows.items ≡ replicate 8 (replicate 12 None)) }
 {
@@ -323,7 +326,7 @@ fn empty_rows<'a>(alloc: Global) -> Result<Vec<Row<'a>>, AllocError>
     Ok(rows)
 }
 
-// The same rows, shared, in a list of its own.
+// A new list that shares the rows.
 fn copied<'a>(alloc: Global, rows: &[Row<'a>]) -> Result<Vec<Row<'a>>, AllocError>
     ensures { IfOk result (λ other. other.items ≡ rows.now) }
 {
@@ -334,7 +337,7 @@ fn copied<'a>(alloc: Global, rows: &[Row<'a>]) -> Result<Vec<Row<'a>>, AllocErro
     Ok(all)
 }
 
-// Overrides one in place, or in a copy where they are shared.
+// Overrides the parameters of a component, in a copy if they are shared.
 fn override_shared<'a>(
     held: &mut Rc<Vec<Row<'a>>>,
     alloc: Global,
@@ -358,7 +361,7 @@ fn override_shared<'a>(
     }
 }
 
-// The same rows, shared, in a list of its own: equal ones of those that were made last.
+// A new list that shares the rows, or equal ones that were made recently.
 fn shared_rows<'a>(
     memory: Memory<'a>,
     made: &mut Made<Row<'a>>,
@@ -374,7 +377,7 @@ fn shared_rows<'a>(
     Ok(all)
 }
 
-// Where no other state shares the list, shares each row that was made anew with an equal one of those that were made last.
+// Shares each new row with an equal one that was made recently, unless other states share the list.
 fn share_rows<'a>(
     held: &mut Rc<Vec<Row<'a>>>,
     memory: Memory<'a>,
@@ -400,7 +403,7 @@ impl<'a> InForce<'a> {
         Ok(InForce { held, fresh: false })
     }
 
-    /// The same, shared.
+    /// A copy that shares the memory.
     pub(crate) fn copy(&self) -> Result<InForce<'a>, AllocError>
         ensures { IfOk result (λ params. params ≡ self.now) }
     {
@@ -428,7 +431,7 @@ impl<'a> InForce<'a> {
         rows[index].get(key)
     }
 
-    /// Overrides a component's parameters by those of a list, in their order.
+    /// Overrides the parameters of a component by those of a list, in order.
     pub(crate) fn override_with(
         &mut self,
         alloc: Global,
@@ -448,7 +451,7 @@ impl<'a> InForce<'a> {
         self.fresh
     }
 
-    // Shares them with those that were made last, where they are equal.
+    // Shares all with what was made last, if that is equal.
     fn share_all(&mut self, memory: Memory<'a>) -> Result<(), AllocError>
         ensures { OnOk result (self.new ≡ self.old) }
     {
@@ -465,7 +468,7 @@ impl<'a> InForce<'a> {
         Ok(())
     }
 
-    // Shares those of each component with equal ones of those that were made last.
+    // Shares the rows with equal ones that were made recently.
     fn share_each(&mut self, memory: Memory<'a>, made: &mut Made<Row<'a>>) -> Result<(), AllocError>
         ensures { self.new ≡ self.old }
     {
@@ -473,7 +476,7 @@ impl<'a> InForce<'a> {
         share_rows(&mut self.held, memory, made)
     }
 
-    /// Shares what was made anew with what was made last, where that is equal: those of each component, and then all.
+    /// Shares what is new with equal parameters that were made recently: first each row, and then all.
     pub(crate) fn share(&mut self, memory: Memory<'a>) -> Result<(), AllocError>
         ensures { OnOk result (self.new ≡ self.old) }
     {
@@ -486,7 +489,7 @@ impl<'a> InForce<'a> {
         self.share_all(memory)
     }
 
-    /// How many bytes are in force.
+    /// How many bytes the values have.
     pub(crate) fn bytes(&self) -> usize {
         let mut all: usize = 0;
         for row in self.rows() {
@@ -495,12 +498,12 @@ impl<'a> InForce<'a> {
         all
     }
 
-    /// What a comparison costs: 1 for 64 bytes.
+    /// The cost of a comparison: 1 for each 64 bytes.
     pub(crate) fn cost(&self) -> u64 {
         self.bytes() as u64 / 64
     }
 
-    /// Whether the same is in force.
+    /// Whether the same is in force in both.
     pub(crate) fn is_same(&self, other: &InForce<'_>) -> bool
         ensures { IsTrue result → self.now ≡ other.now }
     {
@@ -518,7 +521,7 @@ impl<'a> InForce<'a> {
         true
     }
 
-    /// A fingerprint: equal where the same is in force. Looks at so many components only.
+    /// A fingerprint of the first `count` components. Where the same is in force, it is the same.
     pub(crate) fn fingerprint(&self, count: usize) -> u64 {
         let rows = self.rows();
         let mut print = 0;
@@ -530,15 +533,14 @@ impl<'a> InForce<'a> {
         print
     }
 
-    /// The digest of a component.
-    pub(crate) fn digest(&self, component: u32) -> Option<&'a Digest>
+    /// The digest of a component and its size, if there is a digest.
+    pub(crate) fn stated(&self, component: u32) -> Option<Stated<'a>>
         requires room { component < 8 }
-        ensures { option_copied result ≡ digest_in self.now component }
+        ensures { IsStated (digest_in self.now component) (size_in self.now component) result }
     {
-        match self.get(component, ParamKey::Digest) {
-            Some(Param::Digest(digest)) => Some(digest),
-            _ => None,
-        }
+        let digest = self.get(component, ParamKey::Digest);
+        let size = self.get(component, ParamKey::Size);
+        Stated::by(digest, size)
     }
 
     /// The size of a component.

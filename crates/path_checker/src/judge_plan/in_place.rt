@@ -1,5 +1,5 @@
-//! Conditions, and commands in which none is met, done in a state in place, where a failed condition ends the procedure: one state at
-//! most follows. Where no condition is met, no sequence ends by one.
+//! Runs commands on a state in place: conditions whose failure need not be kept, and commands that run no condition. At
+//! most one state follows.
 
 ghost use Rattle.std.specs.Prelude.{◌<◌, [], ◌∷◌, IfOk, IfErr};
 ghost use Rattle.suit_commands.specs.View.{command_tree, sequence_tree};
@@ -21,10 +21,10 @@ use crate::judge_plan::overriding::{overrides_from, overrides_in};
 use crate::judge_plan::selected::Selected;
 use suit_commands::{Branches, Command, Sequence, Step};
 
-// More overrides than these, one after another, are told as one.
+// Longer runs of overrides than this are recorded together.
 const FEW: usize = 3;
 
-// Does commands one after another.
+// Runs commands in order. Returns whether the procedure goes on.
 #[cycle(in_place)]
 fn steps_in<'a>(
     memory: Memory<'a>,
@@ -59,7 +59,7 @@ fn steps_in<'a>(
     Ok(true)
 }
 
-/// Does a command: whether the procedure goes on. The state is then the one after it.
+/// Runs a command. Returns whether the procedure goes on, and then leaves the state after the command.
 #[cycle(in_place)]
 pub(crate) fn command_in<'a>(
     memory: Memory<'a>,
@@ -85,7 +85,7 @@ pub(crate) fn command_in<'a>(
     each_in(memory, count, step, k)
 }
 
-// Does a command at each selected component.
+// Runs a command at each selected component.
 #[cycle(in_place)]
 fn each_in<'a>(
     memory: Memory<'a>,
@@ -125,7 +125,7 @@ fn each_in<'a>(
     Ok(true)
 }
 
-// Does a command at one component.
+// Runs a command at one component.
 #[cycle(in_place)]
 fn one_in<'a>(
     memory: Memory<'a>,
@@ -158,7 +158,7 @@ fn one_in<'a>(
     }
 }
 
-// Runs an inner sequence. Where it completes, the selection and soft failure go back.
+// Runs an inner sequence, and then restores the selection and soft failure.
 #[cycle(in_place)]
 fn inside<'a>(
     memory: Memory<'a>,
@@ -187,7 +187,7 @@ fn inside<'a>(
     Ok(goes_on)
 }
 
-// Tries the first branch, after which no other is run.
+// Runs a try each: its first branch alone, since no other one runs after it.
 #[cycle(in_place)]
 fn try_in<'a>(
     memory: Memory<'a>,
@@ -214,7 +214,7 @@ fn try_in<'a>(
     }
 }
 
-// Does commands one after another. Parameters that they made anew are then shared, where many states are kept.
+// Runs commands in order. While many states are kept, parameters that this changed are then shared.
 fn all_in<'a>(
     memory: Memory<'a>,
     count: u32,
@@ -238,7 +238,7 @@ fn all_in<'a>(
     Ok(goes_on)
 }
 
-/// Does commands one after another in each of the states.
+/// Runs commands in order, from each of the states.
 pub(crate) fn steps_in_all<'a>(
     memory: Memory<'a>,
     count: u32,

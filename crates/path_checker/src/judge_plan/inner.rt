@@ -42,7 +42,7 @@ pub(crate) fn outer_of<'a>(k: &Kept<'a>) -> Result<Outer<'a>, AllocError>
     })
 }
 
-/// One state alone.
+/// A list of one state.
 pub(crate) fn only<'a>(alloc: Global, k: Kept<'a>) -> Result<Vec<Kept<'a>>, AllocError>
     ensures { IfOk result (λ v. v.items ≡ k.entry ∷ []) }
 {
@@ -51,7 +51,7 @@ pub(crate) fn only<'a>(alloc: Global, k: Kept<'a>) -> Result<Vec<Kept<'a>>, Allo
     Ok(one)
 }
 
-/// One state alone, with its events in memory that all states share.
+/// A list of one state, whose events are put into memory that all states share.
 pub(crate) fn only_shared<'a>(memory: Memory<'a>, k: Kept<'a>) -> Result<Vec<Kept<'a>>, AllocError>
     ensures { IfOk result (λ v. v.items ≡ k.entry ∷ []) }
 {
@@ -59,7 +59,8 @@ pub(crate) fn only_shared<'a>(memory: Memory<'a>, k: Kept<'a>) -> Result<Vec<Kep
     only(memory.alloc, k)
 }
 
-/// None of an inner sequence so far. Those with soft failure are kept where something goes on from them.
+/// No failures of an inner sequence yet. Soft ones are kept if something goes on from them, and all are kept if the
+/// outer sequence keeps the failure that they lead to.
 pub(crate) fn none_inside<'a>(
     alloc: Global,
     goes_on: bool,
@@ -83,7 +84,7 @@ pub(crate) fn enter<'a>(component: u32, soft_failure: bool, k: Kept<'a>) -> Kept
     k
 }
 
-// The state in which a branch begins.
+// The state in which a branch begins. Its parameters are those from before the try each.
 fn enter_branch<'a>(component: u32, outer: &Outer<'a>, k: Kept<'a>) -> Result<Kept<'a>, AllocError>
     requires room { component < 8 }
     ensures { IfOk result (λ to. to ≡ entered outer.now component true k.entry) }
@@ -115,7 +116,7 @@ pub(crate) fn enter_all<'a>(
     Ok(inside)
 }
 
-// Leaves an inner sequence that completed, in place: the parameters stay.
+// Leaves a completed inner sequence: restores the selection and soft failure, and keeps the parameters.
 fn leave_in<'a>(outer: &Outer<'a>, k: &mut Kept<'a>)
     ensures { k.new ≡ left outer.now k.old }
 {
@@ -123,7 +124,7 @@ fn leave_in<'a>(outer: &Outer<'a>, k: &mut Kept<'a>)
     k.soft_failure = outer.soft_failure;
 }
 
-// The same in each of the states.
+// Leaves a completed inner sequence in each of the states.
 fn left_all<'a>(outer: &Outer<'a>, from: Vec<Kept<'a>>) -> Vec<Kept<'a>>
     ensures { result.items ≡ all_left outer.now from.entry.items }
 {
@@ -134,7 +135,7 @@ fn left_all<'a>(outer: &Outer<'a>, from: Vec<Kept<'a>>) -> Vec<Kept<'a>>
     now
 }
 
-// Adds states to others. Where there are no others, that takes no memory.
+// Appends states. Does not allocate if `next` is empty.
 fn add_all<'a>(states: Vec<Kept<'a>>, next: &mut Vec<Kept<'a>>) -> Result<(), AllocError>
     ensures { OnOk result (next.new.items ≡ next.old.items ++ states.entry.items) }
 {
@@ -147,7 +148,7 @@ fn add_all<'a>(states: Vec<Kept<'a>>, next: &mut Vec<Kept<'a>>) -> Result<(), Al
     Ok(())
 }
 
-// Leaves an inner sequence that completed in these states.
+// Leaves a completed inner sequence, and appends its states to `next`.
 fn leave_all<'a>(
     outer: &Outer<'a>,
     done: Vec<Kept<'a>>,
@@ -159,7 +160,7 @@ fn leave_all<'a>(
     add_all(left, next)
 }
 
-/// Leaves a branch that completed, in one state: the selection and the soft failure go back.
+/// Leaves a completed branch: restores the selection and soft failure, and keeps the parameters.
 pub(crate) fn leave_one<'a>(
     selection: &Selected<'a>,
     soft_failure: bool,
@@ -175,7 +176,7 @@ pub(crate) fn leave_one<'a>(
     done
 }
 
-// Leaves one that failed softly: everything is as it was.
+// Leaves an inner sequence that failed softly: restores parameters, selection and soft failure.
 fn resume<'a>(
     memory: Memory<'a>,
     outer: &Outer<'a>,
@@ -194,7 +195,7 @@ fn resume<'a>(
     })
 }
 
-// A failure of an inner sequence: a soft one goes on, and another one is that of the outer one.
+// Passes on a failure of an inner sequence: a soft one goes on as a state, and any other fails the outer sequence.
 fn split_one<'a>(
     memory: Memory<'a>,
     outer: &Outer<'a>,
@@ -218,7 +219,7 @@ fn split_one<'a>(
     Ok(())
 }
 
-// The failures of an inner sequence: soft ones go on, and the others are those of the outer one.
+// Passes on the failures of an inner sequence: soft ones go on as states, and the others fail the outer sequence.
 fn split<'a>(
     memory: Memory<'a>,
     outer: &Outer<'a>,
@@ -237,7 +238,8 @@ fn split<'a>(
     Ok(())
 }
 
-/// Leaves an inner sequence. Its soft failures go on.
+/// Leaves an inner sequence. States in which it completed or failed softly go on, and other failures fail the outer
+/// sequence.
 pub(crate) fn leave<'a>(
     memory: Memory<'a>,
     outer: &Outer<'a>,
@@ -257,7 +259,7 @@ pub(crate) fn leave<'a>(
     split(memory, outer, stops, next, failed)
 }
 
-/// Leaves a branch: the states in which the next one begins, after the soft failures of this one.
+/// Leaves a branch. Returns the states after its soft failures, in which the next branch is tried.
 pub(crate) fn leave_branch<'a>(
     memory: Memory<'a>,
     outer: &Outer<'a>,
@@ -278,7 +280,7 @@ pub(crate) fn leave_branch<'a>(
     Ok(rest)
 }
 
-// The failure where no branch completed.
+// The failure of a try each in which no branch completed.
 fn exhaust_one<'a>(place: u64, outer: &Outer<'a>, k: Kept<'a>) -> Stopped<'a>
     ensures { result ≡ exhausted_at outer.now place k.entry }
 {
@@ -291,7 +293,7 @@ fn exhaust_one<'a>(place: u64, outer: &Outer<'a>, k: Kept<'a>) -> Stopped<'a>
     }
 }
 
-/// No branch completed.
+/// Fails a try each in which no branch completed, in each of the states.
 pub(crate) fn exhaust<'a>(
     place: u64,
     outer: &Outer<'a>,

@@ -1,4 +1,4 @@
-//! Whether an invoke stands in a sequence.
+//! Whether a sequence holds an invoke.
 
 ghost use Rattle.std.specs.Prelude.{◌↔◌, IsTrue};
 ghost use Rattle.suit_commands.specs.Plans.{lent_tree};
@@ -7,7 +7,7 @@ ghost use Rattle.path_checker.specs.Invoking.{Invokes, CommandInvokes, BranchesI
 
 use suit_commands::{ActKind, Branches, Command, Sequence};
 
-/// Whether an invoke stands in the sequence, or in one inside it.
+/// Whether the sequence, or one inside it, holds an invoke.
 #[cycle(invoking)]
 pub(crate) fn has_invoke(sequence: &Sequence) -> bool
     ensures { IsTrue result ↔ Invokes sequence.now }
@@ -49,7 +49,7 @@ fn branches_invoke(branches: &Branches) -> bool
     false
 }
 
-/// Whether an invoke stands in a sequence, which may be absent.
+/// Whether a sequence, which may be absent, holds an invoke.
 pub(crate) fn lent_invokes(lent: Option<&Sequence>) -> bool
     ensures { IsTrue result ↔ Invokes (lent_tree lent.entry) }
 {

@@ -17,7 +17,7 @@ use crate::judge_plan::selected::Selected;
 use std::alloc::{AllocError, Global};
 use std::marker::Model;
 
-/// A state, the knowledge of the identities there, and its history.
+/// A state, what is known of the identities in it, and the history that led to it.
 #[derive(Drop)]
 pub(crate) struct Kept<'a> {
     pub facts: Facts,
@@ -33,7 +33,7 @@ impl<'a> Model for Kept<'a> {
     ghost view = { λ a. kept_of a.facts a.history (state_of a.params a.selection a.soft_failure) };
 }
 
-/// A failed condition at a place, with the history before its end, and the soft failure that its sequence held.
+/// A failed condition: the history before it, how and where it failed, and the soft failure of its sequence.
 #[derive(Drop)]
 pub(crate) struct Stopped<'a> {
     pub facts: Facts,
@@ -54,18 +54,18 @@ impl<'a> Model for Stopped<'a> {
     } };
 }
 
-/// A state or a failure, of which one may stand for another.
+/// A state or a failure. Of those that are the same, one stands for all.
 pub(crate) trait Standing: Drop {
     ghost same: { Self → Self → Type 0 };
 
-    /// Whether they are the same, except for the place and how they were reached.
+    /// Whether both are the same, apart from their place and from how they were reached.
     fn is_same(&self, other: &Self) -> bool
         ensures { IsTrue result → same self.now other.now };
 
-    /// A fingerprint: equal where they are the same.
+    /// A fingerprint. Those that are the same have equal ones, unless memory runs out.
     fn fingerprint(&self) -> u64;
 
-    /// What a comparison costs: 1 for each match, and for 64 bytes of parameters.
+    /// An estimate of what a comparison costs: 1 for each match, each value ruled out, and each 64 bytes of parameters.
     fn cost(&self) -> u64;
 }
 
@@ -126,7 +126,7 @@ impl<'a> Standing for Kept<'a> {
 }
 
 impl<'a> Kept<'a> {
-    /// The same.
+    /// A copy of the state.
     pub(crate) fn copy(&self, memory: Memory<'a>) -> Result<Kept<'a>, AllocError>
         ensures { IfOk result (λ k. k ≡ self.now) }
     {
@@ -134,7 +134,7 @@ impl<'a> Kept<'a> {
         self.copy_with(memory, facts)
     }
 
-    /// The same under other facts.
+    /// A copy of the state with other facts.
     pub(crate) fn copy_with(&self, memory: Memory<'a>, facts: Facts) -> Result<Kept<'a>, AllocError>
         ensures { IfOk result (λ k. k ≡ knowing self.now facts) }
     {
@@ -149,7 +149,7 @@ impl<'a> Kept<'a> {
         })
     }
 
-    /// The same. The next events are in memory of its own.
+    /// The same state, which keeps its next events in memory of its own.
     pub(crate) fn set_apart(self, alloc: Global) -> Kept<'a>
         ensures { result ≡ self.entry }
     {
@@ -158,21 +158,21 @@ impl<'a> Kept<'a> {
         k
     }
 
-    /// The same. From now on no copy is made, until `end`.
+    /// Announces that the state is not copied until `end`.
     pub(crate) fn begin(&mut self)
         ensures { self.new ≡ self.old }
     {
         self.history.begin();
     }
 
-    /// The same. Copies are made again.
+    /// Ends what `begin` announced: the state may be copied again.
     pub(crate) fn end(&mut self, memory: Memory<'a>) -> Result<(), AllocError>
         ensures { self.new ≡ self.old }
     {
         self.history.end(memory)
     }
 
-    /// The same, with its events in memory that all states share.
+    /// The same state, with its events in memory that all states share.
     pub(crate) fn shared(self, memory: Memory<'a>) -> Result<Kept<'a>, AllocError>
         ensures { IfOk result (λ k. k ≡ self.entry) }
     {
@@ -182,7 +182,7 @@ impl<'a> Kept<'a> {
     }
 }
 
-/// One more event.
+/// Adds an event to the history of a state.
 pub(crate) fn happens<'a>(
     memory: Memory<'a>,
     k: &mut Kept<'a>,
@@ -193,7 +193,7 @@ pub(crate) fn happens<'a>(
     k.history.add(memory, event)
 }
 
-/// Keeps the state after one more event.
+/// Adds an event to the history of a state, and the state to `next`.
 pub(crate) fn pass<'a>(
     memory: Memory<'a>,
     k: Kept<'a>,
@@ -209,7 +209,7 @@ pub(crate) fn pass<'a>(
     Ok(())
 }
 
-/// Adds a state, if it goes on.
+/// Adds a state to `next` if the procedure goes on.
 pub(crate) fn add_if<'a>(
     goes_on: bool,
     k: Kept<'a>,

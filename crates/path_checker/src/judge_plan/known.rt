@@ -1,4 +1,4 @@
-//! Knowledge of one value: an identifier or a slot number.
+//! What is known of one value: an identifier or a slot number.
 
 ghost use Rattle.std.specs.Prelude.{◌≡◌, ◌↔◌, IsTrue, IfOk, OnOk, Some, None, []};
 ghost use Rattle.path_checker.specs.Exploring.{In};
@@ -12,11 +12,11 @@ use std::marker::Model;
 
 /// A value that may be known: an identifier or a slot number.
 pub(crate) trait Fact: Copy {
-    /// Whether it is the other.
+    /// Whether both are equal.
     fn is(&self, other: &Self) -> bool
         ensures { IsTrue result ↔ self.now ≡ other.now };
 
-    /// A fingerprint: equal where they are the same.
+    /// A fingerprint. Equal values have equal ones.
     fn fingerprint(&self) -> u64;
 }
 
@@ -40,7 +40,7 @@ impl Fact for u64 {
     }
 }
 
-/// A value, which may be absent: the one that it is, if that is known, or those that it is not.
+/// What is known of a value that may be absent: the value, or else the values that are ruled out.
 #[derive(Debug, Drop)]
 pub(crate) struct Known<T> {
     value: Option<T>,
@@ -55,7 +55,7 @@ impl<T> Model for Known<T> {
     ghost view = { λ a. (a.value, a.others.items) };
 }
 
-/// Whether a value is one of these.
+/// Whether `value` is one of `values`.
 pub(crate) fn is_among<T: Fact>(values: &[T], value: &T) -> bool
     ensures { IsTrue result ↔ In value.now values.now }
 {
@@ -94,7 +94,7 @@ fn same_values<T: Fact>(ones: &[T], others: &[T]) -> bool
 }
 
 impl<T: Fact> Known<T> {
-    /// Nothing is known. Takes no memory.
+    /// Creates knowledge of nothing. Does not allocate.
     pub(crate) fn new(alloc: Global) -> Known<T>
         ensures { result ≡ (None, []) }
     {
@@ -104,7 +104,7 @@ impl<T: Fact> Known<T> {
         }
     }
 
-    /// It is this one. Takes no memory.
+    /// Creates knowledge of this value. Does not allocate.
     pub(crate) fn of(alloc: Global, value: T) -> Known<T>
         ensures { result ≡ (Some value, []) }
     {
@@ -114,7 +114,7 @@ impl<T: Fact> Known<T> {
         }
     }
 
-    /// It is not this one either.
+    /// Rules one more value out.
     pub(crate) fn exclude(&mut self, other: T) -> Result<(), AllocError>
         ensures { OnOk result (self.new ≡ leaving_out self.old other) }
     {
@@ -132,14 +132,14 @@ impl<T: Fact> Known<T> {
         })
     }
 
-    /// Whether the same is known.
+    /// Whether both know the same.
     pub(crate) fn is_same(&self, other: &Known<T>) -> bool
         ensures { IsTrue result → self.now ≡ other.now }
     {
         same_value(&self.value, &other.value) && same_values(&self.others, &other.others)
     }
 
-    /// Whether it is this value, and no other is left out.
+    /// Whether the value is known to be this one, and none is ruled out.
     pub(crate) fn is_just(&self, value: &T) -> bool
         ensures { IsTrue result → self.now ≡ (Some value.now, []) }
     {
@@ -149,7 +149,7 @@ impl<T: Fact> Known<T> {
         }
     }
 
-    /// A fingerprint: equal where the same is known.
+    /// A fingerprint. Equal knowledge has equal ones.
     pub(crate) fn fingerprint(&self) -> u64 {
         if let Some(value) = &self.value {
             return value.fingerprint();
@@ -161,12 +161,12 @@ impl<T: Fact> Known<T> {
         print
     }
 
-    /// How many values it is not.
+    /// How many values are ruled out.
     pub(crate) fn others(&self) -> u64 {
         self.others.len() as u64
     }
 
-    /// Whether it is this one, where that is known.
+    /// Whether it is the wanted value, if that is known.
     pub(crate) fn tells(&self, wanted: &T) -> Option<bool>
         ensures { Tells self.now wanted.now result }
     {
@@ -184,7 +184,7 @@ impl<T: Fact> Known<T> {
 }
 
 impl Known<[u8; 16]> {
-    /// The identifier, where it is known, and otherwise none.
+    /// An identifier that is possible: the one that is known, or else none.
     pub(crate) fn identifier(&self) -> Option<[u8; 16]>
         ensures { Agrees self.now result }
     {
@@ -193,7 +193,7 @@ impl Known<[u8; 16]> {
 }
 
 impl Known<u64> {
-    /// The slot, where it is known, and otherwise the least number that it may be. It is never absent.
+    /// A slot that is possible: the one that is known, or else the least number that is not ruled out.
     pub(crate) fn slot(&self) -> u64
         ensures { Agrees self.now (Some result) }
     {

@@ -1,43 +1,38 @@
-//! How matches are lent by a judgement: each once, as far as it is found.
+//! How a judgement allocates matches: one for all equal ones, as far as these are found.
 
 ghost use Rattle.std.specs.Prelude.{◌≡◌, IfSome, IfOk};
-ghost use Rattle.path_checker.specs.Matches.{match_of};
+ghost use Rattle.path_checker.specs.Matches.{stated_by, match_of};
 
 use crate::judge_plan::mark::number_of;
 use crate::judge_plan::matches::{Held, Match};
 use crate::judge_plan::memory::Memory;
+use crate::judge_plan::stated::Stated;
 use std::alloc::AllocError;
-use suit_params::Digest;
 
-// As many matches as are searched among all at most. Then they are forgotten, and equal ones may be made anew.
+// Once as many were made after a search, all are forgotten, and equal ones may be made again.
 const MANY: usize = 32_768;
 
 impl<'a> Match<'a> {
-    /// In memory that all states share, where an equal one may have been made before.
+    /// A match in memory that states share, made without a search for an equal one.
     pub(crate) fn unsearched(
         memory: Memory<'a>,
-        digest: &'a Digest,
-        size: Option<u64>,
+        stated: Stated<'a>,
     ) -> Result<&'a Match<'a>, AllocError>
-        ensures { IfOk result (λ own. match_of own.now ≡ (digest.now, size)) }
+        ensures { IfOk result (λ own. match_of own.now ≡ stated_by stated.entry) }
     {
-        let own = Match::new(digest, size);
+        let own = Match::new(stated);
         let lent = memory.last.events.try_alloc(own)?;
         Ok(lent)
     }
 
-    // In memory that all states share, where it is made once.
-    fn made(
-        memory: Memory<'a>,
-        digest: &'a Digest,
-        size: Option<u64>,
-    ) -> Result<&'a Match<'a>, AllocError>
-        ensures { IfOk result (λ own. match_of own.now ≡ (digest.now, size)) }
+    // A match in memory that states share: an equal one, if a search finds it, or a new one.
+    fn made(memory: Memory<'a>, stated: Stated<'a>) -> Result<&'a Match<'a>, AllocError>
+        ensures { IfOk result (λ own. match_of own.now ≡ stated_by stated.entry) }
     {
         if memory.skips_search() {
-            return Match::unsearched(memory, digest, size);
+            return Match::unsearched(memory, stated);
         }
-        let own = Match::new(digest, size);
+        let own = Match::new(stated);
         let mut all = memory.last.matches.replace(Held::none());
         if all.len() >= MANY {
             memory.pause_searches(all.len());
@@ -48,64 +43,58 @@ impl<'a> Match<'a> {
         Ok(lent)
     }
 
-    /// The one that the command at the place told last at the component, if it is of this digest and this size.
+    /// The last match of the command at a place at a component, if it is for this digest and this size.
     pub(crate) fn told_last(
         memory: Memory<'a>,
         place: u64,
         component: u32,
-        digest: &Digest,
-        size: Option<u64>,
+        stated: Stated<'_>,
     ) -> Option<&'a Match<'a>>
-        ensures { IfSome result (λ own. match_of own.now ≡ (digest.now, size)) }
+        ensures { IfSome result (λ own. match_of own.now ≡ stated_by stated.entry) }
     {
         let last = memory.told_at(place, component)?;
-        if last.is_of(digest, size) {
+        if last.is_of(stated) {
             return Some(last);
         }
         None
     }
 
-    /// In memory that all states share. The one that the command at the place told last at the component is looked at first.
+    /// A match in memory that states share. The last one of the command at the place is tried first.
     pub(crate) fn lent(
         memory: Memory<'a>,
         place: u64,
         component: u32,
-        digest: &'a Digest,
-        size: Option<u64>,
+        stated: Stated<'a>,
     ) -> Result<&'a Match<'a>, AllocError>
-        ensures { IfOk result (λ own. match_of own.now ≡ (digest.now, size)) }
+        ensures { IfOk result (λ own. match_of own.now ≡ stated_by stated.entry) }
     {
-        if let Some(last) = Match::told_last(memory, place, component, digest, size) {
+        if let Some(last) = Match::told_last(memory, place, component, stated) {
             return Ok(last);
         }
         let own = if memory.passes_used() {
-            Match::unsearched(memory, digest, size)?
+            Match::unsearched(memory, stated)?
         } else {
-            Match::used(memory, digest, size)?
+            Match::used(memory, stated)?
         };
         memory.keep_told(place, component, own)?;
         Ok(own)
     }
 
-    // In memory that all states share. Those used last with its number are looked at first.
+    // A match in memory that states share. Recently used ones are tried first.
     #[inline(never)]
-    fn used(
-        memory: Memory<'a>,
-        digest: &'a Digest,
-        size: Option<u64>,
-    ) -> Result<&'a Match<'a>, AllocError>
-        ensures { IfOk result (λ own. match_of own.now ≡ (digest.now, size)) }
+    fn used(memory: Memory<'a>, stated: Stated<'a>) -> Result<&'a Match<'a>, AllocError>
+        ensures { IfOk result (λ own. match_of own.now ≡ stated_by stated.entry) }
     {
-        let number = number_of(digest, size);
+        let number = number_of(stated);
         for second in &[false, true] {
             if let Some(last) = memory.used(number, *second) {
-                if last.is_of(digest, size) {
+                if last.is_of(stated) {
                     memory.count_reused();
                     return Ok(last);
                 }
             }
         }
-        let own = Match::made(memory, digest, size)?;
+        let own = Match::made(memory, stated)?;
         memory.keep_used(number, own)?;
         Ok(own)
     }

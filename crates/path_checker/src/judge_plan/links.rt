@@ -1,5 +1,6 @@
-//! How a match is found among many: by some bits of its fingerprint, and from there as in a search tree. Matches are linked when one
-//! is searched, many at once. A link that is missing or wrong costs time alone, since each match that is found is looked at.
+//! An index of many matches: a hash table by some bits of their fingerprints, whose buckets are binary trees by the
+//! others. Matches are linked lazily, all at once when one is searched. A missing or wrong link only costs time, since
+//! each match that is found is compared.
 
 ghost use Rattle.std.specs.Prelude.{◌≡◌, IsTrue, IfSome, None};
 ghost use Rattle.path_checker.specs.Exploring.{In};
@@ -8,24 +9,24 @@ ghost use Rattle.path_checker.specs.Matches.{match_of, all_lent};
 use crate::judge_plan::matches::{Lent, Match};
 use std::alloc::{AllocError, Global};
 
-// How far down a match is searched.
+// How deep a tree is searched.
 const DEEPEST: u32 = 576;
 
-// How many matches there are for each of the first links, at most.
+// With this many matches to a bucket on average, the index is built anew with more buckets.
 const CROWD: usize = 4;
 
-// Where the next match is: one more than its index, or 0 where there is none, and eight bits of its fingerprint.
+// A link to a match: its index plus 1, or 0 for none, in the low 24 bits, and eight bits of its fingerprint above.
 #[derive(Clone, Copy)]
 struct Link {
     bits: u32,
 }
 
-// Some bits of a fingerprint.
+// The bits of a fingerprint that choose the bucket.
 fn middle_of(print: u64) -> usize {
     ((print >> 32) & 0x00ff_ffff) as usize
 }
 
-// Eight other bits of it, which tell a match from most others.
+// Eight other bits of a fingerprint, which tell most matches apart.
 fn tag_of(print: u64) -> u32 {
     (print >> 56) as u32
 }
@@ -35,7 +36,7 @@ impl Link {
         Link { bits: 0 }
     }
 
-    // To an index below 2^24 - 1; others are not linked.
+    // A link to an index below 2^24 - 1. Others are not linked.
     fn to(index: usize, print: u64) -> Link {
         match u32::try_from(index) {
             Ok(index) if index < 0x00ff_ffff => Link {
@@ -57,7 +58,7 @@ impl Link {
     }
 }
 
-// The links to the two matches below one.
+// The links to the two children of a match.
 #[derive(Clone, Copy)]
 struct Below {
     zero: Link,
@@ -73,18 +74,18 @@ impl Below {
     }
 }
 
-// Where a match is linked.
+// Where a match is linked, or would be.
 #[derive(Clone, Copy)]
 enum Place {
-    // By a first link.
+    // At the root of a bucket.
     First,
-    // Below the match at an index, on either side.
+    // Below the match at an index, on the side that `one` says.
     Below { at: usize, one: bool },
-    // Nowhere.
+    // Nowhere: the search gave up.
     Lost,
 }
 
-/// Where a search ended: at the index of the wanted match, or where that would be linked.
+/// The end of a search: the index of the wanted match, or the place where it would be linked.
 #[derive(Clone, Copy)]
 pub(crate) struct Ended {
     pub found: Option<usize>,
@@ -92,7 +93,7 @@ pub(crate) struct Ended {
 }
 
 impl Ended {
-    /// Nowhere.
+    /// A search that gave up.
     pub(crate) fn lost() -> Ended
         ensures { result.found ≡ None }
     {
@@ -103,13 +104,13 @@ impl Ended {
     }
 }
 
-/// The links to the first matches of a list: to as many as are linked yet.
+/// An index over the first matches of a list. The others are linked when one is searched.
 #[derive(Drop)]
 pub(crate) struct Links {
-    // None, or a power of two.
+    // The roots of the buckets: none, or a power of two.
     first: Vec<Link>,
     below: Vec<Below>,
-    // The fingerprints of all that are linked, each once, added up.
+    // The sum of the fingerprints of all linked matches, in which equal matches count once.
     sum: u64,
 }
 
@@ -124,7 +125,7 @@ pub(crate) fn is_at(all: &[Lent<'_>], at: usize, wanted: &Match<'_>) -> bool
     lent.own.is_alike(wanted)
 }
 
-/// Where a match stands in a list, by looking through it.
+/// The index of a match in a list, by a linear search.
 pub(crate) fn index_in(all: &[Lent<'_>], wanted: &Match<'_>) -> Option<usize>
     ensures { IfSome result (λ at. In (match_of wanted.now) (all_lent all.now)) }
 {
@@ -136,12 +137,12 @@ pub(crate) fn index_in(all: &[Lent<'_>], wanted: &Match<'_>) -> Option<usize>
     None
 }
 
-// For how many more there is to be room in a list that is full: an eighth, since many states hold lists.
+// How much room to reserve in a list. A full one grows by an eighth, since many states hold lists.
 fn room_after(len: usize, capacity: usize) -> usize {
     if len < capacity { 0 } else { len / 8 + 1 }
 }
 
-// First links to no match: more than a count.
+// Empty buckets, more than `count` of them, but at most 2^24.
 fn first_links(alloc: Global, count: usize) -> Result<Vec<Link>, AllocError> {
     let mut first = Vec::new(alloc);
     first.push(Link::none())?;
@@ -156,7 +157,7 @@ fn first_links(alloc: Global, count: usize) -> Result<Vec<Link>, AllocError> {
 }
 
 impl Links {
-    /// To none. Takes no memory.
+    /// An empty index without buckets. Does not allocate.
     pub(crate) fn none(alloc: Global) -> Links {
         Links {
             first: Vec::new(alloc),
@@ -165,7 +166,7 @@ impl Links {
         }
     }
 
-    /// To none yet, with room for so many.
+    /// An empty index with room for `count` matches.
     pub(crate) fn for_many(alloc: Global, count: usize) -> Result<Links, AllocError> {
         Ok(Links {
             first: first_links(alloc, count)?,
@@ -174,7 +175,7 @@ impl Links {
         })
     }
 
-    /// The same, in memory of their own.
+    /// A copy in memory of its own.
     pub(crate) fn copy(&self, alloc: Global) -> Result<Links, AllocError> {
         Ok(Links {
             first: Vec::from_slice(alloc, &self.first)?,
@@ -183,17 +184,17 @@ impl Links {
         })
     }
 
-    /// The fingerprints of all that are linked, each once, added up.
+    /// The sum of the fingerprints of all linked matches, in which equal matches count once.
     pub(crate) fn sum(&self) -> u64 {
         self.sum
     }
 
-    // Which of the first links leads to a match with such a fingerprint.
+    // The bucket for a fingerprint.
     fn first_of(&self, print: u64) -> usize {
         middle_of(print) & self.first.len().wrapping_sub(1)
     }
 
-    // The first link on the way to it.
+    // The root of the bucket for a fingerprint.
     fn first_link(&self, print: u64) -> Link {
         match self.first.get(self.first_of(print)) {
             Some(link) => *link,
@@ -201,7 +202,7 @@ impl Links {
         }
     }
 
-    // The link to the one below another.
+    // The link to a child of the match at an index.
     fn next(&self, at: usize, one: bool) -> Link {
         match self.below.get(at) {
             Some(below) if one => below.one,
@@ -210,7 +211,7 @@ impl Links {
         }
     }
 
-    /// Searches a match among those of the list that are linked.
+    /// Searches for a match among those that are linked.
     pub(crate) fn search(&self, all: &[Lent<'_>], wanted: &Match<'_>) -> Ended
         ensures { IfSome result.found (λ at. In (match_of wanted.now) (all_lent all.now)) }
     {
@@ -234,7 +235,7 @@ impl Links {
         Ended::lost()
     }
 
-    // Leads to a match from a place.
+    // Sets the link at a place.
     fn lead(&mut self, print: u64, place: Place, link: Link) {
         match place {
             Place::First => {
@@ -256,7 +257,8 @@ impl Links {
         }
     }
 
-    /// Links the next match of a list where a search for it ended. One that was found is there twice, and is linked once.
+    /// Links the next match of the list at the place where a search for it ended. If the search found one, this match
+    /// is there twice, and only the first is linked.
     pub(crate) fn link(&mut self, own: &Match<'_>, ended: Ended) -> Result<(), AllocError> {
         let print = own.print();
         let link = Link::to(self.below.len(), print);
@@ -270,7 +272,7 @@ impl Links {
         Ok(())
     }
 
-    // To none yet, where there are too few first links for so many matches.
+    // Starts anew with more buckets, if there are too few for `count` matches.
     fn widen(&mut self, alloc: Global, count: usize) -> Result<(), AllocError> {
         if count / CROWD >= self.first.len() {
             *self = Links::for_many(alloc, count)?;

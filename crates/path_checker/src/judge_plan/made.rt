@@ -1,19 +1,19 @@
-//! Values that were made last, each found by its fingerprint.
+//! A cache of values that were made recently, found by their fingerprints.
 
 use crate::judge_plan::memory::{WAYS, place_by};
 use std::alloc::{AllocError, Global};
 
-// How many are kept: a power of two.
+// How many values are kept. A power of two.
 const KEPT: usize = 1_024;
 
-/// Values that were made last, so that the next ones share the memory of those that are equal.
+/// Values that were made recently. A new one that is equal shares the memory.
 #[derive(Drop)]
 pub(crate) struct Made<T> {
     places: Vec<Option<T>>,
 }
 
 impl<T: Drop> Made<T> {
-    /// None.
+    /// An empty cache.
     pub(crate) fn none(alloc: Global) -> Result<Made<T>, AllocError> {
         let mut places = Vec::with_capacity(alloc, KEPT)?;
         for _ in 0..KEPT {
@@ -22,7 +22,7 @@ impl<T: Drop> Made<T> {
         Ok(Made { places })
     }
 
-    /// One that is kept in one of the places for a fingerprint.
+    /// The value in one of the places for a fingerprint.
     pub(crate) fn get(&self, print: u64, way: u32) -> Option<&T> {
         match self.places.get(place_by(print, way, self.places.len())) {
             Some(Some(value)) => Some(value),
@@ -30,7 +30,7 @@ impl<T: Drop> Made<T> {
         }
     }
 
-    // Which of the places for a fingerprint is free, or else the first.
+    // The first place for a fingerprint that is free, or 0 if none is.
     fn free(&self, print: u64) -> u32 {
         for way in 0..WAYS {
             if self.get(print, way).is_none() {
@@ -40,7 +40,7 @@ impl<T: Drop> Made<T> {
         0
     }
 
-    /// Keeps a value with a fingerprint.
+    /// Keeps a value. If all places for its fingerprint are taken, it replaces the one in the first.
     pub(crate) fn keep(&mut self, print: u64, value: T) {
         let place = place_by(print, self.free(print), self.places.len());
         if let Some(at) = self.places.get_mut(place) {

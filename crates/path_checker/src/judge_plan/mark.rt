@@ -1,22 +1,23 @@
-//! What tells a match: its fingerprint, once that is asked for, and before that where the match was put last. What it tells decides
-//! nothing but how soon a match is found.
+//! What a match remembers: its fingerprint once that is computed, and before that where it was last put in a list. This
+//! only decides how fast a match is found.
 
 use crate::judge_plan::fingerprint::{mixed, of_bytes};
+use crate::judge_plan::stated::Stated;
 use std::hash::{DefaultHasher, Hasher};
 use suit_params::Digest;
 
-// Which bits tell the index.
+// The index is above this many bits.
 const SHIFT: u32 = 32;
 
-/// The fingerprint, or where the match was put last, if anywhere.
+/// A fingerprint, or where a match was last put in a list.
 #[derive(Clone, Copy)]
 pub(crate) struct Mark {
-    // The last bit is that of a fingerprint.
+    // The last bit is set in a fingerprint.
     bits: u64,
 }
 
 impl Mark {
-    /// Put nowhere.
+    /// Neither a fingerprint nor a place.
     pub(crate) fn nowhere() -> Mark {
         Mark { bits: u64::MAX - 1 }
     }
@@ -26,7 +27,7 @@ impl Mark {
         Mark { bits: print | 1 }
     }
 
-    /// Put at an index among those of a component.
+    /// An index in a list of a component.
     pub(crate) fn put(component: usize, index: usize) -> Mark {
         Mark {
             bits: (index as u64) << SHIFT | (component as u64 & 0xff) << 1,
@@ -38,7 +39,7 @@ impl Mark {
         self.bits
     }
 
-    /// The fingerprint.
+    /// The fingerprint, if it is one.
     pub(crate) fn print(self) -> Option<u64> {
         if self.bits & 1 == 1 {
             Some(self.bits)
@@ -47,12 +48,12 @@ impl Mark {
         }
     }
 
-    // Whether it was put among those of a component last.
+    // Whether it is an index in a list of this component.
     fn is_at(self, component: usize) -> bool {
         self.bits & 0xffff_ffff == (component as u64 & 0xff) << 1
     }
 
-    /// Where it was put last, if that was among those of a component, and otherwise behind all.
+    /// The index, if it is one in a list of this component, and otherwise an index past any list.
     pub(crate) fn index(self, component: usize) -> usize {
         if self.is_at(component) {
             (self.bits >> SHIFT) as usize
@@ -61,33 +62,34 @@ impl Mark {
         }
     }
 
-    /// Whether no fingerprint and no place among those of another component is lost where it is put among those of a component.
+    /// Whether it may become an index in a list of this component: no fingerprint and no index for another component is
+    /// lost.
     pub(crate) fn is_free(self, component: usize) -> bool {
         self.is_at(component) || self.bits == u64::MAX - 1
     }
 
-    /// Whether a match may be another, by their fingerprints.
+    /// Whether two matches may be the same, by their fingerprints.
     pub(crate) fn may_be(self, other: Mark) -> bool {
         self.bits & other.bits & 1 == 0 || self.bits == other.bits
     }
 }
 
-/// By SipHash: no matches are easily found that have one fingerprint.
-pub(crate) fn print_of(digest: &Digest, size: Option<u64>) -> u64 {
+/// The fingerprint of a match, by SipHash: matches with the same one are hard to find.
+pub(crate) fn print_of(stated: Stated<'_>) -> u64 {
     let mut hasher = DefaultHasher::new();
-    hasher.write(digest.bytes());
-    if let Some(size) = size {
+    hasher.write(stated.digest.bytes());
+    if let Some(size) = stated.size() {
         hasher.write_u64(size);
     }
     hasher.finish()
 }
 
-/// A number that is soon found, of the whole digest. Other matches with the same one are easily made.
-pub(crate) fn number_of(digest: &Digest, size: Option<u64>) -> u64 {
-    mixed(of_bytes(digest.bytes()), size.unwrap_or(0))
+/// A quick hash of a match. Matches with the same one are easy to find.
+pub(crate) fn number_of(stated: Stated<'_>) -> u64 {
+    mixed(of_bytes(stated.digest.bytes()), stated.size().unwrap_or(0))
 }
 
-/// A bit of a digest. Behind the last one they come again.
+/// A bit of a digest. Past the last one they start over.
 pub(crate) fn bit_of(digest: &Digest, depth: u32) -> Option<bool> {
     let bytes = digest.bytes();
     let place = (depth as usize / 8).checked_rem(bytes.len())?;

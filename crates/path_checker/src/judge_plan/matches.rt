@@ -2,108 +2,105 @@
 
 ghost use Rattle.std.specs.Prelude.{◌≡◌, ◌↔◌, [], ◌∷◌, IsTrue, IfSome, IfOk, OnOk};
 ghost use Rattle.path_checker.specs.Exploring.{In};
-ghost use Rattle.path_checker.specs.Matches.{Match as TheMatch, match_of, all_lent, match_event, covered_event, SameMembers};
+ghost use Rattle.path_checker.specs.Matches.{Match as TheMatch, stated_by, match_of, all_lent, match_event, covered_event, SameMembers};
 
 use crate::judge_plan::links::{Ended, Links, index_in, is_at};
 use crate::judge_plan::mark::{Mark, bit_of, print_of};
 use crate::judge_plan::memory::Memory;
-use crate::judge_plan::same_param::same_digest;
+use crate::judge_plan::stated::Stated;
 use path_model::Event;
 use std::alloc::{AllocError, Global};
 use std::cell::Cell;
 use std::marker::Model;
 use std::rc::Rc;
-use suit_params::Digest;
 
 /// A digest and a size that a component was matched under.
 #[derive(Drop)]
 pub(crate) struct Match<'a> {
-    digest: &'a Digest,
-    size: Option<u64>,
+    stated: Stated<'a>,
     mark: Cell<Mark>,
 }
 
-/// A match that is lent.
+/// A match in a list.
 #[derive(Clone, Copy)]
 pub(crate) struct Lent<'a> {
     pub own: &'a Match<'a>,
 }
 
-// Stands for no component: all matches of a judgement.
+// Stands for all matches of a judgement, in place of a component.
 const ALL: usize = 8;
 
-// So few are looked through one by one, and each is there once.
+// A list that is no longer than this is searched one by one, and no match is in it twice.
 const FEW: usize = 16;
 
-// As soon as there are so many, those that are there twice are dropped.
+// Duplicates are removed for the first time when a list is this long.
 const FULL: usize = 256;
 
 impl<'a> Match<'a> {
-    pub(crate) fn new(digest: &'a Digest, size: Option<u64>) -> Match<'a>
-        ensures { match_of result ≡ (digest.now, size) }
+    pub(crate) fn new(stated: Stated<'a>) -> Match<'a>
+        ensures { match_of result ≡ stated_by stated.entry }
     {
         Match {
-            digest,
-            size,
+            stated,
             mark: Cell::new(Mark::nowhere()),
         }
     }
 
-    /// The event that a component matched so.
+    /// The event of a component that matched so.
     pub(crate) fn told(&self, component: u32) -> Event
         ensures { result ≡ match_event component (match_of self.now) }
     {
         Event::Matched {
             component,
-            digest: *self.digest,
-            size: self.size,
+            digest: *self.stated.digest,
+            size: self.stated.size(),
         }
     }
 
-    /// The event of an invoke of a component that it covers.
+    /// The event of an invoke that it covers.
     pub(crate) fn invoked(&self, component: u32) -> Event
         ensures { result ≡ covered_event component (match_of self.now) }
     {
         Event::Invoked {
             component,
-            digest: Some(*self.digest),
-            size: self.size,
+            digest: Some(*self.stated.digest),
+            size: self.stated.size(),
             passed: true,
         }
     }
 
-    /// Whether it is of this digest and this size.
-    pub(crate) fn is_of(&self, digest: &Digest, size: Option<u64>) -> bool
-        ensures { IsTrue result ↔ (match_of self.now ≡ (digest.now, size)) }
+    /// Whether it is for this digest and this size.
+    pub(crate) fn is_of(&self, stated: Stated<'_>) -> bool
+        ensures { IsTrue result ↔ (match_of self.now ≡ stated_by stated.entry) }
     {
-        self.size == size && same_digest(self.digest, digest)
+        self.stated.is(stated)
     }
 
-    /// Whether it is the other.
+    /// Whether both are the same.
     pub(crate) fn is(&self, other: &Match<'_>) -> bool
         ensures { IsTrue result ↔ (match_of self.now ≡ match_of other.now) }
     {
-        self.is_of(other.digest, other.size)
+        self.is_of(other.stated)
     }
 
-    /// Whether it is the other. Nearly all others are told by their fingerprint alone, where both have it.
+    /// Whether both are the same. Nearly all that differ are told apart by their fingerprints, if both have one.
     pub(crate) fn is_alike(&self, other: &Match<'_>) -> bool
         ensures { IsTrue result → match_of self.now ≡ match_of other.now }
     {
         self.mark.get().may_be(other.mark.get()) && self.is(other)
     }
 
-    /// The fingerprint, which is made when it is first asked for.
+    /// The fingerprint, computed when it is first needed.
     pub(crate) fn print(&self) -> u64 {
         if let Some(print) = self.mark.get().print() {
             return print;
         }
-        let mark = Mark::printed(print_of(self.digest, self.size));
+        let mark = Mark::printed(print_of(self.stated));
         self.mark.set(mark);
         mark.bits()
     }
 
-    // Whether it has the fingerprint from now on, and had none before.
+    // Computes the fingerprint. Returns whether there was none before.
     fn gets_print(&self) -> bool {
         if self.mark.get().print().is_some() {
             return false;
@@ -112,7 +109,7 @@ impl<'a> Match<'a> {
         true
     }
 
-    // Where it was found last among those of a component, or put last.
+    // The index at which it was last found or put in a list of a component.
     fn place(&self, memory: Memory<'_>, component: usize) -> usize {
         let mark = self.mark.get();
         match mark.print() {
@@ -121,7 +118,7 @@ impl<'a> Match<'a> {
         }
     }
 
-    // It is put at an index among those of a component.
+    // Records the index at which it is put in a list of a component.
     fn keep_place(&self, memory: Memory<'_>, component: usize, index: usize) {
         if self.mark.get().is_free(component) {
             self.mark.set(Mark::put(component, index));
@@ -130,25 +127,25 @@ impl<'a> Match<'a> {
         }
     }
 
-    /// Which way it is found at a depth: by its fingerprint, and further down by its digest.
+    /// The side of a tree on which it is at a depth: by its fingerprint, and deeper by its digest.
     pub(crate) fn goes_one(&self, print: u64, depth: u32) -> bool {
         if depth < 63 {
             return (print >> (depth + 1)) & 1 == 1;
         }
-        bit_of(self.digest, depth).unwrap_or(false)
+        bit_of(self.stated.digest, depth).unwrap_or(false)
     }
 }
 
-// Some matches. Where they are many, some may be there twice.
+// A list of matches. If it is long, some may be in it twice.
 #[derive(Drop)]
 struct Matches<'a> {
     alloc: Global,
     all: Vec<Lent<'a>>,
     links: Cell<Links>,
-    // The fingerprints of the first so many, added up.
+    // The sum of the fingerprints of the first `summed` matches.
     sum: Cell<u64>,
     summed: Cell<usize>,
-    // As soon as there are so many, those that are there twice are dropped.
+    // Duplicates are removed when the list is this long.
     full: usize,
 }
 
@@ -161,7 +158,7 @@ impl<'a> Model for Matches<'a> {
     ghost view = { λ a. all_lent a.all.items };
 }
 
-// For how many more there is to be room in a list: an eighth where it is full and long, since many states hold lists.
+// How much room to reserve in a list. A full one doubles, a long one grows by an eighth, since many states hold lists.
 fn room_after(len: usize, capacity: usize) -> usize {
     if len < capacity {
         return 0;
@@ -173,7 +170,7 @@ fn room_after(len: usize, capacity: usize) -> usize {
 }
 
 impl<'a> Matches<'a> {
-    // None.
+    // No matches.
     fn none(alloc: Global) -> Matches<'a>
         ensures { result ≡ [] }
     {
@@ -187,7 +184,7 @@ impl<'a> Matches<'a> {
         }
     }
 
-    // None, with room for so many.
+    // No matches, with room for `count` of them.
     fn for_many(alloc: Global, count: usize) -> Result<Matches<'a>, AllocError>
         ensures { IfOk result (λ held. held ≡ []) }
     {
@@ -202,7 +199,7 @@ impl<'a> Matches<'a> {
         })
     }
 
-    // The same, in memory of its own, with room for one more.
+    // A copy in memory of its own, with room for one more.
     fn copy(&self) -> Result<Matches<'a>, AllocError>
         ensures { IfOk result (λ held. held ≡ self.now) }
     {
@@ -221,7 +218,7 @@ impl<'a> Matches<'a> {
         })
     }
 
-    // Where a search for a match ends. All are linked for it; where there is no memory for that, it is not found.
+    // Searches for a match by the index, in which all are linked first. Without memory for that, it gives up.
     fn ended(&self, wanted: &Match<'_>) -> Ended
         ensures { IfSome result.found (λ at. In (match_of wanted.now) self.now) }
     {
@@ -235,7 +232,7 @@ impl<'a> Matches<'a> {
         ended
     }
 
-    // Where a match stands.
+    // The index of a match, if a search finds it.
     fn search(&self, wanted: &Match<'_>) -> Option<usize>
         ensures { IfSome result (λ at. In (match_of wanted.now) self.now) }
     {
@@ -245,7 +242,7 @@ impl<'a> Matches<'a> {
         index_in(self.all.as_slice(), wanted)
     }
 
-    // Whether a match is found.
+    // Whether a search finds a match.
     fn finds(&self, wanted: &Match<'_>) -> bool
         ensures { IsTrue result → In (match_of wanted.now) self.now }
     {
@@ -255,7 +252,7 @@ impl<'a> Matches<'a> {
         }
     }
 
-    // Whether a match stands where it was found last among those of a component, in any state.
+    // Whether a match is where it was last found in a list of this component, in any state.
     fn is_there(&self, memory: Memory<'_>, component: usize, wanted: &Match<'_>) -> bool
         ensures { IsTrue result → In (match_of wanted.now) self.now }
     {
@@ -263,7 +260,7 @@ impl<'a> Matches<'a> {
         is_at(self.all.as_slice(), at, wanted)
     }
 
-    // Searches a match among those of a component, and keeps where it is found.
+    // Searches for a match, and records where it is.
     fn search_kept(&self, memory: Memory<'_>, component: usize, wanted: &Match<'_>) -> Option<usize>
         ensures { IfSome result (λ at. In (match_of wanted.now) self.now) }
     {
@@ -274,7 +271,7 @@ impl<'a> Matches<'a> {
         found
     }
 
-    // Whether a match is found among those of a component: where it was found last, or by a search.
+    // Whether a match is found: where it was last, or by a search.
     fn finds_of(&self, memory: Memory<'_>, component: usize, wanted: &Match<'_>) -> bool
         ensures { IsTrue result → In (match_of wanted.now) self.now }
     {
@@ -290,7 +287,7 @@ impl<'a> Matches<'a> {
         }
     }
 
-    // One that is found among those of a component.
+    // The match of the list that is the wanted one, if it is found.
     fn found(
         &self,
         memory: Memory<'_>,
@@ -308,7 +305,7 @@ impl<'a> Matches<'a> {
         self.at(at, wanted)
     }
 
-    // Whether a match is known to be among those of a component. Among many it is not searched.
+    // Whether a match is known to be in the list. A long list is not searched.
     fn may_hold(&self, memory: Memory<'_>, component: usize, wanted: &Match<'_>) -> bool
         ensures { IsTrue result → In (match_of wanted.now) self.now }
     {
@@ -318,7 +315,7 @@ impl<'a> Matches<'a> {
         self.all.len() <= FEW && self.finds(wanted)
     }
 
-    // One match more.
+    // Adds a match.
     fn push(&mut self, own: &'a Match<'a>) -> Result<(), AllocError>
         ensures { OnOk result (SameMembers self.new (match_of own.now ∷ self.old)) }
     {
@@ -328,7 +325,7 @@ impl<'a> Matches<'a> {
         Ok(())
     }
 
-    // One match more, unless it is found.
+    // Adds a match, unless a search finds it.
     fn push_once(&mut self, own: &'a Match<'a>) -> Result<(), AllocError>
         ensures { OnOk result (SameMembers self.new (match_of own.now ∷ self.old)) }
     {
@@ -342,7 +339,7 @@ impl<'a> Matches<'a> {
         }
     }
 
-    // The same, each once.
+    // A copy without the duplicates that are found.
     #[inline(never)]
     fn once(&self) -> Result<Matches<'a>, AllocError>
         ensures { IfOk result (λ held. SameMembers held self.now) }
@@ -360,7 +357,7 @@ impl<'a> Matches<'a> {
         Ok(held)
     }
 
-    // Drops those that are there twice, as soon as there are so many.
+    // Removes duplicates, if the list is long enough.
     fn pack(&mut self) -> Result<(), AllocError>
         ensures { OnOk result (SameMembers self.new self.old) }
     {
@@ -372,7 +369,7 @@ impl<'a> Matches<'a> {
         Ok(())
     }
 
-    // One match more of a component, which is not searched.
+    // Adds a match without a search for it.
     fn put(
         &mut self,
         memory: Memory<'a>,
@@ -386,7 +383,7 @@ impl<'a> Matches<'a> {
         self.push(own)
     }
 
-    // The fingerprints of all, which are few, added up.
+    // The sum of all fingerprints, for a short list.
     fn few_summed(&self) -> u64 {
         let mut sum = self.sum.get();
         let from = self.summed.get().min(self.all.len());
@@ -398,7 +395,7 @@ impl<'a> Matches<'a> {
         sum
     }
 
-    // The fingerprints of all, each once, added up.
+    // The sum of all fingerprints, in which equal matches count once. 0 if memory runs out.
     fn sum(&self) -> u64 {
         if self.all.len() <= FEW {
             return self.few_summed();
@@ -427,7 +424,7 @@ impl<'a> Matches<'a> {
         None
     }
 
-    // Links the last match, where a search for it ended among the others.
+    // Links the last match where a search for it ended.
     fn link_last(&self, own: &Match<'_>, ended: Ended) -> Result<(), AllocError> {
         let mut links = self.links.replace(Links::none(self.alloc));
         let linked = links.link(own, ended);
@@ -435,7 +432,7 @@ impl<'a> Matches<'a> {
         linked
     }
 
-    // A match in memory that all states share: one of these, or one more.
+    // A match in memory that states share: one of these, or a new one, which is added.
     fn lent(&mut self, memory: Memory<'a>, own: Match<'a>) -> Result<&'a Match<'a>, AllocError>
         ensures { IfOk result (λ lent. match_of lent.now ≡ match_of own.entry) }
     {
@@ -457,7 +454,7 @@ impl<'a> Matches<'a> {
         Ok(lent)
     }
 
-    // Whether a match is anywhere among them.
+    // Whether a match is in the list, by a look at all of them.
     fn is_among(&self, wanted: &Match<'_>) -> bool
         ensures { IsTrue result ↔ In (match_of wanted.now) self.now }
     {
@@ -469,7 +466,7 @@ impl<'a> Matches<'a> {
         false
     }
 
-    // Whether each is found among the others.
+    // Whether each is found among others.
     fn is_within(&self, others: &Matches<'_>) -> bool
         ensures { IsTrue result
             → (one : TheMatch) → In one self.now → In one others.now }
@@ -483,7 +480,7 @@ impl<'a> Matches<'a> {
     }
 }
 
-// No match or one, which take no memory, or several, which copies share until one is added.
+// No match or one, which take no memory of their own, or several, which copies share until one is added.
 #[derive(Drop)]
 enum Holding<'a> {
     Nothing,
@@ -491,7 +488,7 @@ enum Holding<'a> {
     Several(Rc<Matches<'a>>),
 }
 
-/// The matches of a component, of which there may be none.
+/// The matches of a component, if there are any.
 #[derive(Drop)]
 pub(crate) struct Held<'a> {
     held: Holding<'a>,
@@ -507,7 +504,7 @@ impl<'a> Model for Held<'a> {
     ghost view = { λ a. held_matches a.held };
 }
 
-// One match of a component more, in a copy.
+// Adds a match to a copy of a shared list.
 #[inline(never)]
 fn put_apart<'a>(
     held: &mut Rc<Matches<'a>>,
@@ -523,7 +520,7 @@ fn put_apart<'a>(
     Ok(())
 }
 
-// One match of a component more, in place or in a copy where they are shared. Where it is known to be there, nothing is copied.
+// Adds a match to a list, or to a copy of it if it is shared. A match that is known to be there is not added.
 fn add_shared<'a>(
     held: &mut Rc<Matches<'a>>,
     memory: Memory<'a>,
@@ -541,7 +538,7 @@ fn add_shared<'a>(
     }
 }
 
-// Two matches.
+// A list of two matches.
 #[inline(never)]
 fn both<'a>(
     alloc: Global,
@@ -559,7 +556,7 @@ fn both<'a>(
 }
 
 impl<'a> Held<'a> {
-    /// None.
+    /// No matches.
     pub(crate) fn none() -> Held<'a>
         ensures { result ≡ [] }
     {
@@ -576,7 +573,7 @@ impl<'a> Held<'a> {
         }
     }
 
-    /// Whether there is none. May be false where there is none.
+    /// Whether there are none. May be `false` even so.
     pub(crate) fn is_none(&self) -> bool
         ensures { IsTrue result → self.now ≡ [] }
     {
@@ -586,7 +583,7 @@ impl<'a> Held<'a> {
         }
     }
 
-    /// The same, shared.
+    /// A copy that shares the matches.
     pub(crate) fn copy(&self) -> Result<Held<'a>, AllocError>
         ensures { IfOk result (λ held. held ≡ self.now) }
     {
@@ -602,7 +599,7 @@ impl<'a> Held<'a> {
         }
     }
 
-    /// The fingerprints of all, added up.
+    /// The sum of all fingerprints, in which equal matches count once.
     pub(crate) fn sum(&self) -> u64 {
         match &self.held {
             Holding::Nothing => 0,
@@ -611,7 +608,7 @@ impl<'a> Held<'a> {
         }
     }
 
-    /// How many there are.
+    /// How many there are, where duplicates count.
     pub(crate) fn len(&self) -> usize {
         match &self.held {
             Holding::Nothing => 0,
@@ -620,7 +617,7 @@ impl<'a> Held<'a> {
         }
     }
 
-    // Whether a match is found.
+    // Whether a search finds a match.
     fn finds(&self, wanted: &Match<'_>) -> bool
         ensures { IsTrue result → In (match_of wanted.now) self.now }
     {
@@ -631,7 +628,7 @@ impl<'a> Held<'a> {
         }
     }
 
-    /// Whether a match is among them, which are of a component. All are looked at only where it is not found.
+    /// Whether a match of a component is among them. Looks at all of them only if a search does not find it.
     pub(crate) fn has(&self, memory: Memory<'_>, component: usize, wanted: &Match<'_>) -> bool
         ensures { IsTrue result ↔ In (match_of wanted.now) self.now }
     {
@@ -644,7 +641,7 @@ impl<'a> Held<'a> {
         }
     }
 
-    /// One that is found among them, which are of a component.
+    /// The match of a component that is the wanted one, if it is found.
     pub(crate) fn found(
         &self,
         memory: Memory<'_>,
@@ -660,7 +657,7 @@ impl<'a> Held<'a> {
         }
     }
 
-    /// Whether each is found among the others.
+    /// Whether each is found among others.
     pub(crate) fn is_within(&self, others: &Held<'_>) -> bool
         ensures { IsTrue result
             → (one : TheMatch) → In one self.now → In one others.now }
@@ -675,7 +672,7 @@ impl<'a> Held<'a> {
         }
     }
 
-    /// A match in memory that all states share: one of these, which no others share, or one more.
+    /// A match in memory that states share: one of these, or a new one, which is added.
     pub(crate) fn lent(
         &mut self,
         memory: Memory<'a>,
@@ -701,7 +698,7 @@ impl<'a> Held<'a> {
         Ok(lent)
     }
 
-    /// One match more, where they are of a component.
+    /// Adds a match of a component.
     pub(crate) fn add(
         &mut self,
         memory: Memory<'a>,

@@ -1,4 +1,4 @@
-//! The allocators of a judgement, and how much it compares.
+//! The allocators of a judgement, its caches, and its limits on comparing.
 
 use crate::judge_plan::facts::Shared;
 use crate::judge_plan::fingerprint::mixed;
@@ -9,96 +9,97 @@ use bumpalo::Bump;
 use std::alloc::{AllocError, Global};
 use std::cell::Cell;
 
-/// How much is compared in all to find equal states: the cost of a match is 1. States that are not compared are all kept, and
-/// then the width alone bounds the work.
+/// What may be spent in all on comparing states, where a match costs 1. Once it is spent, states are kept without being
+/// compared, and the width alone bounds the work.
 pub(crate) const COMPARED: u64 = 4_194_304;
 
-// The cost of comparing two states that hold no match and no bytes.
+// The base cost of comparing two states.
 const LEAST: u64 = 32;
 
-// More states than these share their parameters, even where each has to be compared for it.
+// More states than this share equal parameters and knowledge, even though finding equal ones takes comparisons.
 const CROWD: usize = 4_096;
 
-// How many bytes of parameters are compared in all so that states share them.
+// How many bytes of parameters may be compared in all for sharing.
 const READ: u64 = 4_294_967_296;
 
-// How many of the matches used last are kept at most: a power of two.
+// At most this many recently used matches are kept. A power of two.
 const USED: usize = 8_192;
 
-// How many places where matches stand are kept at most: a power of two. Each component has its own part of them.
+// At most this many indices of matches are kept, in a part for each component. A power of two.
 const SPOTS: usize = 65_536;
 
 const PARTS: usize = 16;
 
-// How many places of commands are kept at most with the match told last there: a power of two.
+// For at most this many pairs of a command and a component, the last match is kept. A power of two.
 const STEPS: usize = 131_072;
 
-// How many matches are told by commands at places that are not kept, before any is.
+// How many matches are passed to `keep_told` before any is kept.
 const UNKEPT: usize = 16;
 
-// How many matches are made at most without a search among all, and then they are searched again.
+// At most this many matches are made in a row without a search for an equal one.
 const UNSEARCHED: usize = 1_048_576;
 
-// How many of a kind are kept at first: a power of two.
+// How many entries a cache has at first. A power of two.
 const FIRST: usize = 2;
 
-// By how much they become more where more are made.
+// The factor by which a cache grows.
 const MORE: usize = 16;
 
-/// How many places there are for one that is kept.
+/// In how many places of `Made` a value may be kept.
 pub(crate) const WAYS: u32 = 8;
 
-/// The allocators of a judgement, and how much it may still compare, in a word that is passed on at every step.
+/// The allocators of a judgement and what it may still compare, in one word that every step is passed.
 #[derive(Clone, Copy)]
 pub(crate) struct Memory<'a> {
     pub alloc: Global,
-    /// The values made last. The next state mostly comes to the same, and shares them.
+    /// Values that were made recently. The next state often makes the same ones, and shares them.
     pub last: &'a Last<'a>,
 }
 
-/// The values made last, in any state.
+/// Values that were made recently, in any state.
 #[derive(Drop)]
 pub(crate) struct Last<'a> {
-    /// Events are freed together, when the judgement ends.
+    /// The arena for events, which are freed together when the judgement ends.
     pub events: &'a Bump,
     compared: &'a Cell<u64>,
-    /// All matches.
+    /// The matches that new ones are searched for among. They are forgotten once they are too many.
     pub matches: Cell<Held<'a>>,
-    // How many were found among them since they were forgotten.
+    // How many were found by these searches since matches were last forgotten.
     found: Cell<usize>,
-    // How many are still made without a search among them, and how many were to be at first.
+    // How many matches are still to be made without such a search, and how many there were when the pause began.
     unsearched: Cell<usize>,
     pause: Cell<usize>,
-    // How many were found among those used last, and whether those were too few to look at them meanwhile.
+    // How many were found among the recently used ones, and whether those were so few that a pause skips these too.
     reused: Cell<usize>,
     few_reused: Cell<bool>,
-    // The matches used last, each beside its number, and how many were searched among all.
+    // The recently used matches, the number of each, and how many were used that were not among them.
     used: Cell<&'a [Cell<&'a Match<'a>>]>,
     numbers: Cell<&'a [Cell<u64>]>,
     searched: Cell<usize>,
-    // The matches that commands told last, by their places and components, and how many were others.
+    // The last match of each command at each component, and how often one was kept.
     told: Cell<&'a [Cell<&'a Match<'a>>]>,
     others: Cell<usize>,
-    // Where matches were found last in a list, each beside bits that tell the match, and how many were searched there.
+    // The index at which a match was last found in a list, with bits that identify the match, and how often one was
+    // kept.
     places: Cell<&'a [Cell<u64>]>,
     sought: Cell<usize>,
     // How many states are kept at once.
     states: Cell<usize>,
-    // How many bytes of parameters may still be compared so that states share them.
+    // How many bytes of parameters may still be compared for sharing.
     left: Cell<u64>,
-    /// The parameters after an override, and those of components.
+    /// The parameters made last, and recent rows of them, each for one component.
     pub params: Cell<Option<InForce<'a>>>,
     pub rows: Cell<Option<Made<Row<'a>>>>,
-    /// The knowledge of components, where many states are kept.
+    /// Recent knowledge of components, while many states are kept.
     pub known: Cell<Option<Made<Shared>>>,
-    // That of each component, where any was made.
+    // The last knowledge of each component, once there is any.
     each: Cell<Option<&'a LastKnown>>,
 }
 
-/// The knowledge made last of each component, in any state.
+/// The last knowledge of each component, in any state.
 #[derive(Drop)]
 struct LastKnown {
-    // Where it has something of its own, and where it has not.
+    // After learning a value, and after ruling one out.
     having: [Cell<Option<Shared>>; 8],
     lacking: [Cell<Option<Shared>>; 8],
 }
@@ -117,7 +118,7 @@ fn none_known() -> [Cell<Option<Shared>>; 8] {
 }
 
 impl LastKnown {
-    // Nothing.
+    // No knowledge yet.
     fn new() -> LastKnown {
         LastKnown {
             having: none_known(),
@@ -125,7 +126,7 @@ impl LastKnown {
         }
     }
 
-    // Frees it.
+    // Frees the knowledge.
     fn release(&self) {
         for known in &self.having {
             known.set(None);
@@ -137,7 +138,7 @@ impl LastKnown {
 }
 
 impl<'a> Last<'a> {
-    // Nothing.
+    // No values yet.
     fn new(events: &'a Bump, compared: &'a Cell<u64>) -> Last<'a> {
         Last {
             events,
@@ -165,24 +166,25 @@ impl<'a> Last<'a> {
     }
 }
 
-/// One of the places, of so many, where one with a fingerprint is kept. Two fingerprints have the same places only by chance.
+/// The place, out of `count`, for a value with a fingerprint. `way` chooses between its places. Two fingerprints share
+/// all of these only by chance.
 pub(crate) fn place_by(print: u64, way: u32, count: usize) -> usize {
     mixed(print, u64::from(way)) as usize & count.wrapping_sub(1)
 }
 
-// Tells a match of a component: by the last bits which of the places tells where it stands, by the first ones that it does.
+// A hash for a match of a component. The low bits choose the place, and the high half is kept there to identify it.
 fn spot_of(print: u64, component: usize) -> u64 {
     mixed(print, component as u64)
 }
 
-// The first of the two places, of so many, for a match of a component. No match of another component takes them.
+// The first of two places, out of `count`, for a match of a component. Each component has a part of its own.
 fn spot_by(spot: u64, component: usize, count: usize) -> usize {
     let part = count / PARTS;
     let start = (component % PARTS).wrapping_mul(part);
     start.wrapping_add(spot as usize & part.wrapping_sub(2))
 }
 
-// The index that is kept at a place, if it is that of the match.
+// The index that is kept at a place, if it is that of this match.
 fn index_at(places: &[Cell<u64>], at: usize, spot: u64) -> Option<usize> {
     let kept = places.get(at)?.get();
     if (kept ^ spot) >> 32 == 0 {
@@ -192,24 +194,25 @@ fn index_at(places: &[Cell<u64>], at: usize, spot: u64) -> Option<usize> {
     }
 }
 
-// Which of so many places is that of a command at a component. Those of a component follow one another as the commands do.
+// The place, out of `count`, for a command at a component. At one component, commands that are close together have
+// places that are close together.
 fn step_by(place: u64, component: u32, count: usize) -> usize {
     let apart = (component as usize).wrapping_mul(count / 8);
     ((place / 8) as usize).wrapping_add(apart) & count.wrapping_sub(1)
 }
 
-// The first of the two places, of so many, for a number.
+// The first of two places, out of `count`, for a number.
 fn pair_by(number: u64, count: usize) -> usize {
     number as usize & count.wrapping_sub(2)
 }
 
-// How many places there are after so many, where more are made than they hold: so many at most.
+// How many places a cache has after it grows, which is at most `most`.
 fn more_places(count: usize, most: usize) -> usize {
     count.wrapping_mul(MORE).max(FIRST).min(most)
 }
 
 impl<'a> Memory<'a> {
-    /// These allocators, where nothing has happened.
+    /// The memory of a new judgement. `left` is what it may spend on comparing states.
     pub(crate) fn new(
         alloc: Global,
         events: &'a Bump,
@@ -219,7 +222,7 @@ impl<'a> Memory<'a> {
         Ok(Memory { alloc, last })
     }
 
-    /// Frees what was made last.
+    /// Frees the values that were made recently.
     pub(crate) fn release(&self) {
         self.last.matches.set(Held::none());
         self.last.params.set(None);
@@ -230,29 +233,30 @@ impl<'a> Memory<'a> {
         }
     }
 
-    /// So many states are kept at once, or more round them, until `keep` is told what this answers.
+    /// Notes that this many states are kept at once, unless more are noted already. Returns the previous note, for
+    /// `keep`.
     pub(crate) fn gather(&self, states: usize) -> usize {
         let round = self.last.states.get();
         self.last.states.set(round.max(states));
         round
     }
 
-    /// So many states are kept at once.
+    /// Notes that this many states are kept at once, whatever was noted before.
     pub(crate) fn keep(&self, states: usize) {
         self.last.states.set(states);
     }
 
-    /// Whether so many states are kept at once that each is to share what it holds.
+    /// Whether so many states are kept at once that they are to share what they hold.
     pub(crate) fn is_crowded(&self) -> bool {
         self.last.states.get() > CROWD
     }
 
-    /// A match was found among all.
+    /// Counts a match that was found among all.
     pub(crate) fn count_found(&self) {
         self.last.found.set(self.last.found.get().wrapping_add(1));
     }
 
-    /// Whether the next match is made without a search among all, and one less from now on.
+    /// Whether the next match is made without a search among all. Each `true` shortens the pause by one.
     pub(crate) fn skips_search(&self) -> bool {
         match self.last.unsearched.get().checked_sub(1) {
             Some(left) => {
@@ -263,8 +267,9 @@ impl<'a> Memory<'a> {
         }
     }
 
-    /// So many matches are forgotten. Where less than three times as many were found, as many are made without a search from now on,
-    /// and each time twice as many.
+    /// Notes that this many matches were forgotten. If fewer than three times as many were found among them, the next
+    /// ones are made without a search: as many as were forgotten, or twice as many as in the last pause if that is
+    /// more.
     pub(crate) fn pause_searches(&self, forgotten: usize) {
         let few = self.last.found.get() < forgotten.saturating_mul(3);
         let more = self.last.pause.get().saturating_mul(2).max(forgotten);
@@ -278,17 +283,19 @@ impl<'a> Memory<'a> {
         self.last.reused.set(0);
     }
 
-    /// A match was found among those used last.
+    /// Counts a match that was found among the recently used ones.
     pub(crate) fn count_reused(&self) {
         self.last.reused.set(self.last.reused.get().wrapping_add(1));
     }
 
-    /// Whether the next match is made without a search, since few were found even among those used last, and one less from now on.
+    /// Whether the next match is made without any search, since few were found even among the recently used ones. Each
+    /// `true` shortens the pause by one.
     pub(crate) fn passes_used(&self) -> bool {
         self.last.few_reused.get() && self.skips_search()
     }
 
-    /// The match that the command at a place told last at a component, in any state.
+    /// The match that was kept last for the command at a place and a component, in any state. The caller has to compare
+    /// it.
     pub(crate) fn told_at(&self, place: u64, component: u32) -> Option<&'a Match<'a>> {
         let told = self.last.told.get();
         match told.get(step_by(place, component, told.len())) {
@@ -297,7 +304,7 @@ impl<'a> Memory<'a> {
         }
     }
 
-    /// The command at a place tells a match at a component. Where many were others, more are kept from now on.
+    /// Keeps a match for the command at a place and a component. The cache grows with the number of calls.
     pub(crate) fn keep_told(
         &self,
         place: u64,
@@ -317,7 +324,7 @@ impl<'a> Memory<'a> {
         Ok(())
     }
 
-    /// The match that was used last, or second to last, of those with such a number.
+    /// The match that was used last, or second to last, with this number.
     pub(crate) fn used(&self, number: u64, second: bool) -> Option<&'a Match<'a>> {
         let (used, numbers) = (self.last.used.get(), self.last.numbers.get());
         let index = pair_by(number, used.len()) | second as usize;
@@ -327,7 +334,7 @@ impl<'a> Memory<'a> {
         }
     }
 
-    /// A match is used that has such a number. Where many were searched, more are kept from now on.
+    /// Keeps a match that was used, under its number. The cache grows with the number of calls.
     pub(crate) fn keep_used(&self, number: u64, own: &'a Match<'a>) -> Result<(), AllocError> {
         let (searched, kept) = (self.last.searched.get(), self.last.used.get().len());
         self.last.searched.set(searched.wrapping_add(1));
@@ -347,7 +354,8 @@ impl<'a> Memory<'a> {
         Ok(())
     }
 
-    /// Where a match with such a fingerprint was found last among those of a component, in any state.
+    /// The index at which a match with this fingerprint was last found among those of a component, in any state, or
+    /// `usize::MAX`.
     pub(crate) fn place(&self, print: u64, component: usize) -> usize {
         let spot = spot_of(print, component);
         let places = self.last.places.get();
@@ -358,7 +366,8 @@ impl<'a> Memory<'a> {
         index_at(places, first | 1, spot).unwrap_or(usize::MAX)
     }
 
-    /// A match with such a fingerprint is found at an index among those of a component.
+    /// Keeps the index at which a match with this fingerprint is found among those of a component. The cache grows with
+    /// the number of calls.
     pub(crate) fn keep_place(&self, print: u64, component: usize, index: usize) {
         let (sought, kept) = (self.last.sought.get(), self.last.places.get().len());
         self.last.sought.set(sought.wrapping_add(1));
@@ -376,7 +385,7 @@ impl<'a> Memory<'a> {
         }
     }
 
-    // Keeps where so many matches are found from now on, if there is memory for it.
+    // Makes the cache of indices this large, if there is memory for it. It starts empty.
     fn more_spots(&self, count: usize) {
         if let Ok(places) = self
             .last
@@ -387,7 +396,7 @@ impl<'a> Memory<'a> {
         }
     }
 
-    // So many places for a match, and the same one at each.
+    // This many places, each with the same match.
     fn all_of(
         &self,
         own: &'a Match<'a>,
@@ -400,7 +409,8 @@ impl<'a> Memory<'a> {
         Ok(places)
     }
 
-    // Keeps so many matches from now on. A match that is at all places is not the wanted one by chance.
+    // Makes the cache of used matches this large. One match fills it at first, which is harmless, since matches are
+    // compared.
     fn keep_matches(&self, own: &'a Match<'a>, count: usize) -> Result<(), AllocError> {
         let used = self.all_of(own, count)?;
         let numbers = self
@@ -412,7 +422,7 @@ impl<'a> Memory<'a> {
         Ok(())
     }
 
-    // The knowledge made last, in a place that is made when it is first needed.
+    // The last knowledge of each component. Allocated when it is first needed.
     fn known(&self) -> Result<&'a LastKnown, AllocError> {
         if let Some(known) = self.last.each.get() {
             return Ok(known);
@@ -422,19 +432,19 @@ impl<'a> Memory<'a> {
         Ok(known)
     }
 
-    /// The knowledge that was made last of a component that has something of its own.
+    /// The last knowledge of a component after learning a value.
     pub(crate) fn having(&self, component: usize) -> Result<&'a Cell<Option<Shared>>, AllocError> {
         let known = &self.known()?.having[..];
         Ok(&known[component % 8])
     }
 
-    /// The knowledge that was made last of a component that has it not.
+    /// The last knowledge of a component after ruling a value out.
     pub(crate) fn lacking(&self, component: usize) -> Result<&'a Cell<Option<Shared>>, AllocError> {
         let known = &self.known()?.lacking[..];
         Ok(&known[component % 8])
     }
 
-    /// Whether two states may be compared, where what one of them holds has such a cost.
+    /// Whether two states may be compared at this cost, which is then spent.
     pub(crate) fn may_compare(&self, cost: u64) -> bool {
         match self
             .last
@@ -450,7 +460,7 @@ impl<'a> Memory<'a> {
         }
     }
 
-    /// Whether parameters with so many bytes may be compared so that states share them.
+    /// Whether this many bytes of parameters may be compared for sharing, which are then spent.
     pub(crate) fn may_read(&self, bytes: usize) -> bool {
         match self.last.left.get().checked_sub(bytes as u64) {
             Some(left) => {

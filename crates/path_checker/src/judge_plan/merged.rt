@@ -1,4 +1,4 @@
-//! Some states stand for all: those that differ only in how they were reached are kept once.
+//! Merges states: of those that differ only in how they were reached, one is kept.
 
 ghost use Rattle.std.specs.Prelude.{◌≡◌, IsTrue, IfOk};
 ghost use Rattle.path_checker.specs.Exploring.{In};
@@ -9,31 +9,32 @@ use crate::judge_plan::memory::Memory;
 use std::alloc::{AllocError, Global};
 use suit_commands::{Command, Sequence};
 
-// The smallest number of failures that are searched for equal ones.
+// Fewer failures than this are not merged.
 const FEW: usize = 32;
 
-// How many of other fingerprints are passed over.
+// How many entries with other fingerprints a search passes over before it gives up.
 const FAR: u32 = 64;
 
-// One that is kept.
+// An entry for one that is kept.
 #[derive(Clone, Copy)]
 struct Print {
     print: u64,
-    // Where the one before it with the same bits is: one more than its index, or 0.
+    // The index plus 1 of the previous entry with the same low bits, or 0.
     before: u32,
 }
 
-// Those that are kept, found by their fingerprints.
+// An index of those that are kept: a hash table whose buckets are chains.
 #[derive(Drop)]
 struct Seen {
-    // By some bits of a fingerprint, where the last one with these is: one more than its index, or 0. Its length is a power of two.
+    // By the low bits of a fingerprint, the index plus 1 of the last entry with these bits, or 0. Its length is a power
+    // of two.
     last: Vec<u32>,
-    // Each that is kept.
+    // An entry for each that is kept, in the same order.
     prints: Vec<Print>,
 }
 
 impl Seen {
-    // None of so many.
+    // An empty index with room for `count` entries.
     fn new(alloc: Global, count: usize) -> Result<Seen, AllocError> {
         let mut last = Vec::new(alloc);
         last.resize(count.checked_next_power_of_two().unwrap_or(1), 0)?;
@@ -47,7 +48,7 @@ impl Seen {
         print as usize & self.last.len().wrapping_sub(1)
     }
 
-    // The index of the last one that may have a fingerprint.
+    // The index of the last entry that may have this fingerprint.
     fn last(&self, print: u64) -> Option<usize> {
         match self.last.get(self.bits(print)) {
             Some(last) => (*last as usize).checked_sub(1),
@@ -55,7 +56,7 @@ impl Seen {
         }
     }
 
-    // The index of the one before that may have the same one.
+    // The index of the previous entry in the same chain.
     fn before(&self, index: usize) -> Option<usize> {
         match self.prints.get(index) {
             Some(own) => (own.before as usize).checked_sub(1),
@@ -70,7 +71,7 @@ impl Seen {
         }
     }
 
-    // One more is kept.
+    // Adds an entry.
     fn add(&mut self, print: u64) -> Result<(), AllocError> {
         let bits = self.bits(print);
         if let Some(last) = self.last.get_mut(bits) {
@@ -84,7 +85,7 @@ impl Seen {
     }
 }
 
-// Whether one of these stands for this one.
+// Whether one of those that are kept stands for this one. The search is bounded, and may miss it.
 fn stands_for<T: Standing>(memory: Memory<'_>, kept: &[T], seen: &Seen, print: u64, one: &T) -> bool
     ensures { IsTrue result → (other : T) × In other kept.now × T.same other one.now }
 {
@@ -114,7 +115,7 @@ fn stands_for<T: Standing>(memory: Memory<'_>, kept: &[T], seen: &Seen, print: u
     false
 }
 
-// Frees the memory of those that are gone, once they are as many as are left.
+// Frees spare capacity once at most half of it is in use.
 fn fit<T>(left: &mut Vec<T>)
     ensures { left.new.items ≡ left.old.items }
 {
@@ -123,7 +124,7 @@ fn fit<T>(left: &mut Vec<T>)
     }
 }
 
-// Some of these, which stand for all.
+// Keeps some of these, so that each of the others has one that stands for it.
 fn merged<T: Standing>(memory: Memory<'_>, from: Vec<T>) -> Result<Vec<T>, AllocError>
     requires { (one : T) → T.same one one }
     ensures { IfOk result (λ v. Merges T.same from.items v.items) }
@@ -143,7 +144,7 @@ fn merged<T: Standing>(memory: Memory<'_>, from: Vec<T>) -> Result<Vec<T>, Alloc
     Ok(kept)
 }
 
-// Whether a command runs other sequences: where none is run, a state is followed by one state at most.
+// Whether a command runs other sequences. One that does not leads a state to at most one state.
 fn has_inner(command: &Command) -> bool {
     match command {
         Command::TryEach(_) => true,
@@ -152,7 +153,7 @@ fn has_inner(command: &Command) -> bool {
     }
 }
 
-// Whether the last command of a sequence merges the states.
+// Whether the last command of a sequence merges the states after it.
 fn is_merged(sequence: &Sequence) -> bool {
     match sequence.as_slice().last() {
         Some(step) => has_inner(&step.command),
@@ -160,7 +161,7 @@ fn is_merged(sequence: &Sequence) -> bool {
     }
 }
 
-// Whether the states after a command that is done in one state are merged already.
+// Whether the states after a command are merged already, if it was run from one state.
 fn ends_merged(command: &Command) -> bool {
     match command {
         Command::Run(inner) => is_merged(inner),
@@ -181,8 +182,8 @@ pub(crate) fn is_alone(states: &[Kept<'_>]) -> bool {
     }
 }
 
-/// The states, or some of them, which stand for all, where a command may have added to them. It was done in one state alone, or in
-/// more.
+/// Merges the states after a command that may have left equal ones. `alone` says that it was run from a single state
+/// with one component selected.
 pub(crate) fn merged_states<'a>(
     memory: Memory<'a>,
     command: &Command,
@@ -197,7 +198,7 @@ pub(crate) fn merged_states<'a>(
     merged(memory, from)
 }
 
-/// The failures, or some that stand for all once they are twice as many as were left the last time.
+/// Merges the failures once there are at least twice as many as the last merge left. `left` holds that number.
 pub(crate) fn settled<'a>(
     memory: Memory<'a>,
     from: Vec<Stopped<'a>>,

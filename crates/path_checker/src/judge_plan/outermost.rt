@@ -1,5 +1,5 @@
-//! The parts of a procedure, their commands outside any inner sequence, and those of a last branch there. A failure there ends the
-//! procedure, so none is kept.
+//! Runs the parts of a procedure: the commands outside any inner sequence, and those in the last branch of a try each
+//! there. A condition that fails there ends the procedure, so no failures are kept.
 
 ghost use Rattle.std.specs.Prelude.{◌≡◌, ◌<◌, ◌≤◌, List, [], ◌∷◌, None, length, get_or, drop, IfSome, OnOk, IfOk, IfErr};
 ghost use Rattle.suit_commands.specs.Plans.{lent_tree};
@@ -28,13 +28,13 @@ use crate::judge_plan::wide_try::{Tried, wide_try};
 use std::alloc::AllocError;
 use suit_commands::{Sequence, Step};
 
-// More states than these go on alone, one after another. Equal ones are then looked for among those that follow one alone.
+// More states than this go on one at a time. Equal ones are then merged only among those that follow the same state.
 const MANY: usize = 8;
 
-// So many commands follow one another, each of which a state does in place: several states do them one after another.
+// Before this many straight commands in a row, several states go on one at a time.
 const LONG: usize = 64;
 
-// Whether so many commands are the first.
+// Whether `LONG` straight commands or more come first.
 fn is_long(steps: &[Step]) -> bool {
     if steps.len() < LONG {
         return false;
@@ -47,7 +47,8 @@ fn is_long(steps: &[Step]) -> bool {
     true
 }
 
-// Whether so many states go on alone from an index on. Such commands are looked for where they begin.
+// Whether this many states go on one at a time from an index on. In the middle of straight commands this is not looked
+// for again.
 fn go_alone(steps: &[Step], at: usize, states: usize) -> bool
     requires within { at ≤ length steps.now }
 {
@@ -60,7 +61,7 @@ fn go_alone(steps: &[Step], at: usize, states: usize) -> bool
     is_long(&steps[at..])
 }
 
-// Does a command.
+// Runs a command from each of the states.
 fn outermost<'a>(
     memory: Memory<'a>,
     count: u32,
@@ -84,7 +85,7 @@ fn outermost<'a>(
     command(memory, count, step, from, &mut ended)
 }
 
-// The commands of a sequence, of which an absent one has none.
+// The commands of a sequence, or none if it is absent.
 fn steps_of<'a>(lent: Option<&'a Sequence>) -> &'a [Step]
     ensures { sequence_tree result.now ≡ lent_tree lent.entry }
 {
@@ -94,7 +95,7 @@ fn steps_of<'a>(lent: Option<&'a Sequence>) -> &'a [Step]
     }
 }
 
-// Parts of a procedure, one after another.
+// Chains parts of a procedure, to be run in order.
 fn chain<'a>(memory: Memory<'a>, parts: &[Option<&'a Sequence>]) -> Result<&'a Rest<'a>, AllocError>
     ensures { IfOk result (λ rest. rest.now ≡ of_parts parts.now) }
 {
@@ -105,7 +106,7 @@ fn chain<'a>(memory: Memory<'a>, parts: &[Option<&'a Sequence>]) -> Result<&'a R
     Rest::of(memory, First::Part(steps_of(*lent), behind))
 }
 
-/// Runs parts of a procedure from each of the states: the shared sequence and members, one after another.
+/// Runs parts of a procedure in order, from each of the states. The parts are the shared sequence and members.
 pub(crate) fn parts<'a>(
     memory: Memory<'a>,
     count: u32,
@@ -121,7 +122,7 @@ pub(crate) fn parts<'a>(
     follow(memory, count, rest, from)
 }
 
-// Runs what follows from each of the states.
+// Runs the rest of a procedure from each of the states.
 #[cycle(alone)]
 fn follow<'a>(
     memory: Memory<'a>,
@@ -140,7 +141,7 @@ fn follow<'a>(
     Ok(())
 }
 
-// Runs what follows from one state, alone.
+// Runs the rest of a procedure from one state.
 #[cycle(alone)]
 fn follow_alone<'a>(
     memory: Memory<'a>,
@@ -166,7 +167,7 @@ fn follow_alone<'a>(
     }
 }
 
-// Runs commands, and what follows them.
+// Runs commands and the rest of the procedure, from each of the states.
 #[cycle(alone)]
 fn commands<'a>(
     memory: Memory<'a>,
@@ -201,7 +202,7 @@ fn commands<'a>(
     follow(memory, count, rest, now)
 }
 
-// The same from each of the states, alone.
+// Runs commands and the rest of the procedure, from one state after another.
 #[cycle(alone)]
 fn each_alone<'a>(
     memory: Memory<'a>,
@@ -224,7 +225,7 @@ fn each_alone<'a>(
     Ok(())
 }
 
-// The same from one state: in place, as long as it is followed by one at most.
+// Runs commands and the rest of the procedure, from one state. The straight commands at the beginning run in place.
 #[cycle(alone)]
 fn alone<'a>(
     memory: Memory<'a>,
@@ -252,7 +253,7 @@ fn alone<'a>(
     commands(memory, count, &steps[at..], rest, one)
 }
 
-// Does a try each at each selected component, and runs what follows, from each of the states, alone.
+// Runs a try each at each selected component and the rest of the procedure, from one state after another.
 #[cycle(alone)]
 fn each_tried<'a>(
     memory: Memory<'a>,
@@ -279,7 +280,7 @@ fn each_tried<'a>(
     Ok(())
 }
 
-// Does a try each at these components from an index on, and runs what follows, from one state, alone.
+// Runs a try each at the components from an index on and the rest of the procedure, from one state.
 #[cycle(alone)]
 fn tries<'a>(
     memory: Memory<'a>,
@@ -317,8 +318,8 @@ fn tries<'a>(
     tries_at(memory, count, tried, selection.at(at), later, k)
 }
 
-// Does a try each at one component, and runs what follows, from one state, alone. The states in the last branch go on through
-// the rest of the procedure.
+// Runs a try each at one component and the rest of the procedure, from one state. The states in the last branch go on
+// through the rest of the procedure without being gathered.
 #[cycle(alone)]
 fn tries_at<'a>(
     memory: Memory<'a>,
@@ -346,7 +347,8 @@ fn tries_at<'a>(
     follow(memory, count, behind, done)
 }
 
-// Does a try each at one component, up to its last branch: the states in which that begins. The states that are done are added.
+// Runs a try each at one component, up to its last branch. Returns the states in which that begins, and appends those
+// that an earlier branch completed to `done`.
 fn until_last<'a>(
     memory: Memory<'a>,
     count: u32,
@@ -374,7 +376,7 @@ fn until_last<'a>(
     tried_before(memory, count, tried, component, &outer, k, done)
 }
 
-// The same where the state around it is this one.
+// Does the work of `until_last`, with the state around the try each.
 fn tried_before<'a>(
     memory: Memory<'a>,
     count: u32,
@@ -414,8 +416,7 @@ fn tried_before<'a>(
     Ok(enter_all(memory.alloc, component, outer, now)?)
 }
 
-// Does commands one after another, as long as each is a condition or holds none that is met: how many they are, if the procedure
-// goes on.
+// Runs the straight commands at the beginning in place. Returns how many these are, or `None` if the procedure ends.
 fn straight_steps<'a>(
     memory: Memory<'a>,
     count: u32,
@@ -447,7 +448,7 @@ fn straight_steps<'a>(
     Ok(Some(at))
 }
 
-// The command at an index, if it is a condition, or holds none that is met.
+// The command at an index, if there is one and it is straight.
 fn straight_at(steps: &[Step], at: usize) -> Option<&Step>
     ensures within { IfSome result (λ step. at < length steps.now) }
     ensures is { IfSome result (λ step. step.now ≡ get_or steps.now at step.now) }

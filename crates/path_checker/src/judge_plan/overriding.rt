@@ -1,4 +1,4 @@
-//! Overrides that follow one another. All states share what is told of them.
+//! Several overrides in a row. All states share the record of their events.
 
 ghost use Rattle.std.specs.Prelude.{◌≡◌, ◌<◌, ◌≤◌, ◌+◌, IsTrue, IfSome, IfOk, OnOk, length, get_or, take, drop};
 ghost use Rattle.suit_commands.specs.View.{command_tree, sequence_tree};
@@ -37,7 +37,7 @@ fn override_at(steps: &[Step], at: usize) -> Option<&Step>
     None
 }
 
-/// The overrides that follow one another from an index on.
+/// The longest run of overrides from an index on.
 pub(crate) fn overrides_from(steps: &[Step], at: usize) -> &[Step]
     requires within { at ≤ length steps.now }
     ensures part { result.now ≡ take (length result.now) (drop at steps.now) }
@@ -51,7 +51,7 @@ pub(crate) fn overrides_from(steps: &[Step], at: usize) -> &[Step]
     &steps[at..end]
 }
 
-// The parameters in force after overrides at some components, and soft failure.
+// Overrides the parameters of some components. Returns the soft failure after that.
 fn set_all<'a>(
     alloc: Global,
     steps: &'a [Step],
@@ -75,7 +75,7 @@ fn set_all<'a>(
     Ok(soft_failure)
 }
 
-// The same at the selected components.
+// Overrides the parameters of the selected components. Returns the soft failure after that.
 fn set_selected<'a>(
     alloc: Global,
     steps: &'a [Step],
@@ -95,7 +95,7 @@ fn set_selected<'a>(
     set_all(alloc, steps, &components, soft_failure, params)
 }
 
-// Overrides in a state, of which these events are told.
+// Overrides parameters in a state, and records these events.
 fn override_in<'a>(
     memory: Memory<'a>,
     steps: &'a [Step],
@@ -117,7 +117,7 @@ fn override_in<'a>(
     Ok(())
 }
 
-/// Overrides that follow one another, in a state.
+/// Runs several overrides in a row on a state.
 pub(crate) fn overrides_in<'a>(
     memory: Memory<'a>,
     steps: &'a [Step],

@@ -1,24 +1,26 @@
 //! The events that led to a state.
 
 ghost use Rattle.std.specs.Prelude.{◌≡◌, [], ◌++◌, IfOk, OnOk, OnErr};
-ghost use Rattle.path_checker.specs.Happening.{told_by};
+ghost use Rattle.path_checker.specs.Happening.{told_by, all_told};
 
 use crate::judge_plan::memory::Memory;
-use crate::judge_plan::trace::{SharedEvents, Told};
+use crate::judge_plan::trace::{SharedEvents, Told, tell_all};
 use path_model::Events;
 use std::alloc::{AllocError, Global};
 use std::marker::Model;
 
-// As many events of its own as these are shared in one part.
+// As many events in memory of its own are shared as one part.
 const LONG: usize = 16;
 
-// With as many, those of its own are shared.
+// As many are shared even before a copy is made.
 const FULL: usize = 1_024;
 
-// Events in memory of their own.
+// Events of one state, in memory of its own.
 #[derive(Drop)]
 pub(crate) struct Since<'a> {
     told: Vec<Told<'a>>,
+    // The last one is held back, since the next one is joined to it if both are brief.
+    last: Option<Told<'a>>,
 }
 
 impl<'a> Model for Since<'a> {
@@ -27,12 +29,12 @@ impl<'a> Model for Since<'a> {
 
     ghost Value = { List Event };
 
-    ghost use Rattle.path_checker.specs.Happening.{all_told};
+    ghost use Rattle.path_checker.specs.Happening.{told_since};
 
-    ghost view = { λ a. all_told a.told.items };
+    ghost view = { λ a. told_since a.told.items a.last };
 }
 
-/// The events that led to a state: those that other states share, and where it goes on alone those since then, in memory of
+/// The events that led to a state: first those that states share, and then, while it goes on alone, those in memory of
 /// its own.
 #[derive(Drop)]
 pub(crate) struct Past<'a> {
@@ -51,25 +53,59 @@ impl<'a> Model for Past<'a> {
     ghost view = { λ a. with_since a.shared a.since };
 }
 
+// Adds events to shared ones: many as one part.
+fn shared_with<'a>(
+    memory: Memory<'a>,
+    shared: SharedEvents<'a>,
+    told: &[Told<'a>],
+) -> Result<SharedEvents<'a>, AllocError>
+    ensures { IfOk result (λ all. all ≡ shared.entry ++ all_told told.now) }
+{
+    let mut all = shared;
+    if told.len() >= LONG {
+        all.add_many(memory.last.events, told)?;
+        return Ok(all);
+    }
+    for one in told {
+        all.add(memory.last.events, *one)?;
+    }
+    Ok(all)
+}
+
 impl<'a> Since<'a> {
-    // None. Takes no memory.
+    // No events. Does not allocate.
     fn new(alloc: Global) -> Since<'a>
         ensures { result ≡ [] }
     {
         Since {
             told: Vec::new(alloc),
+            last: None,
         }
     }
 
+    // Adds events, joined to the last one if both are brief.
     fn add(&mut self, told: Told<'a>) -> Result<(), AllocError>
         ensures ok { OnOk result (self.new ≡ self.old ++ told_by told.entry) }
         ensures err { OnErr result (self.new ≡ self.old) }
     {
-        self.told.push(told)?;
-        Ok(())
+        match self.last {
+            None => {
+                self.last = Some(told);
+                Ok(())
+            }
+            Some(last) => {
+                if let Some(both) = last.joined(&told) {
+                    self.last = Some(both);
+                    return Ok(());
+                }
+                self.told.push(last)?;
+                self.last = Some(told);
+                Ok(())
+            }
+        }
     }
 
-    // Behind others, in memory that all states share.
+    // These events behind others, in memory that states share.
     fn behind(
         &self,
         memory: Memory<'a>,
@@ -77,35 +113,35 @@ impl<'a> Since<'a> {
     ) -> Result<SharedEvents<'a>, AllocError>
         ensures { IfOk result (λ all. all ≡ shared.entry ++ self.now) }
     {
-        let mut all = shared;
-        if self.told.len() >= LONG {
-            all.add_many(memory.last.events, self.told.as_slice())?;
-            return Ok(all);
+        let mut all = shared_with(memory, shared, self.told.as_slice())?;
+        match self.last {
+            Some(last) => {
+                all.add(memory.last.events, last)?;
+                Ok(all)
+            }
+            None => Ok(all),
         }
-        for told in self.told.as_slice() {
-            all.add(memory.last.events, *told)?;
-        }
-        Ok(all)
     }
 
-    // Whether they are so many that they are shared.
+    // Whether there are so many that they are to be shared.
     fn is_full(&self) -> bool {
         self.told.len() >= FULL
     }
 
-    // Adds them to others, in memory of their own.
+    // Appends the events to a list, in memory of their own.
     fn tell(&self, alloc: Global, events: &mut Events) -> Result<(), AllocError>
         ensures { OnOk result (events.new ≡ events.old ++ self.now) }
     {
-        for told in self.told.as_slice() {
-            told.tell(alloc, events)?;
+        tell_all(self.told.as_slice(), alloc, events)?;
+        match self.last {
+            Some(last) => last.tell(alloc, events),
+            None => Ok(()),
         }
-        Ok(())
     }
 }
 
 impl<'a> Past<'a> {
-    /// Nothing has happened.
+    /// No events.
     pub(crate) fn new() -> Past<'a>
         ensures { result ≡ [] }
     {
@@ -115,7 +151,7 @@ impl<'a> Past<'a> {
         }
     }
 
-    /// More events.
+    /// Adds events.
     pub(crate) fn add(&mut self, memory: Memory<'a>, told: Told<'a>) -> Result<(), AllocError>
         ensures ok { OnOk result (self.new ≡ self.old ++ told_by told.entry) }
         ensures err { OnErr result (self.new ≡ self.old) }
@@ -127,7 +163,8 @@ impl<'a> Past<'a> {
         }
     }
 
-    // The same. Where many follow one another since `begin`, the next ones are in memory of its own first, and then shared many at once.
+    // Decides where the next events go. After many in a row since `begin` they go into memory of its own, and are
+    // shared from there, many at once.
     fn settle(&mut self, memory: Memory<'a>) -> Result<(), AllocError>
         ensures { self.new ≡ self.old }
     {
@@ -148,7 +185,7 @@ impl<'a> Past<'a> {
         Ok(())
     }
 
-    /// The same. From now on no copy is made, until `end`.
+    /// Announces that the state is not copied until `end`.
     pub(crate) fn begin(&mut self)
         ensures { self.new ≡ self.old }
     {
@@ -157,7 +194,7 @@ impl<'a> Past<'a> {
         }
     }
 
-    /// The same. Copies are made again.
+    /// Ends what `begin` announced: the state may be copied again.
     pub(crate) fn end(&mut self, memory: Memory<'a>) -> Result<(), AllocError>
         ensures { self.new ≡ self.old }
     {
@@ -169,7 +206,7 @@ impl<'a> Past<'a> {
         Ok(())
     }
 
-    /// The same. The next events are in memory of its own.
+    /// The same events. The next ones go into memory of its own.
     pub(crate) fn set_apart(self, alloc: Global) -> Past<'a>
         ensures { result ≡ self.entry }
     {
@@ -180,7 +217,7 @@ impl<'a> Past<'a> {
         past
     }
 
-    // All, in memory that all states share.
+    // All events, in memory that states share.
     fn lent(&self, memory: Memory<'a>) -> Result<SharedEvents<'a>, AllocError>
         ensures { IfOk result (λ all. all ≡ self.now) }
     {
@@ -191,7 +228,7 @@ impl<'a> Past<'a> {
         }
     }
 
-    /// The same, in memory that all states share.
+    /// A copy, with all events in memory that states share.
     pub(crate) fn copy(&self, memory: Memory<'a>) -> Result<Past<'a>, AllocError>
         ensures { IfOk result (λ past. past ≡ self.now) }
     {
@@ -202,7 +239,7 @@ impl<'a> Past<'a> {
         })
     }
 
-    /// The events in the order in which they happened, in memory of their own.
+    /// All events in order, in memory of their own.
     pub(crate) fn told(&self, alloc: Global) -> Result<Events, AllocError>
         ensures { IfOk result (λ events. events ≡ self.now) }
     {

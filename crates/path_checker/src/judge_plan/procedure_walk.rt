@@ -19,7 +19,7 @@ use crate::judge_plan::selected::Selected;
 use std::alloc::{AllocError, Global};
 use suit_commands::Plan;
 
-/// The state in which a procedure of so many components begins.
+/// A list of the one state in which a procedure of `count` components begins.
 pub(crate) fn first<'a>(alloc: Global, count: u32) -> Result<Vec<Kept<'a>>, AllocError>
     ensures { IfOk result (λ v. v.items ≡ first_kept count ∷ []) }
 {
@@ -37,7 +37,7 @@ pub(crate) fn first<'a>(alloc: Global, count: u32) -> Result<Vec<Kept<'a>>, Allo
     Ok(from)
 }
 
-// ---- whether an invoke stands in the rest of a procedure
+// ---- whether the rest of a procedure holds an invoke
 
 fn third_invokes(plan: &Plan<'_>) -> bool
     ensures { IsTrue result ↔ ThirdInvokes (plan_tree plan.now) }
@@ -51,14 +51,14 @@ fn second_invokes(plan: &Plan<'_>) -> bool
     lent_invokes(plan.second) || third_invokes(plan)
 }
 
-/// Whether an invoke stands in a procedure.
+/// Whether a procedure holds an invoke.
 pub(crate) fn invokes(plan: &Plan<'_>) -> bool
     ensures { IsTrue result ↔ FirstInvokes (plan_tree plan.now) }
 {
     lent_invokes(plan.first) || second_invokes(plan)
 }
 
-/// Runs a procedure in which an invoke stands from each of the states, up to the last of its parts in which one stands.
+/// Runs a procedure that holds an invoke from each of the states. Parts after the last one with an invoke are left out.
 pub(crate) fn procedure<'a>(
     memory: Memory<'a>,
     plan: &Plan<'a>,

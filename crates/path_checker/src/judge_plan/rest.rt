@@ -1,4 +1,4 @@
-//! What is done after the commands that are done now, up to the end of the procedure.
+//! What is left to run after the current commands, up to the end of the procedure.
 
 ghost use Rattle.std.specs.Prelude.{◌≡◌, ◌∷◌, IfOk};
 ghost use Rattle.path_checker.specs.RestViews.{all_of};
@@ -12,14 +12,14 @@ use std::alloc::AllocError;
 use std::marker::Model;
 use suit_commands::Step;
 
-/// What follows.
+/// The rest of a procedure.
 #[cycle(rest)]
 #[derive(Drop)]
 pub(crate) struct Rest<'a> {
     pub first: First<'a>,
 }
 
-/// What follows at once, and what follows that.
+/// What is run next, and the rest after that.
 #[cycle(rest)]
 #[derive(Drop)]
 pub(crate) enum First<'a> {
@@ -29,9 +29,9 @@ pub(crate) enum First<'a> {
     Part(&'a [Step], &'a Rest<'a>),
     /// More commands of a sequence.
     Steps(&'a [Step], &'a Rest<'a>),
-    /// A try each, once at each of these components from an index on.
+    /// A try each at each of these components, from an index on.
     Tries(Tried<'a>, Selected<'a>, usize, &'a Rest<'a>),
-    /// The end of a branch that completed: the selection and the soft failure go back.
+    /// The end of a completed branch, which restores the selection and soft failure.
     Leave(Selected<'a>, bool, &'a Rest<'a>),
 }
 
@@ -58,7 +58,7 @@ impl<'a> Model for Rest<'a> {
 }
 
 impl<'a> Rest<'a> {
-    /// This first, in memory that is freed when the judgement ends.
+    /// Allocates a rest that begins with this. It is freed when the judgement ends.
     pub(crate) fn of(memory: Memory<'a>, first: First<'a>) -> Result<&'a Rest<'a>, AllocError>
         ensures { IfOk result (λ rest. rest.now ≡ all_of first.entry) }
     {
@@ -66,7 +66,7 @@ impl<'a> Rest<'a> {
         Ok(rest)
     }
 
-    /// The end of a branch that was entered from this state, and then others.
+    /// The end of a branch that was entered from this state, and then `behind`.
     pub(crate) fn leave(
         memory: Memory<'a>,
         k: &Kept<'a>,

@@ -13,17 +13,6 @@ pub(crate) fn same_digest(one: &Digest, other: &Digest) -> bool
     same_bytes(one.bytes(), other.bytes())
 }
 
-/// Whether both are absent, or both are there and equal.
-pub(crate) fn same_lent(one: Option<&Digest>, other: Option<&Digest>) -> bool
-    ensures { IsTrue result → option_copied one.entry ≡ option_copied other.entry }
-{
-    match (one, other) {
-        (None, None) => true,
-        (Some(one), Some(other)) => same_digest(one, other),
-        _ => false,
-    }
-}
-
 fn same(one: &Param, other: &Param) -> bool
     ensures { IsTrue result → one.now ≡ other.now }
 {
@@ -48,7 +37,7 @@ fn same(one: &Param, other: &Param) -> bool
     }
 }
 
-/// Whether both are absent, or both are there and equal.
+/// Whether both are absent, or both are present and equal.
 pub(crate) fn same_param(one: Option<&Param>, other: Option<&Param>) -> bool
     ensures { IsTrue result → option_copied one.entry ≡ option_copied other.entry }
 {

@@ -10,7 +10,7 @@ use std::alloc::{AllocError, Global};
 use std::marker::Model;
 use suit_commands::Selection;
 
-/// Some of the components: one, the first so many, or those that a command lists.
+/// Some of the components: one, the first few, or those that a command lists.
 #[derive(Clone, Copy, Debug)]
 pub(crate) enum Components<'a> {
     One(u32),
@@ -18,7 +18,7 @@ pub(crate) enum Components<'a> {
     Listed(&'a [u32]),
 }
 
-/// The selected components in order, each of the eight that there is room for. Takes no memory.
+/// The selected components, in order, each of them below 8. Does not allocate.
 #[derive(Debug, Drop)]
 pub(crate) struct Selected<'a> {
     held: Components<'a>,
@@ -49,7 +49,7 @@ fn numbers(alloc: Global, count: u32) -> Result<Vec<u32>, AllocError>
     Ok(held)
 }
 
-/// The components, in memory of their own.
+/// The components, in a new list.
 pub(crate) fn listed(alloc: Global, held: Components<'_>) -> Result<Vec<u32>, AllocError>
     ensures { IfOk result (λ list. list.items ≡ components_of held.entry) }
 {
@@ -60,7 +60,7 @@ pub(crate) fn listed(alloc: Global, held: Components<'_>) -> Result<Vec<u32>, Al
     }
 }
 
-// Whether they are the same, in the same order. May be false of those that are told in two ways.
+// Whether both are the same components, in the same order. May be `false` if they are represented differently.
 fn same_components(some: &Components<'_>, others: &Components<'_>) -> bool
     ensures { IsTrue result → components_of some.now ≡ components_of others.now }
 {
@@ -73,7 +73,7 @@ fn same_components(some: &Components<'_>, others: &Components<'_>) -> bool
 }
 
 impl<'a> Selected<'a> {
-    /// One component.
+    /// Selects one component.
     pub(crate) fn one(component: u32) -> Selected<'a>
         requires room { component < 8 }
         ensures { result ≡ component ∷ [] }
@@ -83,7 +83,7 @@ impl<'a> Selected<'a> {
         }
     }
 
-    /// Those that a selection names, where there are so many components.
+    /// The components that a command selects, out of `count`.
     pub(crate) fn by(selection: &'a Selection, count: u32) -> Selected<'a>
         requires { SelectsSmall count selection.now }
         ensures { result ≡ selected_by selection.now count }
@@ -97,7 +97,7 @@ impl<'a> Selected<'a> {
         }
     }
 
-    // The first so many, ascending.
+    // Selects the first `count` components.
     fn first(count: u32) -> Selected<'a>
         requires { count ≤ 8 }
         ensures { result ≡ range_with_len 0 count }
@@ -107,28 +107,27 @@ impl<'a> Selected<'a> {
         }
     }
 
-    /// The same.
     pub(crate) fn copy(&self) -> Selected<'a>
         ensures { result ≡ self.now }
     {
         Selected { held: self.held }
     }
 
-    /// Whether the same components are selected, in the same order. May be false of those that are told in two ways.
+    /// Whether the same components are selected, in the same order. May be `false` if they are represented differently.
     pub(crate) fn is_same(&self, other: &Selected<'_>) -> bool
         ensures { IsTrue result → self.now ≡ other.now }
     {
         same_components(&self.held, &other.held)
     }
 
-    /// How they are told.
+    /// How the selection is represented.
     pub(crate) fn components(&self) -> Components<'a>
         ensures { components_of result ≡ self.now }
     {
         self.held
     }
 
-    /// The component, where one alone is selected.
+    /// The selected component, if there is just one.
     pub(crate) fn sole(&self) -> Option<u32>
         ensures sole { IfSome result (λ component. self.now ≡ component ∷ []) }
         ensures small { IfSome result (λ component. component < 8) }
@@ -152,7 +151,7 @@ impl<'a> Selected<'a> {
         }
     }
 
-    /// The component at an index.
+    /// The selected component at an index.
     pub(crate) fn at(&self, index: usize) -> u32
         requires within { index < length self.now }
         ensures value { result ≡ get_or self.now index result }
@@ -168,7 +167,7 @@ impl<'a> Selected<'a> {
         }
     }
 
-    /// The components, in memory of their own.
+    /// The selected components, in a new list.
     pub(crate) fn listed(&self, alloc: Global) -> Result<Vec<u32>, AllocError>
         ensures value { IfOk result (λ held. held.items ≡ self.now) }
         ensures small { IfOk result (λ held. AreSmall held.items) }

@@ -1,5 +1,5 @@
-//! The events of overrides. Those of one at several components, and of several that follow one another, are told together, in memory
-//! that all states share.
+//! The events of overrides. Those of an override at several components, and those of several overrides in a row, are
+//! recorded together, in memory that all states share.
 
 ghost use Rattle.std.specs.Prelude.{◌≡◌, [], ◌∷◌, ◌++◌, IfOk, OnOk};
 ghost use Rattle.path_model.specs.Directives.{set_events};
@@ -21,14 +21,14 @@ pub(crate) struct SetsAt<'a> {
     list: &'a ParamList,
 }
 
-/// Overrides that follow one another, at the same components.
+/// Several overrides in a row, at the same components.
 #[derive(Clone, Copy)]
 pub(crate) struct Several<'a> {
     components: Components<'a>,
     steps: &'a [Step],
 }
 
-/// Adds the events of an override at some components, in memory of their own.
+/// Appends the events of an override at some components, with copies of its parameters.
 pub(crate) fn tell_all_sets(
     alloc: Global,
     components: Components<'_>,
@@ -45,7 +45,7 @@ pub(crate) fn tell_all_sets(
     Ok(())
 }
 
-/// Adds the events of an override at two components, in memory of their own.
+/// Appends the events of an override at two components, with copies of its parameters.
 pub(crate) fn tell_both_sets(
     alloc: Global,
     first: u8,
@@ -59,7 +59,7 @@ pub(crate) fn tell_both_sets(
     tell_all_sets(alloc, Components::Listed(&both), list, events)
 }
 
-// Adds the events of an override, in memory of their own.
+// Appends the events of an override at one component, with copies of its parameters.
 fn tell_sets(
     alloc: Global,
     component: u32,
@@ -75,7 +75,7 @@ fn tell_sets(
     Ok(())
 }
 
-// Adds the events of overrides that follow one another, in memory of their own.
+// Appends the events of several overrides in a row, with copies of their parameters.
 fn tell_several(
     alloc: Global,
     components: Components<'_>,
@@ -95,7 +95,7 @@ fn tell_several(
 }
 
 impl<'a> SetsAt<'a> {
-    /// An override at the components of a list.
+    /// Allocates an override at the components of a list.
     pub(crate) fn lent(
         memory: Memory<'a>,
         components: &'a [u32],
@@ -107,7 +107,7 @@ impl<'a> SetsAt<'a> {
         Ok(lent)
     }
 
-    /// Adds the events, in memory of their own.
+    /// Appends the events, with copies of the parameters.
     pub(crate) fn tell(&self, alloc: Global, events: &mut Events) -> Result<(), AllocError>
         ensures { OnOk result (events.new ≡ events.old ++ sets_of self.now) }
     {
@@ -121,7 +121,7 @@ impl<'a> SetsAt<'a> {
 }
 
 impl<'a> Several<'a> {
-    /// Overrides that follow one another, at some components.
+    /// Allocates several overrides in a row, at some components.
     pub(crate) fn lent(
         memory: Memory<'a>,
         components: Components<'a>,
@@ -135,7 +135,7 @@ impl<'a> Several<'a> {
         Ok(lent)
     }
 
-    /// Adds the events, in memory of their own.
+    /// Appends the events, with copies of the parameters.
     pub(crate) fn tell(&self, alloc: Global, events: &mut Events) -> Result<(), AllocError>
         ensures { OnOk result (events.new ≡ events.old ++ several_sets self.now) }
     {

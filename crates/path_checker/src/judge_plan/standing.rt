@@ -10,10 +10,10 @@ use crate::judge_plan::matches::{Held, Match};
 use crate::judge_plan::memory::Memory;
 use std::alloc::{AllocError, Global};
 
-// How many components there is room for.
+// How many components there can be.
 const ROOM: usize = 8;
 
-/// The matches that stand, of each component up to the last one of which any stands.
+/// The matches that stand, by component. Components after the last one with a match are left out.
 #[derive(Drop)]
 pub(crate) struct StandingMatches<'a> {
     of: Vec<Held<'a>>,
@@ -22,7 +22,7 @@ pub(crate) struct StandingMatches<'a> {
 }
 
 impl<'a> StandingMatches<'a> {
-    /// None stands. Takes no memory.
+    /// No matches. Does not allocate.
     pub(crate) fn none(alloc: Global) -> StandingMatches<'a>
         ensures { (component : ℕ) → held_of result component ≡ [] }
     {
@@ -32,7 +32,7 @@ impl<'a> StandingMatches<'a> {
         }
     }
 
-    /// The same. What stands is shared.
+    /// A copy that shares the matches.
     pub(crate) fn copy(&self, alloc: Global) -> Result<StandingMatches<'a>, AllocError>
         ensures { IfOk result (λ other. other.of.items ≡ self.now.of.items) }
     {
@@ -46,7 +46,7 @@ impl<'a> StandingMatches<'a> {
         })
     }
 
-    /// Whether a match stands.
+    /// Whether a match of a component stands.
     pub(crate) fn has(&self, memory: Memory<'_>, component: u32, wanted: &Match<'_>) -> bool
         ensures { IsTrue result ↔ In (match_of wanted.now) (held_of self.now component) }
     {
@@ -56,7 +56,7 @@ impl<'a> StandingMatches<'a> {
         }
     }
 
-    /// One that stands and is found.
+    /// The match that stands and is the wanted one, if the search finds it.
     pub(crate) fn found(
         &self,
         memory: Memory<'_>,
@@ -69,7 +69,7 @@ impl<'a> StandingMatches<'a> {
         held.found(memory, component as usize, wanted)
     }
 
-    // One component more, of which none stands.
+    // Adds a component without matches.
     fn more(&mut self) -> Result<(), AllocError>
         ensures { OnOk result
             ((component : ℕ) → held_of self.new component ≡ held_of self.old component) }
@@ -78,7 +78,8 @@ impl<'a> StandingMatches<'a> {
         Ok(())
     }
 
-    // The same, with a place for the matches of a component. There is no memory for those of a ninth one.
+    // Adds components without matches until the index is within the list. Returns an error if that takes more than
+    // eight of them.
     fn widen(&mut self, index: usize) -> Result<(), AllocError>
         ensures room { OnOk result (index < length self.new.of.items) }
         ensures same { OnOk result
@@ -96,7 +97,7 @@ impl<'a> StandingMatches<'a> {
         Err(AllocError)
     }
 
-    // The same, without the last components, of which none stands.
+    // Drops the components at the end that have no matches.
     fn narrow(&mut self)
         ensures { (component : ℕ) → held_of self.new component ≡ held_of self.old component }
     {
@@ -107,7 +108,7 @@ impl<'a> StandingMatches<'a> {
         self.of.truncate(len);
     }
 
-    /// One match more.
+    /// Adds a match of a component.
     pub(crate) fn gain(
         &mut self,
         memory: Memory<'a>,
@@ -123,7 +124,7 @@ impl<'a> StandingMatches<'a> {
         Ok(())
     }
 
-    /// The matches of a component stand no more.
+    /// Drops all matches of a component.
     pub(crate) fn lose(&mut self, component: u32)
         ensures { Loses self.old component self.new }
     {
@@ -135,7 +136,7 @@ impl<'a> StandingMatches<'a> {
         self.narrow();
     }
 
-    /// Whether the same matches stand.
+    /// Whether the same matches stand in both.
     pub(crate) fn is_same(&self, other: &StandingMatches<'a>) -> bool
         ensures { IsTrue result → (component : ℕ) → SameHeld self.now other.now component }
     {
@@ -153,12 +154,12 @@ impl<'a> StandingMatches<'a> {
         true
     }
 
-    /// What a comparison costs: how many they are, at most.
+    /// The cost of a comparison: an upper bound for the number of matches.
     pub(crate) fn cost(&self) -> u64 {
         u64::from(self.added)
     }
 
-    /// A fingerprint: equal where the same matches stand.
+    /// A fingerprint. If the same matches stand, it is the same, unless memory runs out.
     pub(crate) fn fingerprint(&self) -> u64 {
         let mut print = 0;
         for held in self.of.as_slice() {
@@ -168,7 +169,7 @@ impl<'a> StandingMatches<'a> {
     }
 }
 
-// Whether the same matches of a component stand, each of them found.
+// Whether the same matches of a component stand in both. `false` if a search misses one.
 fn is_same_held<'a>(one: &Held<'a>, other: &Held<'a>) -> bool
     ensures { IsTrue result → SameMembers one.now other.now }
 {

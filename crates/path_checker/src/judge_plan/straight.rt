@@ -1,5 +1,5 @@
-//! Conditions, and commands in which none is met, done where a failed condition ends the procedure: each state is followed by one at
-//! most.
+//! Straight commands: conditions, and commands that run none. Where a failed condition ends the procedure, they lead a
+//! state to at most one state.
 
 ghost use Rattle.std.specs.Prelude.{◌≡◌, ◌↔◌, ◌<◌, ◌≤◌, ◌+◌, [], ◌∷◌, IsTrue, IfOk, IfErr, length, get_or, take, drop};
 ghost use Rattle.suit_commands.specs.declared.command.Step.{Step as TheStep};
@@ -17,7 +17,7 @@ use crate::judge_plan::reuse::reuse;
 use crate::judge_plan::unconditional::is_unconditional;
 use suit_commands::{Command, Step};
 
-/// Whether a command is a condition, or holds none that is met.
+/// Whether a command is straight: a condition, or a command that runs none.
 pub(crate) fn is_straight(command: &Command) -> bool
     ensures { IsTrue result ↔ IsStraight (command_tree command.now) }
 {
@@ -27,7 +27,7 @@ pub(crate) fn is_straight(command: &Command) -> bool
     }
 }
 
-// Whether a command is done in a state in place. Conditions are where their failures are not kept.
+// Whether a command can run on a state in place. Conditions can if their failures are not kept, as `tests` says.
 fn is_in_place(command: &Command, tests: bool) -> bool
     ensures { IsTrue result ↔ IsInPlace tests (command_tree command.now) }
 {
@@ -38,7 +38,7 @@ fn is_in_place(command: &Command, tests: bool) -> bool
     }
 }
 
-// Whether there is a command at an index that is done in a state in place.
+// Whether there is a command at an index that can run in place.
 fn is_in_place_at(steps: &[Step], at: usize, tests: bool) -> bool
     ensures within { IsTrue result → at + 1 ≤ length steps.now }
     ensures in_place { (step : TheStep) → at < length steps.now
@@ -47,8 +47,8 @@ fn is_in_place_at(steps: &[Step], at: usize, tests: bool) -> bool
     at < steps.len() && is_in_place(&steps[at].command, tests)
 }
 
-/// The commands that follow one another from an index on, each of which is done in a state in place. Conditions are where their
-/// failures are not kept.
+/// The longest run of commands from an index on that can all run in place. Conditions can if their failures are not
+/// kept, as `tests` says.
 pub(crate) fn in_place_from(steps: &[Step], at: usize, tests: bool) -> &[Step]
     requires within { at ≤ length steps.now }
     ensures part { result.now ≡ take (length result.now) (drop at steps.now) }
@@ -65,7 +65,8 @@ pub(crate) fn in_place_from(steps: &[Step], at: usize, tests: bool) -> &[Step]
     &steps[at..end]
 }
 
-/// Does a command in a state: whether the procedure goes on. The state is then the one after it.
+/// Runs a straight command on a state in place. Returns whether the procedure goes on, and then leaves the state after
+/// the command.
 pub(crate) fn straight_in<'a>(
     memory: Memory<'a>,
     count: u32,
@@ -86,7 +87,7 @@ pub(crate) fn straight_in<'a>(
     command_in(memory, count, step, k)
 }
 
-/// Does a command in each of the states.
+/// Runs a straight command from each of the states.
 pub(crate) fn straight<'a>(
     memory: Memory<'a>,
     count: u32,

@@ -1,13 +1,14 @@
 //! The events of a path. Paths that begin alike share their beginning.
 
-ghost use Rattle.std.specs.Prelude.{◌≡◌, [], ◌∷◌, ◌++◌, map, IfOk, OnOk, OnErr};
+ghost use Rattle.std.specs.Prelude.{◌≡◌, [], ◌∷◌, ◌++◌, map, IfSome, IfOk, OnOk, OnErr};
 ghost use Rattle.suit_commands.specs.View.{sequence_tree};
-ghost use Rattle.path_checker.specs.Happening.{event_of, invoke_event, sets_at, sequence_sets, told_by, all_told, four_told, piece_told, waiting_told};
+ghost use Rattle.path_checker.specs.Happening.{brief_event, event_of, invoke_event, sets_at, sequence_sets, told_by, all_told, four_told, piece_told, waiting_told};
 ghost use Rattle.path_checker.specs.Chains.{parts_from, Parted};
 ghost use Rattle.path_checker.specs.Overriding.{AreOverrides};
 ghost use Rattle.path_checker.specs.Selecting.{components_of};
 ghost use Rattle.path_checker.specs.Standing.{all_in_order};
 
+use crate::judge_plan::brief::Brief;
 use crate::judge_plan::happened::{Happened, copied};
 use crate::judge_plan::matches::Match;
 use crate::judge_plan::memory::Memory;
@@ -28,7 +29,7 @@ pub(crate) struct Invoke<'a> {
     size: Option<u64>,
 }
 
-/// Events that follow one another, in sixteen bytes: one alone, or all of overrides.
+/// One event, up to three brief ones, or all events of overrides, in sixteen bytes.
 #[derive(Clone, Copy)]
 pub(crate) enum Told<'a> {
     Tried {
@@ -59,17 +60,17 @@ pub(crate) enum Told<'a> {
         own: &'a Match<'a>,
     },
     Invoked(&'a Invoke<'a>),
-    // Those of an override at a component.
+    // The events of an override at one component.
     Sets {
         component: u32,
         list: &'a ParamList,
     },
-    // At the first so many.
+    // The same at the first `count` components.
     SetsFirst {
         count: u32,
         list: &'a ParamList,
     },
-    // At two of them.
+    // The same at two components.
     SetsBoth {
         first: u8,
         second: u8,
@@ -77,22 +78,25 @@ pub(crate) enum Told<'a> {
     },
     SetsAt(&'a SetsAt<'a>),
     Several(&'a Several<'a>),
+    // Two or three brief events.
+    Two(Brief, Brief),
+    Three(Brief, Brief, Brief),
 }
 
-// How many events wait at most.
+// At most this many events wait before they become a part.
 const FEW: usize = 3;
 
-// How many parts of four, one after another, are many.
+// Once this many parts of four were added in a row, many more are expected.
 const MANY: u32 = 4;
 
-/// Four of these, in order.
+/// Four in order, as one part holds them.
 #[derive(Clone, Copy)]
 struct Four<'a> {
     first: [Told<'a>; FEW],
     last: Told<'a>,
 }
 
-// Events, and those before them.
+// A part of four, and the parts before it.
 #[cycle(trace)]
 #[derive(Drop)]
 struct Part<'a> {
@@ -100,7 +104,7 @@ struct Part<'a> {
     before: Trace<'a>,
 }
 
-// Many events, and those before them.
+// A part of many, and the parts before it.
 #[cycle(trace)]
 #[derive(Drop)]
 struct Stretch<'a> {
@@ -108,7 +112,7 @@ struct Stretch<'a> {
     before: Trace<'a>,
 }
 
-// The last events of a path.
+// The last part of a path, if there is one.
 #[cycle(trace)]
 #[derive(Clone, Copy)]
 enum Last<'a> {
@@ -117,7 +121,7 @@ enum Last<'a> {
     Many(&'a Stretch<'a>),
 }
 
-/// Parts of a path, the last one first. Traces made from one trace share its parts.
+/// The parts of a path, the last one first. A trace made from another one shares its parts.
 #[cycle(trace)]
 #[derive(Drop)]
 struct Trace<'a> {
@@ -141,23 +145,23 @@ impl<'a> Model for Trace<'a> {
     ghost size_decreases = { λ a h. chain_falls a.last };
 }
 
-/// A part of a path: four events, or many.
+/// What a part holds: four, or many.
 #[derive(Clone, Copy)]
 enum Piece<'a> {
     Four(&'a Four<'a>),
     Many(&'a [Told<'a>]),
 }
 
-/// The last events, which are too few for a part: so many of these.
+/// The last events, too few for a part: the first `count` of these.
 #[derive(Clone, Copy)]
 struct Waiting<'a> {
     told: [Told<'a>; FEW],
     count: u32,
-    // Where the state is followed by one alone, one more than the parts of four since then, and otherwise 0.
+    // 0, or since `begin` one more than the parts of four that were added.
     parts: u32,
 }
 
-/// The events of a path, in memory that all states share.
+/// The events of a path, in memory that states share.
 #[derive(Drop)]
 pub(crate) struct SharedEvents<'a> {
     trace: Trace<'a>,
@@ -190,7 +194,7 @@ impl<'a> Invoke<'a> {
 }
 
 impl<'a> Told<'a> {
-    /// Those of an override at some components.
+    /// The events of an override at some components.
     pub(crate) fn sets(
         memory: Memory<'a>,
         components: Components<'a>,
@@ -206,7 +210,7 @@ impl<'a> Told<'a> {
         }
     }
 
-    // Those of an override at the components of a list. Where it lists two, they take no memory.
+    // The events of an override at listed components. Two with small numbers take no memory.
     fn listed_sets(
         memory: Memory<'a>,
         components: &'a [u32],
@@ -227,7 +231,7 @@ impl<'a> Told<'a> {
         Ok(Told::SetsAt(lent))
     }
 
-    /// Those of overrides that follow one another, at some components.
+    /// The events of several overrides in a row, at the same components.
     pub(crate) fn several(
         memory: Memory<'a>,
         components: Components<'a>,
@@ -247,7 +251,7 @@ impl<'a> Told<'a> {
         Ok(Told::Several(lent))
     }
 
-    /// One event.
+    /// One event. Only an invoke that no match covers takes memory.
     pub(crate) fn of(memory: Memory<'a>, happened: Happened<'a>) -> Result<Told<'a>, AllocError>
         ensures { IfOk result (λ told. told_by told ≡ event_of happened.entry ∷ []) }
     {
@@ -281,7 +285,43 @@ impl<'a> Told<'a> {
         }
     }
 
-    /// Adds the events, in memory of their own.
+    // The event, if it is a single one and brief.
+    fn brief(&self) -> Option<Brief>
+        ensures { IfSome result (λ brief. told_by self.now ≡ brief_event brief ∷ []) }
+    {
+        match *self {
+            Told::Tried {
+                component,
+                kind,
+                passed,
+            } if component < 256 => Some(Brief::Tried {
+                component: component as u8,
+                kind,
+                passed,
+            }),
+            Told::Missed { component } if component < 256 => Some(Brief::Missed {
+                component: component as u8,
+            }),
+            Told::Wrote { component } if component < 256 => Some(Brief::Wrote {
+                component: component as u8,
+            }),
+            _ => None,
+        }
+    }
+
+    /// Joins the next event to these, if all are brief and no more than three.
+    pub(crate) fn joined(&self, next: &Told<'a>) -> Option<Told<'a>>
+        ensures { IfSome result (λ both. told_by both ≡ told_by self.now ++ told_by next.now) }
+    {
+        let last = next.brief()?;
+        if let Told::Two(first, second) = *self {
+            return Some(Told::Three(first, second, last));
+        }
+        let first = self.brief()?;
+        Some(Told::Two(first, last))
+    }
+
+    /// Appends the events to a list, in memory of their own.
     pub(crate) fn tell(&self, alloc: Global, events: &mut Events) -> Result<(), AllocError>
         ensures { OnOk result (events.new ≡ events.old ++ told_by self.now) }
     {
@@ -318,14 +358,27 @@ impl<'a> Told<'a> {
             } => return tell_both_sets(alloc, first, second, list, events),
             Told::SetsAt(sets) => return sets.tell(alloc, events),
             Told::Several(several) => return several.tell(alloc, events),
+            Told::Two(first, second) => {
+                events.push(first.told())?;
+                second.told()
+            }
+            Told::Three(first, second, third) => {
+                events.push(first.told())?;
+                events.push(second.told())?;
+                third.told()
+            }
         };
         events.push(event)?;
         Ok(())
     }
 }
 
-// Adds the events, in memory of their own.
-fn tell_all(told: &[Told<'_>], alloc: Global, events: &mut Events) -> Result<(), AllocError>
+/// Appends the events to a list, in memory of their own.
+pub(crate) fn tell_all(
+    told: &[Told<'_>],
+    alloc: Global,
+    events: &mut Events,
+) -> Result<(), AllocError>
     ensures { OnOk result (events.new ≡ events.old ++ all_told told.now) }
 {
     for one in told {
@@ -335,7 +388,7 @@ fn tell_all(told: &[Told<'_>], alloc: Global, events: &mut Events) -> Result<(),
 }
 
 impl<'a> Four<'a> {
-    // Adds the events, in memory of their own.
+    // Appends the events to a list, in memory of their own.
     fn tell(&self, alloc: Global, events: &mut Events) -> Result<(), AllocError>
         ensures { OnOk result (events.new ≡ events.old ++ four_told self.now) }
     {
@@ -345,7 +398,7 @@ impl<'a> Four<'a> {
 }
 
 impl<'a> Piece<'a> {
-    // Adds the events, in memory of their own.
+    // Appends the events to a list, in memory of their own.
     fn tell(&self, alloc: Global, events: &mut Events) -> Result<(), AllocError>
         ensures { OnOk result (events.new ≡ events.old ++ piece_told self.now) }
     {
@@ -357,7 +410,7 @@ impl<'a> Piece<'a> {
 }
 
 impl<'a> Waiting<'a> {
-    // None.
+    // No events.
     fn new() -> Waiting<'a>
         ensures { waiting_told result ≡ [] }
     {
@@ -368,7 +421,7 @@ impl<'a> Waiting<'a> {
         }
     }
 
-    // The events.
+    // The events that wait.
     #[tactic(auto, using(std::proofs::lemmas::List::take_min))]
     fn as_slice(&self) -> &[Told<'a>]
         ensures { all_told result.now ≡ waiting_told self.now }
@@ -378,7 +431,7 @@ impl<'a> Waiting<'a> {
     }
 }
 
-// How many parts are counted after one more, if they are counted.
+// The count after one more part, if parts are counted.
 fn after_one(parts: u32) -> u32 {
     if parts == 0 {
         0
@@ -388,7 +441,7 @@ fn after_one(parts: u32) -> u32 {
 }
 
 impl<'a> Last<'a> {
-    // The last part and those before it, where there is one.
+    // Splits off the last part, if there is one.
     fn parted(self) -> Option<(Piece<'a>, Last<'a>)>
         ensures { Parted (parts_from self.entry) result }
     {
@@ -408,14 +461,14 @@ impl<'a> Trace<'a> {
         Trace { last: Last::None }
     }
 
-    // The same events. Takes no memory.
+    // A copy that shares the parts. Does not allocate.
     fn copy(&self) -> Trace<'a>
         ensures { result ≡ self.now }
     {
         Trace { last: self.last }
     }
 
-    // With four events more.
+    // The trace with four more events.
     fn with(&self, bump: &'a Bump, told: Four<'a>) -> Result<Trace<'a>, AllocError>
         ensures { IfOk result (λ trace. trace ≡ four_told told.entry ∷ self.now) }
     {
@@ -428,7 +481,7 @@ impl<'a> Trace<'a> {
         }
     }
 
-    // With many events more.
+    // The trace with many more events.
     fn with_many(&self, bump: &'a Bump, told: &[Told<'a>]) -> Result<Trace<'a>, AllocError>
         ensures { IfOk result (λ trace. trace ≡ all_told told.now ∷ self.now) }
     {
@@ -455,7 +508,7 @@ impl<'a> Trace<'a> {
         Ok(held)
     }
 
-    // The events in the order in which they happened, in memory of their own.
+    // All events in order, in memory of their own.
     fn told(&self, alloc: Global) -> Result<Events, AllocError>
         ensures { IfOk result (λ events. events ≡ all_in_order self.now) }
     {
@@ -469,7 +522,7 @@ impl<'a> Trace<'a> {
 }
 
 impl<'a> SharedEvents<'a> {
-    /// None.
+    /// No events.
     pub(crate) fn new() -> SharedEvents<'a>
         ensures { result ≡ [] }
     {
@@ -479,7 +532,7 @@ impl<'a> SharedEvents<'a> {
         }
     }
 
-    /// The same. Takes no memory.
+    /// A copy that shares the parts. Does not allocate.
     pub(crate) fn copy(&self) -> SharedEvents<'a>
         ensures { result ≡ self.now }
     {
@@ -489,26 +542,26 @@ impl<'a> SharedEvents<'a> {
         }
     }
 
-    /// From now on no copy is made, until `end`.
+    /// Announces that no copy is made until `end`.
     pub(crate) fn begin(&mut self)
         ensures { self.new ≡ self.old }
     {
         self.waiting.parts = 1;
     }
 
-    /// Copies are made again.
+    /// Ends what `begin` announced: copies may be made again.
     pub(crate) fn end(&mut self)
         ensures { self.new ≡ self.old }
     {
         self.waiting.parts = 0;
     }
 
-    /// Whether so many were added since `begin` that many more may follow.
+    /// Whether so many events were added since `begin` that many more are expected.
     pub(crate) fn are_many(&self) -> bool {
         self.waiting.parts > MANY
     }
 
-    /// More events.
+    /// Adds events.
     pub(crate) fn add(&mut self, bump: &'a Bump, told: Told<'a>) -> Result<(), AllocError>
         ensures ok { OnOk result (self.new ≡ self.old ++ told_by told.entry) }
         ensures err { OnErr result (self.new ≡ self.old) }
@@ -530,7 +583,7 @@ impl<'a> SharedEvents<'a> {
         Ok(())
     }
 
-    /// Many events more.
+    /// Adds many events as one part.
     pub(crate) fn add_many(&mut self, bump: &'a Bump, told: &[Told<'a>]) -> Result<(), AllocError>
         ensures ok { OnOk result (self.new ≡ self.old ++ all_told told.now) }
         ensures err { OnErr result (self.new ≡ self.old) }
@@ -545,7 +598,7 @@ impl<'a> SharedEvents<'a> {
         Ok(())
     }
 
-    /// The events in the order in which they happened, in memory of their own.
+    /// All events in order, in memory of their own.
     pub(crate) fn told(&self, alloc: Global) -> Result<Events, AllocError>
         ensures { IfOk result (λ events. events ≡ self.now) }
     {

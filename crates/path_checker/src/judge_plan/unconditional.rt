@@ -1,4 +1,4 @@
-//! Whether a condition is met in a command.
+//! Whether a command runs a condition.
 
 ghost use Rattle.std.specs.Prelude.{◌↔◌, IsTrue};
 ghost use Rattle.suit_commands.specs.View.{command_tree};
@@ -6,7 +6,7 @@ ghost use Rattle.path_checker.specs.Unconditional.{IsUnconditional, AreUnconditi
 
 use suit_commands::{Branches, Command, Sequence};
 
-/// Whether no condition is met in a command, on any path.
+/// Whether a command runs no condition, on any path.
 #[cycle(unconditional)]
 pub(crate) fn is_unconditional(command: &Command) -> bool
     ensures { IsTrue result ↔ IsUnconditional (command_tree command.now) }
@@ -31,7 +31,7 @@ fn are_unconditional(sequence: &Sequence) -> bool
     true
 }
 
-// The first branch completes, or ends the procedure, where it is so: no other is run.
+// A first branch that runs no condition completes, or ends the procedure, so that no other branch is run.
 #[cycle(unconditional)]
 fn first_is_unconditional(branches: &Branches) -> bool
     ensures { IsTrue result ↔ FirstIsUnconditional branches.now }

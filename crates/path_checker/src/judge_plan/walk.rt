@@ -61,7 +61,7 @@ pub(crate) fn sequence<'a>(
     Ok(now)
 }
 
-/// Does a command in which a condition may be met in each of the states.
+/// Runs a command that may run a condition, from each of the states.
 #[cycle(walk)]
 pub(crate) fn command<'a>(
     memory: Memory<'a>,
@@ -94,7 +94,7 @@ pub(crate) fn command<'a>(
     Ok(merged)
 }
 
-// Does a command at each selected component.
+// Runs a command at each selected component.
 #[cycle(walk)]
 fn each<'a>(
     memory: Memory<'a>,
@@ -131,7 +131,7 @@ fn each<'a>(
     Ok(())
 }
 
-// Does a command at one component in each of the states.
+// Runs a command at one component, from each of the states.
 #[cycle(walk)]
 fn all_at<'a>(
     memory: Memory<'a>,
@@ -159,7 +159,7 @@ fn all_at<'a>(
     Ok(next)
 }
 
-// Does a command at one component.
+// Runs a command at one component.
 #[cycle(walk)]
 fn one<'a>(
     memory: Memory<'a>,
@@ -219,7 +219,7 @@ fn run<'a>(
     run_inside(memory, count, inner, &outer, from, next, failed)
 }
 
-// Runs it from each of the states, which are those in which it begins, and leaves it.
+// Runs an inner sequence from the states in which it begins, and leaves it.
 #[cycle(walk)]
 fn run_inside<'a>(
     memory: Memory<'a>,
@@ -242,7 +242,7 @@ fn run_inside<'a>(
     Ok(leave(memory, outer, done, stops, next, failed)?)
 }
 
-// Tries the branches in order.
+// Runs a try each: tries its branches in order.
 #[cycle(walk)]
 fn try_each<'a>(
     memory: Memory<'a>,
@@ -272,7 +272,7 @@ fn try_each<'a>(
     try_around(memory, count, branches, &around, k, next, failed)
 }
 
-// A try each at a component, with the state around it.
+// The place and component of a try each, and the state around it.
 #[derive(Drop)]
 struct Around<'a> {
     place: u64,
@@ -280,7 +280,7 @@ struct Around<'a> {
     outer: Outer<'a>,
 }
 
-// Tries them where this is around them.
+// Tries the branches in order.
 #[cycle(walk)]
 fn try_around<'a>(
     memory: Memory<'a>,
@@ -324,7 +324,7 @@ fn try_around<'a>(
     Ok(exhaust(place, outer, now, failed)?)
 }
 
-/// Runs a branch from each of the states, which are those in which it begins.
+/// Runs a branch from the states in which it begins. Returns those in which the next branch is tried.
 #[cycle(walk)]
 pub(crate) fn one_branch<'a>(
     memory: Memory<'a>,

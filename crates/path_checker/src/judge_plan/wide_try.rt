@@ -1,6 +1,6 @@
-//! A try each outside any inner sequence in which states may become many: a branch of it holds more than a few conditions and
-//! commands in which none is met, and its last branch is a sequence. Each state does it alone. It is done in two ways at least,
-//! so the width bounds how often it stands behind another one.
+//! Wide try each commands: those outside any inner sequence that may split a state into many, because a branch has many
+//! commands or one that is not straight, and whose last branch is a sequence. States run them one at a time. Each has
+//! two outcomes at least, so the width bounds how many can follow one another.
 
 ghost use Rattle.std.specs.Prelude.{◌≡◌, IsTrue, IfSome};
 ghost use Rattle.suit_commands.specs.Tree.{TryEach};
@@ -12,10 +12,10 @@ use crate::judge_plan::kept::Kept;
 use crate::judge_plan::straight::is_straight;
 use suit_commands::{Branches, Command, Sequence, Step};
 
-// Where more components are selected, it is wider than is judged.
+// With more components selected, the procedure would be too wide to judge.
 const MOST_SELECTED: usize = 22;
 
-// A sequence of more commands may end in many ways.
+// A longer sequence than this may end in many ways.
 const FEW: usize = 8;
 
 /// A try each whose last branch is a sequence, and its place.
@@ -26,7 +26,7 @@ pub(crate) struct Tried<'a> {
     pub last: &'a Sequence,
 }
 
-// The branches, where the last one is a sequence.
+// Splits off the last branch, if that is a sequence.
 fn parted(place: u64, branches: &Branches) -> Option<Tried<'_>>
     ensures is { IfSome result (λ tried. tried_branches tried ≡ branches.now) }
     ensures place { IfSome result (λ tried. tried.place ≡ place) }
@@ -46,7 +46,7 @@ fn parted(place: u64, branches: &Branches) -> Option<Tried<'_>>
     }
 }
 
-// Whether a state may be followed by many in a sequence, or where it fails.
+// Whether a sequence may split a state into many, counting those in which it fails.
 fn may_split(sequence: &Sequence) -> bool {
     if sequence.as_slice().len() > FEW {
         return true;
@@ -82,7 +82,7 @@ fn are_few(states: &[Kept<'_>]) -> bool
     true
 }
 
-/// The command, if it is such a try each, and few components are selected in each of these states.
+/// The command, if it is a wide try each and few components are selected in each of the states.
 pub(crate) fn wide_try<'a>(step: &'a Step, states: &[Kept<'_>]) -> Option<Tried<'a>>
     ensures is { IfSome result
         (λ tried. command_tree step.now.command ≡ TryEach (tried_branches tried)) }

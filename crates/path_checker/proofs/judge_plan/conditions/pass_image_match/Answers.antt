@@ -12,7 +12,7 @@ pub returns-in_ok-happens-in-Some : goal.returns-in_ok-happens-in-Some
 returns-in_ok-happens-in-Some c =
     let missed = stopped_by c.args.k.now (Missed c.args.component ∷ Failed c.args.place ∷ []) c.args.place in
     Passes-added (tests_course tests.ImageMatch c.args.place c.args.component) (c.args.k.now ∷ []) (c.happens.new.k ∷ []) none_yet (after_stops none_yet (missed ∷ []))
-    (Adds-matched c.args.place c.args.component c.args.k.now c.args.k.now c.k.inside.params _ _ [] (c.happens.new.k ∷ []) none_yet (after_stops none_yet (missed ∷ [])) (ap (λ k. k.state.parameters) c.k.view_is) c.in-Some.ensures c.size-size.ensures refl (ap (λ x. x ∷ []) (c.in_ok-happens-in-Some.ensures ∙ ap (λ (m : Match). with_events c.args.k.now (match_event c.args.component m ∷ [])) c.in_ok-own-in-Some.ensures)) refl)
+    (Adds-matched c.args.place c.args.component c.args.k.now c.args.k.now c.k.inside.params _ _ [] (c.happens.new.k ∷ []) none_yet (after_stops none_yet (missed ∷ [])) (ap (λ k. k.state.parameters) c.k.view_is) c.in-Some.ensures.0 c.in-Some.ensures.1 refl (ap (λ x. x ∷ []) (c.in_ok-happens-in-Some.ensures ∙ ap (λ (m : Match). with_events c.args.k.now (match_event c.args.component m ∷ [])) c.in_ok-own-in-Some.ensures)) refl)
 
 pub returns-in-None : goal.returns-in-None
 returns-in-None c =

@@ -1,6 +1,0 @@
-use Rattle.std.proofs.Common.{◌≡◌, ◌++◌, drop}
-use Rattle.path_checker.specs.Happening.{all_told}
-use Rattle.path_checker.proofs.judge_plan.past.Since.tell.Given as goal
-
-abbrev pub invariant-loop-told : goal.invariant-loop-told
-invariant-loop-told l = l.events ++ all_told (drop l.told-index l.told-items) ≡ l.initial.events ++ l.self
