@@ -1,5 +1,5 @@
--- Envelopes that may be installed, and why one may not (draft-ietf-suit-manifest-25, section 6): authenticity, the layout, the
--- members that stand apart, and both procedures, in the order in which they are judged.
+-- Envelopes that may be installed, and why others may not (draft-ietf-suit-manifest-25, section 6): their authenticity,
+-- the layout, the severed members, and both procedures, in the order in which they are judged.
 use Rattle.std.specs.Prelude.{◌≢◌, ℕ, List}
 use Rattle.suit_params.specs.declared.digest.Digest.{Digest}
 use Rattle.suit_params.specs.declared.refusal.Refusal.{Refusal}
@@ -28,58 +28,61 @@ use Rattle.admission.specs.Judging.{AreSafe, IsNotSafe}
 
 -- ---- authenticity under a key
 
--- the answer on an envelope that is not authentic, with its values
+-- the envelope is not authentic under the key, and this is the answer that says why
 pub record IsUnauthentic (said : EnvelopeSays) (key : List ℕ) (answer : Authenticity) : Type 0 where
   pub lacking : answer ≢ Yes
   pub answers : (digest : Digest) (blocks : List (List ℕ)) → WrapperSays said.wrapper digest blocks
       → AnswersAuthentic digest blocks said.manifest key answer
 
--- ---- what is met, one after the other
+-- ---- what is met, in order
 
--- the bytes spell an envelope within the limit, which is authentic under the key
+-- the bytes spell an envelope that is within the limit and authentic under the key
 pub record AreAuthentic (limit : ℕ) (key bytes : List ℕ) (said : EnvelopeSays) : Type 0 where
   pub within : IsWithin limit bytes said
   pub authentic : IsAuthentic said.wrapper said.manifest key
 
--- and has this manifest
+-- the same, and this is the envelope's manifest
 pub record IsOffered (limit : ℕ) (key bytes : List ℕ) (said : EnvelopeSays) (manifest : Manifest)
     : Type 0 where
   pub are_authentic : AreAuthentic limit key bytes said
   pub says : HasManifest said manifest
 
--- an envelope, its manifest, the places of the manifest's components in the layout, and its members that stand apart
+-- what is admitted: an envelope, its manifest, where the layout has the manifest's components, and the severed members
 pub record Admission : Type 0 where
   pub said : EnvelopeSays
   pub manifest : Manifest
   pub places : Places
   pub members : Members
 
--- the layout has the components, and the members are there and match
+-- the same, and the layout has the components, and the severed members are in the envelope and have the stated digests
 pub record IsComplete (limit : ℕ) (layout : List Entry) (key bytes : List ℕ) (a : Admission)
     : Type 0 where
   pub offered : IsOffered limit key bytes a.said a.manifest
   pub placed : ArePlaces layout a.manifest.components a.places
   pub members : HasMembers a.said a.manifest a.members
 
--- the envelope of these bytes is admitted: both its procedures may be run besides
+-- the envelope of these bytes may be installed: all of that is met, and both its procedures are safe
 pub record IsAdmitted (limit : ℕ) (layout : List Entry) (key bytes : List ℕ) (a : Admission)
     : Type 0 where
   pub complete : IsComplete limit layout key bytes a
   pub safe : AreSafe (update_tree a.manifest a.members) (invocation_tree a.manifest)
 
--- ---- what is not met first
+-- ---- what is the first that is not met
 
+-- the envelope is within the limit, but not authentic
 pub record IsAuthenticityRefused (limit : ℕ) (key bytes : List ℕ) (answer : Authenticity)
     : Type 0 where
   pub said : EnvelopeSays
   pub within : IsWithin limit bytes said
   pub unauthentic : IsUnauthentic said key answer
 
+-- the envelope is authentic, but its manifest is refused
 pub record IsAuthenticWithout (limit : ℕ) (key bytes : List ℕ) (r : Refusal) : Type 0 where
   pub said : EnvelopeSays
   pub are_authentic : AreAuthentic limit key bytes said
   pub refuses : HasNoManifest said r
 
+-- the manifest is offered, but the layout lacks this component first
 pub record LacksComponent (limit : ℕ) (layout : List Entry) (key bytes : List ℕ) (component : ℕ)
     : Type 0 where
   pub said : EnvelopeSays
@@ -87,6 +90,7 @@ pub record LacksComponent (limit : ℕ) (layout : List Entry) (key bytes : List 
   pub offered : IsOffered limit key bytes said manifest
   pub unknown : IsFirstUnknown layout manifest.components component
 
+-- the layout has the components, but a severed member is missing, has another digest or is refused
 pub record LacksMember (limit : ℕ) (layout : List Entry) (key bytes : List ℕ) (fault : MemberFault)
     : Type 0 where
   pub said : EnvelopeSays
@@ -96,13 +100,14 @@ pub record LacksMember (limit : ℕ) (layout : List Entry) (key bytes : List ℕ
   pub placed : ArePlaces layout manifest.components places
   pub lacks : LacksMembers said manifest fault
 
+-- the severed members are in order, but the procedures must not be run
 pub record LacksSafety (limit : ℕ) (layout : List Entry) (key bytes : List ℕ) (refusal : NotSafe)
     : Type 0 where
   pub of : Admission
   pub complete : IsComplete limit layout key bytes of
   pub refuses : IsNotSafe (update_tree of.manifest of.members) (invocation_tree of.manifest) refusal
 
--- why the envelope of these bytes is not admitted: all that is judged before is met, and this is not
+-- why the envelope of these bytes may not be installed: all that is judged earlier is met, and this is not
 abbrev pub IsNotAdmitted : ℕ → List Entry → List ℕ → List ℕ → NotAdmitted → Type 0
 IsNotAdmitted limit layout key bytes (refusals.NoEnvelope r) = SpellNone bytes r
 IsNotAdmitted limit layout key bytes (refusals.TooLong size) = IsAbove limit bytes size
@@ -123,7 +128,7 @@ IsNotAdmitted limit layout key bytes (refusals.Unsafe procedure path) =
     LacksSafety limit layout key bytes (not_safe.Unsafe procedure path)
 IsNotAdmitted limit layout key bytes refusals.NoMemory = ⊥
 
--- ---- the code's answer
+-- ---- what the code returns
 
 abbrev pub admission_of : Admitted → Admission
 admission_of a = record {

@@ -1,4 +1,4 @@
--- Bytes are admitted or refused in one way, whatever judges them.
+-- Bytes are admitted or refused in one way only, whatever code judges them.
 use Rattle.std.specs.Prelude.{◌≡◌, ◌⊎◌, ℕ, List}
 use Rattle.std.specs.List.{AllByRecursion}
 use Rattle.det_cbor.specs.DataItem.{IsByte}
@@ -20,7 +20,7 @@ use Rattle.admission.specs.Refusals.{of_procedures}
 use Rattle.admission.specs.Starting.{IsNotStartable, IsStartable, SpellManifest}
 use Rattle.admission.specs.Admission.{Admission, IsAdmitted, IsNotAdmitted}
 
--- two refusals tell the same; a procedure that is not safe may be told by another path
+-- two refusals say the same; only the path of a procedure that is not safe may be another
 abbrev pub RefuseAlike : NotAdmitted → NotAdmitted → Type 0
 RefuseAlike (refusals.NoEnvelope r) (refusals.NoEnvelope other) = r ≡ other
 RefuseAlike (refusals.TooLong size) (refusals.TooLong other) = size ≡ other
@@ -40,11 +40,11 @@ RefuseAlike (refusals.Unsafe procedure path) (refusals.Unsafe other other_path) 
 RefuseAlike refusals.NoMemory refusals.NoMemory = Unit {0}
 RefuseAlike _ _ = ⊥
 
--- two refusals of the same procedures
+-- two refusals of the same procedures say the same
 abbrev pub JudgeAlike : NotSafe → NotSafe → Type 0
 JudgeAlike a b = RefuseAlike (of_procedures a) (of_procedures b)
 
--- two refusals to start
+-- two refusals to start say the same
 abbrev pub StartAlike : NotStartable → NotStartable → Type 0
 StartAlike (not_startable.NoEnvelope r) (not_startable.NoEnvelope other) = r ≡ other
 StartAlike (not_startable.NoManifest r) (not_startable.NoManifest other) = r ≡ other
@@ -54,13 +54,14 @@ StartAlike (not_startable.UnknownComponent component) (not_startable.UnknownComp
     component ≡ other
 StartAlike _ _ = ⊥
 
--- two admissions are of the same envelope, manifest and members
+-- two admissions have the same envelope, manifest and members
 pub record AdmitAlike (a b : Admission) : Type 0 where
   pub said : a.said ≡ b.said
   pub manifest : a.manifest ≡ b.manifest
   pub members : a.members ≡ b.members
 
--- ---- the laws: what is met has no refusal, and is one; what is refused has one refusal; each file is opened or refused
+-- ---- the laws: what is met is not refused, and is unique; what is refused has one refusal; each file is opened or
+-- refused
 
 pub record OpeningLaws : Type 0 where
   pub never_both : (limit : ℕ) (bytes : List ℕ) (said : EnvelopeSays) (manifest : Manifest)
@@ -96,11 +97,11 @@ pub record StartingLaws : Type 0 where
   pub one_refusal : (layout : List Entry) (key bytes : List ℕ) (r other : NotStartable)
       → IsNotStartable layout key bytes r → IsNotStartable layout key bytes other
       → StartAlike r other
-  -- bytes have one manifest
+  -- bytes spell one manifest
   pub one_manifest : (bytes : List ℕ) (said other : EnvelopeSays) (manifest next : Manifest)
       → SpellManifest bytes said manifest → SpellManifest bytes other next
       → (said ≡ other) × (manifest ≡ next)
-  -- what is admitted may be started
+  -- an envelope that may be installed may be started
   pub admitted : (limit : ℕ) (layout : List Entry) (key bytes : List ℕ) (a : Admission)
       → IsAdmitted limit layout key bytes a
       → IsStartable layout key bytes a.said a.manifest a.places

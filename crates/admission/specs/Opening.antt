@@ -1,4 +1,5 @@
--- Files that are opened: the envelope within a limit, and its manifest (draft-ietf-suit-manifest-25, sections 8.2 to 8.4).
+-- Files that are opened: the envelope, within a limit of length, and its manifest (draft-ietf-suit-manifest-25,
+-- sections 8.2 to 8.4).
 use Rattle.std.specs.Prelude.{◌≡◌, ◌<◌, ◌≤◌, ℕ, List, length}
 use Rattle.std.specs.List.{AllByRecursion}
 use Rattle.det_cbor.specs.DataItem.{IsByte}
@@ -20,19 +21,21 @@ pub record Spell (bytes : List ℕ) (said : EnvelopeSays) : Type 0 where
   pub are_bytes : AllByRecursion IsByte bytes
   pub envelope : EnvelopeOf bytes said
 
+-- the bytes of a file are refused as an envelope
 pub record SpellNone (bytes : List ℕ) (r : Refusal) : Type 0 where
   pub are_bytes : AllByRecursion IsByte bytes
   pub refuses : RefusesBytes bytes r
 
--- how long an envelope is with its wrapper and manifest alone, in bytes
+-- the length in bytes of an envelope that is trimmed to its wrapper and manifest
 abbrev pub trimmed_size : EnvelopeSays → ℕ
 trimmed_size said = length (trimmed said.wrapper said.manifest)
 
--- so trimmed, the envelope of the bytes is within the limit
+-- the bytes spell an envelope whose trimmed length is within the limit
 pub record IsWithin (limit : ℕ) (bytes : List ℕ) (said : EnvelopeSays) : Type 0 where
   pub spell : Spell bytes said
   pub short : trimmed_size said ≤ limit
 
+-- the bytes spell an envelope whose trimmed length is above the limit, and this is that length
 pub record IsAbove (limit : ℕ) (bytes : List ℕ) (size : ℕ) : Type 0 where
   pub said : EnvelopeSays
   pub spell : Spell bytes said
@@ -41,25 +44,29 @@ pub record IsAbove (limit : ℕ) (bytes : List ℕ) (size : ℕ) : Type 0 where
 
 -- ---- its manifest
 
+-- the bytes that the envelope holds spell this manifest
 abbrev pub HasManifest : EnvelopeSays → Manifest → Type 0
 HasManifest said manifest = SaysWhole IsManifest said.manifest_place said.manifest manifest
 
+-- the bytes that the envelope holds are refused as a manifest
 abbrev pub HasNoManifest : EnvelopeSays → Refusal → Type 0
 HasNoManifest said r = RefusesWhole RefusesManifest said.manifest_place said.manifest r
 
 -- ---- both
 
+-- the bytes spell an envelope within the limit, and this is its manifest
 pub record IsOpened (limit : ℕ) (bytes : List ℕ) (said : EnvelopeSays) (manifest : Manifest)
     : Type 0 where
   pub within : IsWithin limit bytes said
   pub says : HasManifest said manifest
 
+-- the bytes spell an envelope within the limit, but its manifest is refused
 pub record LacksManifest (limit : ℕ) (bytes : List ℕ) (r : Refusal) : Type 0 where
   pub said : EnvelopeSays
   pub within : IsWithin limit bytes said
   pub refuses : HasNoManifest said r
 
--- why a file is not opened: the grammar of the envelope, its length, the grammar of the manifest
+-- why a file is not opened: for the grammar of the envelope, its length, or the grammar of the manifest
 abbrev pub IsNotOpened : ℕ → List ℕ → NotOpened → Type 0
 IsNotOpened limit bytes (refusals.NoEnvelope r) = SpellNone bytes r
 IsNotOpened limit bytes (refusals.TooLong size) = IsAbove limit bytes size
@@ -68,13 +75,13 @@ IsNotOpened limit bytes refusals.NoMemory = ⊥
 
 -- ---- single steps
 
--- no envelope within the limit
+-- why the bytes are not an envelope within the limit
 abbrev pub IsNotWithin : ℕ → List ℕ → NotOpened → Type 0
 IsNotWithin limit bytes (refusals.NoEnvelope r) = SpellNone bytes r
 IsNotWithin limit bytes (refusals.TooLong size) = IsAbove limit bytes size
 IsNotWithin limit bytes _ = ⊥
 
--- no manifest in an envelope, unless memory ran out
+-- why the envelope's manifest is not decoded; memory may have run out
 abbrev pub IsManifestRefused : EnvelopeSays → NotOpened → Type 0
 IsManifestRefused said (refusals.NoManifest r) = HasNoManifest said r
 IsManifestRefused said refusals.NoMemory = Unit {0}

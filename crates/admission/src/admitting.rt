@@ -18,7 +18,7 @@ use std::alloc::Global;
 use suit_envelope::{Authenticity, Envelope, authentic};
 use suit_manifest::{Manifest, Members, members_of, procedure_laws};
 
-// Checks that the envelope is authentic under the key.
+// Returns an error unless the envelope is authentic under the key.
 pub(crate) fn authenticated<'a>(envelope: &Envelope<'a>, key: &[u8]) -> Result<(), Authenticity<'a>>
     requires { HasWrapper envelope.now.wrapper.now }
     ensures authentic { IsOk result
@@ -31,8 +31,8 @@ pub(crate) fn authenticated<'a>(envelope: &Envelope<'a>, key: &[u8]) -> Result<(
     }
 }
 
-/// An update that may be installed: an envelope, its manifest, the places of the manifest's components in the flash's
-/// layout, and the members that stand apart.
+/// An update that may be installed: its envelope, the manifest, where the layout has the manifest's components, and the
+/// severed members.
 #[derive(Drop)]
 pub struct Admitted<'a> {
     pub envelope: Envelope<'a>,
@@ -41,7 +41,7 @@ pub struct Admitted<'a> {
     pub members: Members,
 }
 
-// See `admit`.
+// Does the work of `admit`.
 fn admit_bytes<'a>(
     alloc: Global,
     layout: &Layout,
@@ -74,9 +74,11 @@ fn admit_bytes<'a>(
     })
 }
 
-/// Judges whether the envelope of these bytes may be installed on a flash with this layout and key: its grammar, the
-/// length of the trimmed envelope, which is at most `limit`, its authenticity, its manifest, the places of the components,
-/// the members that stand apart, and both procedures, in this order.
+/// Judges whether the envelope that the bytes spell may be installed on a flash with this layout and key.
+///
+/// Judges, in this order: the grammar of the envelope, the length of the trimmed envelope in bytes, which is at most
+/// `limit`, its authenticity, its manifest, the places of the components in the layout, the severed members, and both
+/// procedures. The error tells the first of these that is not met, or that memory ran out.
 pub fn admit<'a>(
     alloc: Global,
     layout: &Layout,

@@ -22,7 +22,7 @@ use suit_manifest::{Manifest, Members, invocation_plan, update_plan};
 /// The largest width of a procedure that is judged.
 pub const WIDEST: u64 = 4_194_304;
 
-// Judges the invocation behind a narrow and safe update.
+// Judges the invocation, once the update is known to be safe.
 fn judge_invocation(alloc: Global, invocation: &Plan<'_>) -> Result<(), NotSafe>
     requires { IsPlan (plan_tree invocation.now) }
     ensures safe { IsOk result
@@ -41,7 +41,7 @@ fn judge_invocation(alloc: Global, invocation: &Plan<'_>) -> Result<(), NotSafe>
     }
 }
 
-// The refusal of a narrow update with this path, which comes only behind the invocation's width.
+// Why an update with an uncovered path is refused. An invocation that is too wide is told before that path.
 fn refuse_update(invocation: &Plan<'_>, path: BadPath) -> NotSafe
     ensures { (update : PlanTree) → IsNarrow update → IsBadPath update path
         → IsNotSafe update (plan_tree invocation.now) result }
@@ -60,7 +60,7 @@ fn refuse_update(invocation: &Plan<'_>, path: BadPath) -> NotSafe
     }
 }
 
-// Judges the update. Where a path of it is not covered, the invocation's width comes first.
+// Judges the update. If a path of it is not covered, the width of the invocation is judged before that is told.
 fn judge_update(alloc: Global, manifest: &Manifest, members: &Members) -> Result<(), NotSafe>
     requires components { length manifest.now.components < 2 ^ 32 }
     requires plan { IsPlan (update_tree manifest.now members.now) }
@@ -82,7 +82,7 @@ fn judge_update(alloc: Global, manifest: &Manifest, members: &Members) -> Result
     }
 }
 
-/// Judges both procedures of a manifest whose members are kept. See `judge`.
+/// Does the work of `judge`, but keeps the members.
 pub(crate) fn judge_both(
     alloc: Global,
     manifest: &Manifest,
@@ -99,7 +99,7 @@ pub(crate) fn judge_both(
     judge_invocation(alloc, &invocation_plan(manifest))
 }
 
-// See `judge`.
+// Does the work of `judge`.
 fn judge_in_turn(alloc: Global, manifest: &Manifest, members: Members) -> Result<(), NotSafe>
     requires components { length manifest.now.components < 2 ^ 32 }
     requires update { IsPlan (update_tree manifest.now members) }
@@ -112,10 +112,11 @@ fn judge_in_turn(alloc: Global, manifest: &Manifest, members: Members) -> Result
     judge_invocation(alloc, &invocation_plan(manifest))
 }
 
-/// Judges both procedures of a manifest: their widths, the update's first, and then their paths, the update's first.
+/// Judges both procedures of a manifest: first the width of the update and that of the invocation, and then their paths
+/// in the same order.
 ///
-/// Each width is counted once. Where memory runs out, the update is not too wide. The members are freed before the
-/// invocation is judged.
+/// Each width is counted once. `NoMemory` says nothing but that the update is not too wide. The members are freed
+/// before the invocation is judged.
 pub fn judge(alloc: Global, manifest: &Manifest, members: Members) -> Result<(), NotSafe>
     requires components { length manifest.now.components < 2 ^ 32 }
     requires update { IsPlan (update_tree manifest.now members) }

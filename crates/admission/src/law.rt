@@ -1,4 +1,4 @@
-//! Laws of admission, whatever judges the bytes.
+//! Laws of admission, which hold whatever code judges the bytes.
 
 ghost use Rattle.admission.specs.AdmissionLaws.{AdmissionLaws};
 
@@ -6,8 +6,9 @@ use path_model::safety_laws;
 use suit_envelope::{authenticity_laws, envelope_laws};
 use suit_manifest::{manifest_laws, members_laws};
 
-/// Does nothing. Its contract has the laws: bytes that are admitted have no refusal, and they have one envelope, one
-/// manifest and its members; bytes that are refused have one refusal, but for the path that shows an unsafe procedure.
+/// Does nothing. Its contract has the laws: bytes that are admitted are not refused, and have one envelope, one
+/// manifest and its members. Bytes that are refused have one refusal, except that several paths may show that a
+/// procedure is unsafe.
 pub fn admission_laws()
     ensures { AdmissionLaws }
 {

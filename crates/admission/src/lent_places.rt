@@ -1,4 +1,4 @@
-//! Where the components of a lent manifest stand in a layout.
+//! Where the layout has the components of a manifest that is lent.
 
 ghost use Rattle.std.specs.Prelude.{◌≡◌, ◌↔◌, ◌≤◌, ◌<◌, [], get_or, length, IfErr, IfOk, IsTrue, MatchOption};
 ghost use Rattle.flash_layout.specs.Placement.{ArePlaces, HasPlace, HaveOtherPlaces, IsFirstUnknown, IsUnknown};
@@ -7,7 +7,7 @@ use flash_layout::{Entry, Layout, MAX_COMPONENTS, MOST_ENTRIES, Places, Unknown}
 use manifest_view::{LentIdentifier, LentIdentifiers};
 use suit_params::Identifier;
 
-// Whether the bytes lend this identifier.
+// Whether the lent identifier is this one.
 fn is_lent(identifier: &Identifier, mut lent: LentIdentifier<'_>) -> bool
     ensures { IsTrue result ↔ (identifier.now ≡ lent.entry) }
 {
@@ -24,7 +24,7 @@ fn is_lent(identifier: &Identifier, mut lent: LentIdentifier<'_>) -> bool
     lent.next().is_none()
 }
 
-// The index of the component whose identifier is lent next.
+// The index of the component in the layout whose identifier is the next one lent, if there is one.
 fn find_next(entries: &[Entry], ids: &mut LentIdentifiers<'_>) -> Option<usize>
     requires { 0 < length ids.old }
     ensures found { MatchOption result (IsUnknown entries.now (get_or ids.old 0 []))
@@ -41,7 +41,8 @@ fn find_next(entries: &[Entry], ids: &mut LentIdentifiers<'_>) -> Option<usize>
     None
 }
 
-/// The places of a manifest's components in a layout, or the first component that the layout lacks. Takes no memory.
+/// Finds the components of a manifest in the layout. The error has the first one that the layout lacks. Does not
+/// allocate.
 pub(crate) fn places_lent(layout: &Layout, mut ids: LentIdentifiers<'_>) -> Result<Places, Unknown>
     requires entries { length layout.now ≤ MOST_ENTRIES }
     requires components { length ids ≤ MAX_COMPONENTS }

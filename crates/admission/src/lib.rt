@@ -1,6 +1,7 @@
 //! Whether an envelope's bytes may be installed or started, as one typed answer.
 //!
-//! What is judged stands in one order. Each refusal says that all before it was met, and tells what it is refused for.
+//! The judgements come in one order. A refusal tells which of them failed, and with what values; all before it were
+//! met.
 #![tactic(auto)]
 
 mod admitting;

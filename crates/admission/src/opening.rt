@@ -1,4 +1,4 @@
-//! An envelope within a limit, and its manifest.
+//! Opening of envelopes whose trimmed length is within a limit, and of their manifests.
 
 ghost use Rattle.std.specs.Prelude.{◌≡◌, ◌≢◌, ◌⊎◌, ◌+◌, ◌<◌, ◌≤◌, ◌^◌, IfErr, IfOk, IsErrAnd, length};
 ghost use Rattle.suit_envelope.specs.Envelopes.{EnvelopeSays};
@@ -16,10 +16,10 @@ use suit_envelope::{Envelope, decode_envelope, trimmed_length};
 use suit_manifest::{Manifest, decode_manifest};
 use suit_params::Fault;
 
-/// The longest trimmed envelope that a flash of layout version 1 takes, in bytes: its banks hold it.
+/// The length in bytes of the longest trimmed envelope that fits a flash of layout version 1. It is the size of a bank.
 pub const LONGEST_TRIMMED: u32 = 16_384;
 
-/// The envelope that the bytes spell, if it is within the limit when it is trimmed.
+/// Decodes an envelope whose trimmed length is at most `limit` bytes.
 pub(crate) fn envelope_within(bytes: &[u8], limit: u32) -> Result<Envelope<'_>, NotOpened>
     ensures within { IfOk result (λ e. IsWithin limit bytes.now (said_by e)) }
     ensures whole { IfOk result (λ e. e.whole.now ≡ bytes.now) }
@@ -38,7 +38,7 @@ pub(crate) fn envelope_within(bytes: &[u8], limit: u32) -> Result<Envelope<'_>, 
     Ok(envelope)
 }
 
-/// The envelope's manifest.
+/// Decodes the envelope's manifest.
 pub(crate) fn manifest_in(alloc: Global, envelope: &Envelope<'_>) -> Result<Manifest, NotOpened>
     requires { envelope.now.manifest_place + length envelope.now.manifest.now < 2 ^ 64 }
     ensures says { IfOk result (HasManifest (said_by envelope.now)) }
@@ -59,7 +59,7 @@ pub struct Opened<'a> {
     pub manifest: Manifest,
 }
 
-// See `open`.
+// Does the work of `open`.
 fn open_bytes(alloc: Global, bytes: &[u8], limit: u32) -> Result<Opened<'_>, NotOpened>
     ensures opened { IfOk result
         (λ o. IsOpened limit bytes.now (said_by o.envelope) o.manifest) }
@@ -74,9 +74,9 @@ fn open_bytes(alloc: Global, bytes: &[u8], limit: u32) -> Result<Opened<'_>, Not
     Ok(Opened { envelope, manifest })
 }
 
-/// Opens a file: the envelope that the bytes spell, which is within the limit when it is trimmed, and its manifest.
+/// Opens a file: decodes its envelope, whose trimmed length is at most `limit` bytes, and then the manifest.
 ///
-/// Whether the envelope is authentic is not asked. Allocates only for the manifest.
+/// Does not judge whether the envelope is authentic. Allocates only for the manifest.
 pub fn open(alloc: Global, bytes: &[u8], limit: u32) -> Result<Opened<'_>, NotOpened>
     ensures opened { IfOk result
         (λ o. IsOpened limit bytes.now (said_by o.envelope) o.manifest) }

@@ -23,19 +23,19 @@ pub enum Procedure {
 pub enum NotOpened {
     /// The bytes are refused as an envelope.
     NoEnvelope(Refusal),
-    /// The trimmed envelope is above the limit; its length in bytes, which saturates at 64 bits.
+    /// The trimmed envelope is longer than the limit. Holds its length in bytes, saturated at 64 bits.
     TooLong(u64),
-    /// The envelope's manifest is refused. Its place is counted from the envelope's first byte.
+    /// The envelope's manifest is refused. The place is a byte offset in the envelope.
     NoManifest(Refusal),
     NoMemory,
 }
 
-/// Why the procedures of a manifest are not to be run.
+/// Why the procedures of a manifest must not be run.
 #[derive(Debug, Drop)]
 pub enum NotSafe {
-    /// There is too much to judge; the procedure's width, which saturates at 64 bits.
+    /// The procedure is too wide to judge. Holds its width, saturated at 64 bits.
     TooWide { procedure: Procedure, width: u64 },
-    /// The last invoke of this path is not covered.
+    /// The last event of this path is an invoke that is not covered.
     Unsafe { procedure: Procedure, path: BadPath },
     NoMemory,
 }
@@ -45,30 +45,31 @@ pub enum NotSafe {
 pub enum NotAdmitted<'a> {
     /// The bytes are refused as an envelope.
     NoEnvelope(Refusal),
-    /// The trimmed envelope is above the limit; its length in bytes, which saturates at 64 bits.
+    /// The trimmed envelope is longer than the limit. Holds its length in bytes, saturated at 64 bits.
     TooLong(u64),
-    /// The envelope is not authentic under the key; never `Yes`.
+    /// The envelope is not authentic under the key. Never holds `Yes`.
     NotAuthentic(Authenticity<'a>),
-    /// The envelope's manifest is refused. Its place is counted from the envelope's first byte.
+    /// The envelope's manifest is refused. The place is a byte offset in the envelope.
     NoManifest(Refusal),
-    /// The first component that the layout lacks, by its index in the manifest.
+    /// The layout lacks this component of the manifest, by its index there. It is the first one that it lacks.
     UnknownComponent(u32),
-    /// The manifest states the member's digest, and the envelope does not hold it.
+    /// The manifest states the digest of this severed member, and the envelope does not hold the member.
     Severed(MemberName),
-    /// The digest that the manifest states, and the one of the member's byte string in the envelope.
+    /// The manifest states one digest of this severed member, and the envelope holds a member that has another.
     Differs {
         name: MemberName,
         stated: Digest,
         found: Digest,
     },
-    /// A member that has the stated digest is refused as a sequence. Its place is counted from the envelope's first byte.
+    /// A member that has the stated digest is refused as a command sequence. The place is a byte offset in the
+    /// envelope.
     NoSequence(Refusal),
-    /// There is too much to judge; the procedure's width, which saturates at 64 bits.
+    /// The procedure is too wide to judge. Holds its width, saturated at 64 bits.
     TooWide {
         procedure: Procedure,
         width: u64,
     },
-    /// The last invoke of this path is not covered.
+    /// The last event of this path is an invoke that is not covered.
     Unsafe {
         procedure: Procedure,
         path: BadPath,
@@ -76,16 +77,16 @@ pub enum NotAdmitted<'a> {
     NoMemory,
 }
 
-/// Why what is installed is not started.
+/// Why the installed envelope is not started.
 #[derive(Clone, Copy, Debug, PartialEq, Eq)]
 pub enum NotStartable<'a> {
     /// The bytes are refused as an envelope.
     NoEnvelope(Refusal),
-    /// The envelope's manifest is refused. Its place is counted from the envelope's first byte.
+    /// The envelope's manifest is refused. The place is a byte offset in the envelope.
     NoManifest(Refusal),
-    /// The envelope is not authentic under the key; never `Yes`.
+    /// The envelope is not authentic under the key. Never holds `Yes`.
     NotAuthentic(Authenticity<'a>),
-    /// The first component that the layout lacks, by its index in the manifest.
+    /// The layout lacks this component of the manifest, by its index there. It is the first one that it lacks.
     UnknownComponent(u32),
 }
 

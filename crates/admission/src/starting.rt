@@ -20,8 +20,8 @@ use flash_layout::{Layout, MOST_ENTRIES, Places};
 use manifest_view::ManifestView;
 use suit_envelope::{Envelope, decode_envelope};
 
-/// What a boot starts: an envelope, its manifest, lent by the envelope's bytes, and the places of the manifest's components
-/// in the flash's layout.
+/// An installed envelope that may be started, its manifest, lent by the envelope's bytes, and where the layout has the
+/// manifest's components.
 #[derive(Drop)]
 pub struct Start<'a> {
     pub envelope: Envelope<'a>,
@@ -29,7 +29,7 @@ pub struct Start<'a> {
     pub places: Places,
 }
 
-// See `startable`.
+// Does the work of `startable`.
 fn start_bytes<'a>(
     layout: &Layout,
     key: &[u8],
@@ -63,8 +63,10 @@ fn start_bytes<'a>(
     })
 }
 
-/// Judges whether the envelope of these bytes may be started on a flash with this layout and key: its grammar, its
-/// manifest, its authenticity, and the places of the components, in this order. Takes no memory.
+/// Judges whether the envelope that the bytes spell may be started on a flash with this layout and key.
+///
+/// Judges, in this order: the grammar of the envelope, its manifest, its authenticity, and the places of the components
+/// in the layout. The error tells the first of these that is not met. Does not allocate.
 pub fn startable<'a>(
     layout: &Layout,
     key: &[u8],

@@ -158,7 +158,8 @@ holds_manifest d files bytes described_as q said reads e envelope says_so = reco
 
 -- ---- the severed members are those of the description
 
--- A severed member that is given with its content stands in the envelope, and its digest in the manifest. Nothing else stands there.
+-- A severed member that is given with its content stands in the envelope, and its digest in the manifest. Nothing else
+-- stands there.
 pub record StandBeside : Type 0 where
   pub here :
       (kind : DigestKind) (s : SequenceTree) → (severed_content true (members.Here s) ≡ Some (spell (sequence_item s))) × (apart_member true kind (members.Here s) ≡ members.Apart (string_digest kind (spell (sequence_item s))))

@@ -107,7 +107,7 @@ severed_inside whole key files d p is =
     )
 
 module _ (d : Data) (files : Files) (key : List ℕ) (accepted : ∥ IsDescription d ∥₁) where
-  -- without the contents of the severed members it is no flawed either
+  -- without the contents of the severed members it is not flawed either
   never_bare : (severed : Severed) (flaw : Flaw) (r : Result Described Flaw) → described files d ≡ r → described_bare files severed d ≡ Err flaw → ⊥
   never_bare severed flaw (Ok p) is bad =
       let both : Ok (bare severed p) ≡ Err flaw = sym (bare_read files severed d p is) ∙ bad in

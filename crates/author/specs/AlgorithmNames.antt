@@ -1,4 +1,4 @@
--- The hash functions by their names in a description (RFC 9054, section 2).
+-- Hash functions by their names in a description (RFC 9054, section 2).
 use Rattle.std.specs.Prelude.{ℕ, if◌then◌else◌, List, codes, Option, Some, None, option_and_then, Result}
 use Rattle.std.specs.Str.{bytes_eq}
 use Rattle.serde_json.specs.Data.{Data}

@@ -1,5 +1,5 @@
--- A description without the contents of its severed members: the digest of nothing stands in their place. The wrapper and the
--- manifest that are made of it are as long.
+-- A description without the contents of its severed members: the digest of no bytes is in their place. The wrapper and
+-- the manifest that are made from it have the same lengths.
 use Rattle.std.specs.Prelude.{ℕ, Bool, true, false, ◌&&◌, if◌then◌else◌, List, [], codes, is_some, Result, Ok}
 use Rattle.std.specs.Str.{bytes_eq}
 use Rattle.det_cbor.specs.HeadReading.{◌>>=◌}
@@ -19,7 +19,7 @@ use Rattle.author.specs.Descriptions.{no_fields, takes_field, finished}
 abbrev pub no_content : DigestKind → Member
 no_content kind = members.Apart (string_digest kind [])
 
--- ---- of what was read
+-- ---- bare parts of what was read
 
 abbrev pub bare_member : Bool → DigestKind → Member → Member
 bare_member true kind (members.Here s) = no_content kind
@@ -37,7 +37,7 @@ bare severed p =
       };
     }
 
--- ---- how it is read
+-- ---- reading bare parts
 
 abbrev pub takes_other : Takes BareFields
 takes_other t key d = takes_field t.fields key d >>= λ fields. Ok (record t { fields = fields })

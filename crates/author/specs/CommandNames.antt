@@ -32,7 +32,7 @@ command_named name =
     else if bytes_eq name (codes "run") then Some names.Run
     else None
 
--- directives that act on contents do not stand in the shared sequence
+-- directives that act on contents are not allowed in the shared sequence
 abbrev pub allowed : Bool → CommandName → Result CommandName Flaw
 allowed shared (names.Act kind) = if shared then flawed Field else Ok (names.Act kind)
 allowed shared name = Ok name

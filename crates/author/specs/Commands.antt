@@ -1,4 +1,4 @@
--- Commands of a description: arrays of a name and an argument. Places are 0 in the tree.
+-- Commands in a description: arrays of a name and an argument. All places in the tree are 0.
 use Rattle.std.specs.Prelude.{ℕ, zero, suc, Bool, true, false, ◌&&◌, if◌then◌else◌, Option, Some, None, is_some, Result, Ok}
 use Rattle.det_cbor.specs.HeadReading.{◌>>=◌}
 use Rattle.serde_json.specs.Data.{Data, array, Items, no_items, item}
@@ -19,7 +19,8 @@ use Rattle.author.specs.CommandNames.{name_of}
 abbrev pub argument : {A : Type 0} → Result A Flaw → Result A Flaw
 argument read = under (index_token 1) read
 
--- the command of a name and an argument, which is also read as a sequence and as the branches of a try each
+-- the command of a name and an argument; the argument is also given as read as a sequence, and as the branches of a try
+-- each
 abbrev pub command_said : Scope → CommandName → Data → Result SequenceTree Flaw
     → Result BranchesTree Flaw → Result CommandTree Flaw
 command_said scope (names.Test kind) d inner tries =
@@ -37,7 +38,7 @@ abbrev pub is_end : Items → Bool
 is_end no_items = true
 is_end (item d ds) = false
 
--- a branch of a try each, the last one or another. It is also read as a sequence.
+-- a branch of a try each, which may be the last; it is also given as read as a sequence
 abbrev pub branch_said : Bool → Data → Result SequenceTree Flaw → Result (Option SequenceTree) Flaw
 branch_said last d inner =
     if last && is_some (as_null d) then Ok None else (inner >>= λ s. Ok (Some s))
@@ -46,8 +47,8 @@ abbrev pub branch_then : Option SequenceTree → BranchesTree → BranchesTree
 branch_then (Some s) bs = BranchThen s bs
 branch_then None bs = NullThen bs
 
--- so many levels of sequences may stand in one another. A sequence is not empty, a try each has at least two branches,
--- and null is the last one.
+-- sequences are nested at most this many levels deep; a sequence is not empty, a try each has at least two branches,
+-- and only the last one may be null
 abbrev mutual
   pub sequence_of : Scope → ℕ → Data → Result SequenceTree Flaw
   sequence_of scope zero d = flawed Field
@@ -77,7 +78,7 @@ abbrev mutual
       under (index_token i) (branch_said (is_end ds) d (sequence_of scope levels d))
       >>= λ b. branches_from scope levels (suc i) ds >>= λ bs. Ok (branch_then b bs)
 
--- a branch, where nothing may come after a null one
+-- a branch of a try each; if it is null, it has to be the last
 abbrev pub branch_of : Scope → ℕ → Bool → Data → Result (Option SequenceTree) Flaw
 branch_of scope levels last d = branch_said last d (sequence_of scope levels d)
 

@@ -1,5 +1,5 @@
--- How many bytes of files stand as contents in the sequences of a description. Contents in hexadecimal digits count as
--- none: they are no longer than the description.
+-- How many bytes the files have that are contents in the sequences of a description. Contents in hexadecimal digits
+-- count as none, since they are no longer than the description.
 use Rattle.std.specs.Prelude.{ℕ, zero, suc, ◌+◌, ◌-◌, nat_le, Bool, true, false, if◌then◌else◌, List, length, Option, Some, None, option_and_then, unwrap_or}
 use Rattle.serde_json.specs.Data.{Data, array, Items, no_items, item, Members, no_members, member}
 use Rattle.serde_json.specs.Find.{as_str, as_object}
@@ -41,12 +41,12 @@ params_from files n (member key d ms) =
 abbrev pub params_length : List (List ℕ × List ℕ) → Data → ℕ
 params_length files d = params_from files 0 (members_in d)
 
--- ---- sequences, of so many levels
+-- ---- sequences, nested at most so many levels deep
 
 abbrev pub command_by_name : Data → Option CommandName
 command_by_name d = option_and_then command_named (as_str d)
 
--- of an argument, which is also counted as a sequence and as the branches of a try each
+-- the contents in an argument, which is also counted as a sequence and as the branches of a try each
 abbrev pub argument_length : List (List ℕ × List ℕ) → Option CommandName → Data → ℕ → ℕ → ℕ
 argument_length files (Some names.Set) d inner tries = params_length files d
 argument_length files (Some names.Try) d inner tries = tries
@@ -82,7 +82,7 @@ abbrev mutual
   branches_length files levels (item d ds) =
       sequence_length files levels d + branches_length files levels ds
 
--- ---- what is left of so many bytes
+-- ---- what is left of a number of bytes
 
 abbrev pub left_after : ℕ → ℕ → Option ℕ
 left_after left n = if nat_le n left then Some (left - n) else None

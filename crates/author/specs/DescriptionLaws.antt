@@ -1,4 +1,4 @@
--- The laws of all descriptions, whatever bytes their files have.
+-- Laws of all descriptions, whatever bytes their files have.
 use Rattle.std.specs.Prelude.{◌≡◌, ℕ, List, Some, None, Ok, length}
 use Rattle.serde_json.specs.Data.{Data}
 use Rattle.serde_json.specs.Read.{read}
@@ -12,8 +12,8 @@ use Rattle.author.specs.KeysOnce.{HasKeysOnce}
 use Rattle.author.specs.MadeMembers.{IsAllowedMember}
 use Rattle.author.specs.Making.{made_manifest}
 
--- the laws: a description stands for something; its manifest, where it fits the types of the code, is one that the grammar
--- allows, and so is each member that may be severed; and the keys of its payloads ascend in the order of their spellings
+-- a description stands for something; the grammar allows its manifest, if that fits the types of the code, and each
+-- member that may be severed; and the keys of its payloads ascend in the order of their spellings
 pub record DescriptionLaws : Type 0 where
   pub some : (d : Data) (files : List (List ℕ × List ℕ)) → IsDescription d
       → (p : Described) × (described files d ≡ Ok p)
@@ -26,8 +26,8 @@ pub record DescriptionLaws : Type 0 where
       × IsAllowedMember (length p.manifest.components) p.manifest.install
   pub payloads : (d : Data) (files : List (List ℕ × List ℕ)) (p : Described)
       → described files d ≡ Ok p → AreAscending None p.payloads
-  -- no key stands twice in what is read of a text
+  -- no object in what is read from a text has a key twice
   pub once : (text : List ℕ) (d : Data) → read text ≡ Some d → HasKeysOnce d
-  -- where none does, the payloads, severed members and key's identifier are those that stand in the value
+  -- if no object has a key twice, the payloads, the severed members and the key's identifier are those of the value
   pub parts : (d : Data) (files : List (List ℕ × List ℕ)) (p : Described) → HasKeysOnce d
       → described files d ≡ Ok p → HasPartsOf d files p

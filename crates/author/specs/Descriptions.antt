@@ -1,4 +1,4 @@
--- A description's parts, where its files have these bytes; or the first flaw of its fields.
+-- The parts of a description whose files have these bytes, or the first flaw of its fields.
 use Rattle.std.specs.Prelude.{ℕ, ◌^◌, ◌-◌, nat_lt, Bool, true, false, if◌then◌else◌, List, [], codes, Option, Some, None, unwrap_or, Result, Ok}
 use Rattle.std.specs.Str.{bytes_eq}
 use Rattle.det_cbor.specs.HeadReading.{◌>>=◌}
@@ -27,7 +27,7 @@ use Rattle.author.specs.Members.{member_sequence, described_member, text_member_
 use Rattle.author.specs.Severing.{none_severed, given_in, severed_of}
 use Rattle.author.specs.Payloads.{payloads_of}
 
--- how many identifiers are listed. An index has 32 bits.
+-- how many identifiers are listed, capped at 32 bits as an index is
 abbrev pub capped_count : ℕ → ℕ
 capped_count n = if nat_lt n (2 ^ 32 - 1) then n else 2 ^ 32 - 1
 
@@ -38,7 +38,7 @@ listed (Some d) = capped_count (items_len (items_in d))
 abbrev pub count_in : Data → ℕ
 count_in d = listed (get (codes "components") d)
 
--- ---- the fields that were read
+-- ---- the fields that have been read
 
 abbrev pub no_fields : List (List ℕ × List ℕ) → Data → Fields
 no_fields files d = record {
@@ -69,7 +69,7 @@ scope_of t shared = record t.source.scope { shared = shared }
 abbrev pub field_sequence : Fields → Bool → Data → Result SequenceTree Flaw
 field_sequence t shared d = member_sequence (scope_of t shared) d
 
--- what stands beside the manifest
+-- what is in the envelope besides the manifest
 abbrev pub takes_beside : Takes Fields
 takes_beside t key d =
     if bytes_eq key (codes "payloads")
@@ -105,7 +105,7 @@ takes_sequence t key d =
     then (field_sequence t false d >>= λ s. Ok (record t { invoke = Some s }))
     else takes_member t key d
 
--- an object has each key once; of components that stand twice the first would count, as they do above
+-- an object has each key once; if `components` were there twice, the first would count, as it does above
 abbrev pub takes_field : Takes Fields
 takes_field t key d =
     if bytes_eq key (codes "sequence")

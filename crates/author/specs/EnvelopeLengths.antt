@@ -1,4 +1,4 @@
--- How long the contents are that stand in an envelope beside its wrapper and its manifest.
+-- How long the contents are that an envelope holds besides its wrapper and its manifest.
 use Rattle.std.specs.Prelude.{ℕ, ◌+◌, List, [], ◌∷◌, length, Option, Some, None}
 use Rattle.suit_envelope.specs.declared.parts.EnvelopeParts.{EnvelopeParts}
 

@@ -1,4 +1,4 @@
--- The files that a description names: each text under the key `file`, in the order of reading, each once.
+-- The names of the files in a description: each text under the key `file`, in the order of reading, and once.
 use Rattle.std.specs.Prelude.{ℕ, Bool, false, ◌||◌, if◌then◌else◌, List, [], ◌∷◌, ◌++◌, codes, Option, Some, None}
 use Rattle.std.specs.Str.{bytes_eq}
 use Rattle.serde_json.specs.Data.{Data, null, boolean, number, string, array, object, Items, no_items, item, Members, no_members, member}
@@ -8,11 +8,11 @@ abbrev pub one_or : Option (List ℕ) → List (List ℕ) → List (List ℕ)
 one_or (Some name) inside = name ∷ []
 one_or None inside = inside
 
--- the name that a member gives
+-- the file name that a member gives
 abbrev pub name_under : List ℕ → Data → Option (List ℕ)
 name_under key d = if bytes_eq key (codes "file") then as_str d else None
 
--- that, or the names inside the value
+-- that name, or else the names inside the value
 abbrev pub name_at : List ℕ → Data → List (List ℕ) → List (List ℕ)
 name_at key d inside = one_or (name_under key d) inside
 
@@ -37,7 +37,7 @@ abbrev pub has_name : List (List ℕ) → List ℕ → Bool
 has_name [] name = false
 has_name (other ∷ names) name = bytes_eq other name || has_name names name
 
--- names after those that are kept, each once
+-- the names added to those that are kept, each once
 abbrev pub with_name : List (List ℕ) → List ℕ → List (List ℕ)
 with_name kept name = if has_name kept name then kept else kept ++ name ∷ []
 

@@ -1,4 +1,4 @@
--- Values that may be taken of a file: `{"file": NAME}`, of a digest besides with `"algorithm"`.
+-- Values that can be taken from a file: `{"file": NAME}`, and for a digest also with `"algorithm"`.
 use Rattle.std.specs.Prelude.{ℕ, ◌^◌, ◌-◌, if◌then◌else◌, List, length, Some, None, is_some, codes, Result, Ok}
 use Rattle.std.specs.Str.{bytes_eq}
 use Rattle.det_cbor.specs.HeadReading.{◌>>=◌}
@@ -28,7 +28,7 @@ abbrev pub file_named : Data → Result (List ℕ) Flaw
 file_named d =
     object_of takes_file (record { name = None }) d >>= λ t. required (codes "file") t.name
 
--- a file, and the hash function of its digest: SHA-256 where none is named
+-- a file and the hash function for its digest, which is SHA-256 if none is named
 abbrev pub takes_digest_file : Takes DigestFile
 takes_digest_file t key d =
     if bytes_eq key (codes "file") then (text_of d >>= λ name. Ok (record t { name = Some name }))

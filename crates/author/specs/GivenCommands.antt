@@ -1,4 +1,4 @@
--- The commands of a sequence in a description, by the names that stand in its array, in their order.
+-- The commands of a sequence in a description, by the names in its array, in order.
 use Rattle.std.specs.Prelude.{◌≡◌, ℕ, if◌then◌else◌, List, [], ◌∷◌, map, codes, Option, Some, None, option_and_then}
 use Rattle.std.specs.Str.{bytes_eq}
 use Rattle.serde_json.specs.Data.{Items, no_items, item}
@@ -6,7 +6,7 @@ use Rattle.serde_json.specs.Find.{at, as_str}
 use Rattle.suit_commands.specs.SequenceMaking.{code_of}
 use Rattle.suit_commands.specs.Tree.{SequenceTree, NoSteps, StepThen}
 
--- the code of a command (draft-ietf-suit-manifest-25, sections 8.4.9 and 8.4.10)
+-- the code of the command with this name (draft-ietf-suit-manifest-25, sections 8.4.9 and 8.4.10)
 abbrev pub code_named : List ℕ → Option ℕ
 code_named name =
     if bytes_eq name (codes "vendor") then Some 1
@@ -27,7 +27,7 @@ code_named name =
     else if bytes_eq name (codes "run") then Some 32
     else None
 
--- the code of each element's name
+-- the code of the name in each element
 abbrev pub codes_listed : Items → List (Option ℕ)
 codes_listed no_items = []
 codes_listed (item d ds) =

@@ -1,5 +1,5 @@
--- The envelope of a description by its JSON value and by the made bytes alone
--- (draft-ietf-suit-manifest-25, sections 8.2, 8.4 and 8.5).
+-- The envelope of a description, by its JSON value and by the bytes alone (draft-ietf-suit-manifest-25, sections 8.2,
+-- 8.4 and 8.5).
 use Rattle.std.specs.Prelude.{◌≡◌, ℕ, List, codes, Option, Some, None, length}
 use Rattle.serde_json.specs.Data.{Data}
 use Rattle.serde_json.specs.Find.{get}
@@ -22,13 +22,13 @@ use Rattle.suit_manifest.specs.MembersApart.{HasMember}
 use Rattle.author.specs.GivenParts.{ArePayloadsOf, IsAlgorithmOf, IsMemberOf, IsTextOf, IsMacOf, Severs, SeversBy}
 use Rattle.author.specs.MadeEnvelopes.{HasBlockBy}
 
--- a member stands in the manifest by a digest of this hash function
+-- the manifest has a digest in place of the member, by this hash function
 abbrev pub IsApartBy : DigestKind → Member → Type 0
 IsApartBy kind (members.Apart digest) = digest_kind digest ≡ kind
 IsApartBy kind _ = ⊥
 
--- A member that `sever` names has its digest in the manifest, by the named hash function; its byte string stands in the
--- envelope, has that digest, and says a sequence of the listed commands. Any other member stands in the manifest as it is
+-- A member that `sever` names has its digest in the manifest, by the named hash function; its byte string is in the
+-- envelope, has that digest, and says a sequence of the listed commands. Any other member is in the manifest as it is
 -- given, and not in the envelope.
 pub record HoldsMember (d : Data) (name : List ℕ) (count : ℕ) (held : Option (List ℕ)) (place : ℕ)
     (stated : Member) : Type 0 where
@@ -37,7 +37,7 @@ pub record HoldsMember (d : Data) (name : List ℕ) (count : ℕ) (held : Option
       × IsMemberOf (get name d) (members.Here s) × IsApartBy kind stated
   pub own : (Severs d name → ⊥) → (held ≡ None) × IsMemberOf (get name d) stated
 
--- the text likewise
+-- the same for the text
 pub record HoldsTextMember (d : Data) (held : Option (List ℕ)) (stated : TextMember)
     : Type 0 where
   pub severed : (kind : DigestKind) → SeversBy d (codes "text") kind
@@ -47,7 +47,8 @@ pub record HoldsTextMember (d : Data) (held : Option (List ℕ)) (stated : TextM
   pub own : (Severs d (codes "text") → ⊥)
       → (held ≡ None) × IsTextOf (get (codes "text") d) stated
 
--- the wrapper states the manifest's digest under the hash function that is named, and has one block, by the algorithm that is
+-- the wrapper states the manifest's digest by the hash function that is named, and has one block, by the algorithm that
+-- is named
 pub record HasBlockAsGiven (d : Data) (wrapper manifest : List ℕ) : Type 0 where
   pub mac : MacKind
   pub named : IsMacOf (get (codes "mac") d) mac
@@ -55,7 +56,7 @@ pub record HasBlockAsGiven (d : Data) (wrapper manifest : List ℕ) : Type 0 whe
   pub states : IsAlgorithmOf (get (codes "algorithm") d) algorithm
   pub block : HasBlockBy mac algorithm wrapper manifest
 
--- an envelope, with its block and its manifest, that holds the members and the payloads as they are given
+-- the bytes are an envelope that holds the block, the manifest, the members and the payloads as they are given
 pub record HoldsAsGiven (d : Data) (files : List (List ℕ × List ℕ)) (bytes : List ℕ)
     : Type 0 where
   pub said : EnvelopeSays

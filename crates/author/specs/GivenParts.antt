@@ -1,5 +1,5 @@
--- A description's payloads, the members that may be severed, the key's identifier, the block's algorithm and the hash function of the
--- wrapper's digest, by what is found in its JSON value.
+-- What a description gives, by what is found in its JSON value: its payloads, the members that may be severed, the
+-- key's identifier, the block's algorithm, and the hash function of the wrapper's digest.
 use Rattle.std.specs.Prelude.{◌≡◌, ℕ, Bool, IsTrue, List, codes, Option, Some, None, option_and_then}
 use Rattle.std.specs.Result.{result_ok}
 use Rattle.serde_json.specs.Data.{Data, string, array, object, Items, no_items, item}
@@ -46,7 +46,7 @@ payload_given files d =
 abbrev pub payload_at : List ℕ → Data → Option Data
 payload_at key d = option_and_then (get key) (get (codes "payloads") d)
 
--- one under each key that stands there, with the bytes that are given for it, and no other
+-- there is a payload under each key that is given, with the bytes that are given for it, and no other
 pub record ArePayloadsOf (d : Data) (files payloads : List (List ℕ × List ℕ)) : Type 0 where
   pub each : (key : List ℕ) (given : Data) → payload_at key d ≡ Some given
       → (bytes : List ℕ) × (payload_given files given ≡ Some bytes)
@@ -71,14 +71,14 @@ IsTextOf _ _ = ⊥
 
 -- ---- severed members
 
--- a value gives a name: alone, for SHA-256, or before the name of a hash function
+-- the entry has this name: alone, for SHA-256, or before the name of this hash function
 abbrev pub IsEntry : List ℕ → DigestKind → Data → Type 0
 IsEntry name kind (string text) = (text ≡ name) × (kind ≡ kinds.Sha256)
 IsEntry name kind (array (item (string text) (item (string algorithm) no_items))) =
     (text ≡ name) × (algorithm_named algorithm ≡ Some kind)
 IsEntry name kind _ = ⊥
 
--- the name stands in the array under `sever`, for this hash function
+-- the array under `sever` has this name, for this hash function
 pub record SeversBy (d : Data) (name : List ℕ) (kind : DigestKind) : Type 0 where
   pub entries : Items
   pub i : ℕ
@@ -90,7 +90,7 @@ pub record SeversBy (d : Data) (name : List ℕ) (kind : DigestKind) : Type 0 wh
 abbrev pub Severs : Data → List ℕ → Type 0
 Severs d name = (kind : DigestKind) × SeversBy d name kind
 
--- given with its content
+-- the member is given with its content
 abbrev pub IsHere : Member → Type 0
 IsHere (members.Here s) = Unit {0}
 IsHere _ = ⊥
@@ -99,13 +99,13 @@ abbrev pub IsTextHere : TextMember → Type 0
 IsTextHere (texts.Here content) = Unit {0}
 IsTextHere _ = ⊥
 
--- it is severed where it is named, under the hash function that is named
+-- the member is severed if it is named, by the hash function that is named
 pub record IsSeveredOf (d : Data) (name : List ℕ) (severed : Bool) (kind : DigestKind)
     : Type 0 where
   pub named : IsTrue severed → SeversBy d name kind
   pub severs : (other : DigestKind) → SeversBy d name other → IsTrue severed × (other ≡ kind)
 
--- just the named members, each given with its content
+-- just the named members are severed, and each of these is given with its content
 pub record AreSeveredOf (d : Data) (p : Described) : Type 0 where
   pub payload_fetch :
       IsSeveredOf d (codes "payload-fetch") p.severed.payload_fetch
@@ -116,7 +116,7 @@ pub record AreSeveredOf (d : Data) (p : Described) : Type 0 where
   pub install_here : IsTrue p.severed.install → IsHere p.manifest.install
   pub text_here : IsTrue p.severed.text → IsTextHere p.manifest.text
 
--- ---- the algorithm of the block: HMAC 256/256 where none is named
+-- ---- the algorithm of the block: HMAC 256/256 if none is named
 
 abbrev pub IsMacOf : Option Data → MacKind → Type 0
 IsMacOf None macs.Hmac256 = Unit {0}
@@ -124,7 +124,7 @@ IsMacOf (Some (string name)) macs.Hmac256 = name ≡ codes "hmac256"
 IsMacOf (Some (string name)) macs.Hmac512 = name ≡ codes "hmac512"
 IsMacOf _ _ = ⊥
 
--- ---- the hash function of the wrapper's digest: SHA-256 where none is named
+-- ---- the hash function of the wrapper's digest: SHA-256 if none is named
 
 abbrev pub IsAlgorithmOf : Option Data → DigestKind → Type 0
 IsAlgorithmOf None kinds.Sha256 = Unit {0}
@@ -133,7 +133,7 @@ IsAlgorithmOf (Some (string name)) kinds.Sha384 = name ≡ codes "sha384"
 IsAlgorithmOf (Some (string name)) kinds.Sha512 = name ≡ codes "sha512"
 IsAlgorithmOf _ _ = ⊥
 
--- ---- together
+-- ---- all of it
 
 pub record HasPartsOf (d : Data) (files : List (List ℕ × List ℕ)) (p : Described) : Type 0 where
   pub payloads : ArePayloadsOf d files p.payloads

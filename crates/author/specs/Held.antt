@@ -1,4 +1,4 @@
--- The value that a description was read of.
+-- The value that a description was read from.
 use Rattle.std.specs.Prelude.{◌≡◌}
 use Rattle.serde_json.specs.Data.{Data}
 use Rattle.serde_json.specs.View.{view}

@@ -1,4 +1,4 @@
--- Component identifiers of a description: arrays of byte strings in hexadecimal digits.
+-- Component identifiers in a description: arrays of byte strings in hexadecimal digits.
 use Rattle.std.specs.Prelude.{ℕ, nat_le, if◌then◌else◌, List, length, Result, Ok}
 use Rattle.det_cbor.specs.HeadReading.{◌>>=◌}
 use Rattle.det_cbor.specs.DataItem.{spell}
@@ -10,7 +10,7 @@ use Rattle.json_fields.specs.Values.{hex_of}
 use Rattle.json_fields.specs.Arrays.{array_of}
 use Rattle.suit_manifest.specs.Components.{identifier_item}
 
--- it is spelled in at most 64 bytes
+-- an identifier is spelled in at most 64 bytes
 abbrev pub short_identifier : List (List ℕ) → Result (List (List ℕ)) Flaw
 short_identifier id =
     if nat_le (length (spell (identifier_item id))) 64 then Ok id else flawed Field

@@ -1,4 +1,4 @@
--- Values of JSON in which no object has a key twice (RFC 8259, section 4).
+-- JSON values in which no object has a key twice (RFC 8259, section 4).
 use Rattle.std.specs.Prelude.{◌≡◌, None}
 use Rattle.serde_json.specs.Data.{Data, array, object, Items, no_items, item, Members, no_members, member}
 use Rattle.serde_json.specs.Find.{get_member}

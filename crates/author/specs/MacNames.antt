@@ -1,4 +1,4 @@
--- The algorithms of a block by their names in a description (RFC 9053, section 3.1).
+-- Algorithms of an authentication block by their names in a description (RFC 9053, section 3.1).
 use Rattle.std.specs.Prelude.{ℕ, if◌then◌else◌, List, codes, Option, Some, None, option_and_then, Result}
 use Rattle.std.specs.Str.{bytes_eq}
 use Rattle.hmac_mac0.specs.declared.mac_kind.MacKind.{MacKind}

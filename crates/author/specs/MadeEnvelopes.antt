@@ -57,17 +57,17 @@ made_bytes parts = spell (envelope_made parts)
 abbrev pub trimmed_bytes : EnvelopeParts → List ℕ
 trimmed_bytes parts = trimmed parts.wrapper parts.manifest
 
--- at most 65,536 bytes trimmed, and at most 1,048,576 whole
+-- the trimmed envelope has at most 65,536 bytes, and the whole one at most 1,048,576
 abbrev pub IsShort : EnvelopeParts → Type 0
 IsShort parts = (length (trimmed_bytes parts) ≤ 65536) × (length (made_bytes parts) ≤ 1048576)
 
--- the first of the two limits that is passed
+-- the first of the two limits that is exceeded
 pub data ExceedsLimit (parts : EnvelopeParts) : ℕ → Type 0 where
   Trimmed : 65536 < length (trimmed_bytes parts) → ExceedsLimit parts 65536
   Whole : length (trimmed_bytes parts) ≤ 65536 → 1048576 < length (made_bytes parts)
       → ExceedsLimit parts 1048576
 
--- a fault by the limit that is passed, or because memory ran out
+-- the fault tells the limit that is exceeded, or that memory ran out
 abbrev pub IsLengthFault : EnvelopeParts → MakeFault → Type 0
 IsLengthFault parts (TooLong limit) = ExceedsLimit parts limit
 IsLengthFault parts NoMemory = Unit {0}
@@ -94,39 +94,39 @@ abbrev pub IsMakeFaultOf : Data → List (List ℕ × List ℕ) → List ℕ →
 IsMakeFaultOf d files key (TooLong limit) = IsTooLong d files key limit
 IsMakeFaultOf d files key NoMemory = Unit {0}
 
--- these bytes were made, unless memory ran out
+-- these bytes are made, unless memory ran out
 abbrev pub IsMadeAs : List ℕ → Result (List ℕ) MakeFault → Type 0
 IsMadeAs bytes (Ok made) = made ≡ bytes
 IsMadeAs bytes (Err fault) = fault ≡ NoMemory
 
--- this limit was told, unless memory ran out
+-- this limit is told, unless memory ran out
 abbrev pub IsTooLongBy : ℕ → Result (List ℕ) MakeFault → Type 0
 IsTooLongBy limit (Ok made) = ⊥
 IsTooLongBy limit (Err fault) = (fault ≡ TooLong limit) ⊎ (fault ≡ NoMemory)
 
--- ---- the meaning of the bytes
+-- ---- what the bytes mean
 
--- the wrapper states the manifest's digest under a hash function and has one block, which verifies under the key
+-- the wrapper states the manifest's digest by some hash function, and has one block, which verifies under the key
 pub record HasOneBlock (key wrapper manifest : List ℕ) : Type 0 where
   pub algorithm : DigestKind
   pub block : List ℕ
   pub says : WrapperSays wrapper (string_digest algorithm manifest) (block ∷ [])
   pub verifies : Verifies block key (payload_of (string_digest algorithm manifest))
 
--- a COSE_Mac0 block that names this algorithm
+-- the block is a COSE_Mac0 block that names this algorithm
 pub record IsBlockBy (mac : MacKind) (block : List ℕ) : Type 0 where
   pub protected : List ℕ
   pub tag : List ℕ
   pub is_block : IsMac0 block mac protected tag
 
--- the wrapper states the manifest's digest under this hash function and has one block, which names this algorithm
+-- the wrapper states the manifest's digest by this hash function, and has one block, which names this algorithm
 pub record HasBlockBy (mac : MacKind) (algorithm : DigestKind) (wrapper manifest : List ℕ)
     : Type 0 where
   pub block : List ℕ
   pub says : WrapperSays wrapper (string_digest algorithm manifest) (block ∷ [])
   pub by_mac : IsBlockBy mac block
 
--- a tagged envelope that is authentic under the key, by one block
+-- the bytes are a tagged envelope that is authentic under the key, by its one block
 pub record IsAuthenticUnder (key bytes : List ℕ) : Type 0 where
   pub said : EnvelopeSays
   pub envelope : EnvelopeOf bytes said
@@ -134,7 +134,7 @@ pub record IsAuthenticUnder (key bytes : List ℕ) : Type 0 where
   pub one_block : HasOneBlock key said.wrapper said.manifest
   pub authentic : IsAuthentic said.wrapper said.manifest key
 
--- an envelope that says the parts of the description
+-- the bytes are an envelope that says the parts of the description
 pub record HoldsPartsOf (d : Data) (files : List (List ℕ × List ℕ)) (key bytes : List ℕ)
     : Type 0 where
   pub described_as : Described
@@ -143,7 +143,7 @@ pub record HoldsPartsOf (d : Data) (files : List (List ℕ × List ℕ)) (key by
   pub envelope : EnvelopeOf bytes said
   pub parts : SaysParts (made_parts key (parted described_as)) said
 
--- an envelope whose manifest is that of the description, with the places that it has there
+-- the bytes are an envelope whose manifest is that of the description, with the places that it has there
 pub record HoldsManifestOf (d : Data) (files : List (List ℕ × List ℕ)) (bytes : List ℕ)
     : Type 0 where
   pub said : EnvelopeSays

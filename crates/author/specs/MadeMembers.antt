@@ -1,4 +1,4 @@
--- The severed members of a made envelope: it holds them, with the digests that its manifest states.
+-- The severed members of an envelope that is made: it holds them, and its manifest states their digests.
 use Rattle.std.specs.Prelude.{◌≡◌, ℕ, Bool, true, false, List, Option, Some, None, length, Ok}
 use Rattle.det_cbor.specs.DataItem.{spell}
 use Rattle.serde_json.specs.Data.{Data}
@@ -19,10 +19,10 @@ use Rattle.author.specs.declared.fields.Described.{Described}
 use Rattle.author.specs.Descriptions.{described}
 use Rattle.author.specs.Making.{made_manifest}
 
--- ---- of a made envelope
+-- ---- members of an envelope that is made
 
--- The envelope holds a severed member that is given with its content: with the digest that the manifest states, and it
--- says the given sequence in its places. No other is in the envelope.
+-- The envelope holds a severed member that is given with its content: the member has the digest that the manifest
+-- states, and says the given sequence at its places. No other member is in the envelope.
 abbrev pub HoldsSevered : ℕ → Option (List ℕ) → ℕ → Bool → Member → Member → Type 0
 HoldsSevered count held place true (members.Here s) stated =
     HasMember count held place stated (Some (placed (elements_place place (step_items s)) s))
@@ -37,7 +37,7 @@ HoldsText held true kind texts.Empty stated = held ≡ None
 HoldsText held true kind (texts.Apart digest) stated = held ≡ None
 HoldsText held false kind given stated = held ≡ None
 
--- the members of what a description says, in an envelope
+-- the envelope holds the severed members of what a description says
 pub record HoldsSeveredOf (p : Described) (said : EnvelopeSays) : Type 0 where
   pub payload_fetch :
       HoldsSevered (length p.manifest.components) said.payload_fetch said.payload_fetch_place
@@ -49,7 +49,7 @@ pub record HoldsSeveredOf (p : Described) (said : EnvelopeSays) : Type 0 where
       HoldsText said.text p.severed.text p.severed.kinds.text p.manifest.text
       (made_manifest p).text
 
--- an envelope that holds the severed members of the description
+-- the bytes are an envelope that holds the severed members of the description
 pub record HoldsMembersOf (d : Data) (files : List (List ℕ × List ℕ)) (bytes : List ℕ)
     : Type 0 where
   pub described_as : Described
@@ -60,14 +60,14 @@ pub record HoldsMembersOf (d : Data) (files : List (List ℕ × List ℕ)) (byte
 
 -- ---- inside
 
--- a member that the grammar allows for so many components, where it fits the types of the code
+-- the grammar allows the member for that many components, if it fits the types of the code
 abbrev pub IsAllowedMember : ℕ → Member → Type 0
 IsAllowedMember count members.Empty = Unit {0}
 IsAllowedMember count (members.Here s) =
     SequenceFits s → IsSequence false count levels_allowed s
 IsAllowedMember count (members.Apart digest) = Unit {0}
 
--- a severed member was written
+-- if the member is severed, it was written
 abbrev pub IsWrittenApart : Bool → Member → Type 0
 IsWrittenApart true (members.Here s) =
     IsWrittenSequence s (spell (sequence_item s)) × SequenceFits s

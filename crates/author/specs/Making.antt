@@ -13,7 +13,7 @@ use Rattle.suit_manifest.specs.declared.manifest.TextMember.TheVariants as texts
 use Rattle.author.specs.declared.fields.Described.{Described}
 use Rattle.author.specs.Descriptions.{described}
 
--- a severed member stands in the manifest as the digest of its byte string in the envelope, under its hash function
+-- in place of a severed member, the manifest has the digest of its byte string in the envelope, by its hash function
 abbrev pub apart_member : Bool → DigestKind → Member → Member
 apart_member true kind (members.Here s) =
     members.Apart (string_digest kind (spell (sequence_item s)))
@@ -36,7 +36,7 @@ made_manifest p =
       text = apart_text p.severed.text p.severed.kinds.text p.manifest.text;
     }
 
--- the manifest of the description that a value is, with its files
+-- this is the manifest of the description that a value is, with its files
 pub record IsManifestOf (d : Data) (files : List (List ℕ × List ℕ)) (m : Manifest) : Type 0 where
   pub said : Described
   pub reads : described files d ≡ Ok said

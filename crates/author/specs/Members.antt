@@ -22,7 +22,7 @@ use Rattle.author.specs.Scope.{Scope}
 use Rattle.author.specs.Commands.{sequence_of}
 use Rattle.author.specs.DigestValues.{digest_spelled}
 
--- a member's sequence
+-- the sequence of a member
 abbrev pub member_sequence : Scope → Data → Result SequenceTree Flaw
 member_sequence scope d = sequence_of scope levels_allowed d
 
@@ -47,7 +47,7 @@ abbrev pub ends_here : Option (List ℕ × Position) → Bool
 ends_here None = false
 ends_here (Some next) = length next.1.left == 0
 
--- bytes that hold one item of deterministic CBOR and nothing more
+-- the bytes are exactly one item of deterministic CBOR
 abbrev pub is_one_item : List ℕ → Bool
 is_one_item bytes = ends_here (next_item (record { left = bytes; place = 0 }))
 

@@ -1,4 +1,4 @@
--- The values under a description's keys of sequences and under `sever`. Of a key that stands twice the last counts.
+-- The values of a description's sequences and of `sever`. If a key is there twice, the last counts.
 use Rattle.std.specs.Prelude.{ℕ, ◌+◌, Bool, true, false, not, if◌then◌else◌, List, codes, Option, Some, None, option_map, unwrap_or, Result, Ok}
 use Rattle.std.specs.Result.{result_ok}
 use Rattle.std.specs.Str.{bytes_eq}
@@ -60,17 +60,17 @@ noted_all o (member key d ms) = noted_all (noted o key d) ms
 abbrev pub outline_of : Data → Outline
 outline_of d = noted_all no_values (members_in d)
 
--- ---- the members that are severed
+-- ---- the severed members
 
 abbrev pub severed_by : Severed → Option Data → Result Severed Flaw
 severed_by given None = Ok none_severed
 severed_by given (Some d) = severed_of given d
 
--- those of a description
+-- the severed members of a description
 abbrev pub severed_in : Data → Severed
 severed_in d = unwrap_or (result_ok (severed_by (given_in d) (outline_of d).sever)) none_severed
 
--- ---- how many bytes of files stand as contents in the manifest, and in the severed members
+-- ---- how many bytes of files are contents in the manifest, and in the severed members
 
 abbrev pub held_length : List (List ℕ × List ℕ) → Option Data → ℕ
 held_length files None = 0
@@ -92,7 +92,7 @@ severed_length files o severed =
     member_length files (not severed.payload_fetch) o.payload_fetch
     + member_length files (not severed.install) o.install
 
--- those of a description
+-- the bytes of files that are contents in the manifest of a description
 abbrev pub manifest_contents : List (List ℕ × List ℕ) → Data → ℕ
 manifest_contents files d = manifest_length files (outline_of d) (severed_in d)
 

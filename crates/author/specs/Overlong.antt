@@ -1,4 +1,4 @@
--- Whether the files that stand as contents in a description leave room for its envelope.
+-- Whether the files that are contents in a description leave room for its envelope.
 use Rattle.std.specs.Prelude.{◌≡◌, ◌<◌, ◌≤◌, ℕ, List}
 use Rattle.serde_json.specs.Data.{Data}
 use Rattle.author.specs.declared.overlong.Contents.{Contents}
@@ -9,7 +9,7 @@ abbrev pub ContentsFit : Data → List (List ℕ × List ℕ) → Type 0
 ContentsFit d files =
     (manifest_contents files d ≤ 65536) × (severed_contents files d ≤ 1048576)
 
--- those of the manifest are judged first
+-- the contents in the manifest are judged first, and then those in the severed members
 abbrev pub AreJudged : Data → List (List ℕ × List ℕ) → Contents → Type 0
 AreJudged d files contents.Short = ContentsFit d files
 AreJudged d files contents.LongManifest = 65536 < manifest_contents files d

@@ -1,4 +1,4 @@
--- Parameters of a description: an object, from names to values.
+-- Parameters in a description: an object from names to values.
 use Rattle.std.specs.Prelude.{◌≡◌, ◌<◌, ◌≤◌, ℕ, ◌^◌, ◌-◌, nat_lt, if◌then◌else◌, List, [], ◌∷◌, length, Option, Some, None, Result, Ok, Err}
 use Rattle.std.specs.List.{insert, slice_set}
 use Rattle.std.specs.declared.cmp.Ordering.{Ordering}
@@ -22,7 +22,7 @@ use Rattle.author.specs.ParamNames.{param_named}
 abbrev pub number_of : Data → Result ℕ Flaw
 number_of d = number_up_to (2 ^ 64 - 1) d
 
--- the index of one of so many components
+-- the index of a component, out of so many
 abbrev pub index_of : ℕ → Data → Result ℕ Flaw
 index_of count d = number_of d >>= λ i. if nat_lt i count then Ok i else flawed Field
 
@@ -44,18 +44,18 @@ param_value scope keys.Args d = hex_of d >>= λ bytes. Ok (params.Args bytes)
 abbrev pub param_order : Param → Param → Ordering
 param_order p q = nat_cmp (key_number (key_of p)) (key_number (key_of q))
 
--- a parameter in its place among those that ascend by number, in place of one under the same key
+-- a parameter is put in its place in a list that ascends by number, and replaces one with the same key
 abbrev pub placed_among : Param → List Param → List Param
 placed_among p [] = p ∷ []
 placed_among p (q ∷ qs) =
     match_ordering (param_order p q) (p ∷ q ∷ qs) (p ∷ qs) (q ∷ placed_among p qs)
 
--- where one of the same key is, or else where the parameter is put
+-- the index is that of a parameter with the same key, or else the one where this parameter belongs
 abbrev pub IsPlaceOf : List Param → Param → Result ℕ ℕ → Type 0
 IsPlaceOf list p (Ok i) = (i < length list) × (slice_set list i p ≡ placed_among p list)
 IsPlaceOf list p (Err i) = (i ≤ length list) × (insert list i p ≡ placed_among p list)
 
--- the parameters that were read
+-- the parameters that have been read
 pub record ParamsSoFar : Type 0 where
   pub scope : Scope
   pub list : List Param

@@ -1,5 +1,5 @@
--- Integrated payloads of a description: an object from keys to `{"file": NAME}` or `{"hex": HEX}`. They stand in the order
--- of an envelope's map.
+-- Integrated payloads in a description: an object from keys to `{"file": NAME}` or `{"hex": HEX}`. They are in the
+-- order of the envelope's map.
 use Rattle.std.specs.Prelude.{ℕ, if◌then◌else◌, List, [], codes, Option, Some, None, Result, Ok}
 use Rattle.std.specs.Str.{bytes_eq}
 use Rattle.det_cbor.specs.HeadReading.{◌>>=◌}
@@ -20,7 +20,7 @@ takes_source t key d =
     then (hex_of d >>= λ bytes. Ok (record t { bytes = Some bytes }))
     else flawed Field
 
--- just one of the two is there
+-- exactly one of the two fields is there
 abbrev pub source_bytes : List (List ℕ × List ℕ) → Option (List ℕ) → Option (List ℕ)
     → Result (List ℕ) Flaw
 source_bytes files (Some name) None = Ok (bytes_of files name)
@@ -33,7 +33,7 @@ payload_of files d =
     object_of takes_source (record { file = None; bytes = None }) d
     >>= λ t. source_bytes files t.file t.bytes
 
--- the payloads that were read
+-- the payloads that have been read
 pub record PayloadsSoFar : Type 0 where
   pub files : List (List ℕ × List ℕ)
   pub list : List (List ℕ × List ℕ)

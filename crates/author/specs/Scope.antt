@@ -1,4 +1,4 @@
--- The scope for reading a description.
+-- What is known when a description is read.
 use Rattle.std.specs.Prelude.{ℕ, Bool, List}
 
 pub record Scope : Type 0 where

@@ -1,4 +1,4 @@
--- A description's members beside its manifest (draft-ietf-suit-manifest-25, section 8.2).
+-- What a description has outside its manifest (draft-ietf-suit-manifest-25, section 8.2).
 use Rattle.std.specs.Prelude.{ℕ, Bool, true, false, List, Option, Some, None}
 use Rattle.det_cbor.specs.DataItem.{spell}
 use Rattle.suit_commands.specs.SequenceMaking.{sequence_item}
@@ -10,7 +10,7 @@ use Rattle.author.specs.declared.fields.Described.{Described}
 use Rattle.author.specs.declared.making.Parted.{Parted}
 use Rattle.author.specs.Making.{made_manifest}
 
--- the content of a severed member. Of one that is given by its digest there is none.
+-- the content of a severed member; one that is given by its digest has none
 abbrev pub severed_content : Bool → Member → Option (List ℕ)
 severed_content true (members.Here s) = Some (spell (sequence_item s))
 severed_content true members.Empty = None
@@ -23,7 +23,7 @@ severed_text true texts.Empty = None
 severed_text true (texts.Apart digest) = None
 severed_text false m = None
 
--- the manifest, and what stands beside it
+-- the manifest, and what is outside it in the envelope
 abbrev pub parted : Described → Parted
 parted p = record {
   manifest = made_manifest p;

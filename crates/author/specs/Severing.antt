@@ -1,5 +1,5 @@
--- Which members of a description are severed, and by which hash function: an array of entries of distinct names, each of a
--- member that is given with its content.
+-- Which members of a description are severed, and by which hash functions: an array of entries with distinct names,
+-- each of a member that is given with its content.
 use Rattle.std.specs.Prelude.{ℕ, suc, Bool, true, false, not, ◌&&◌, if◌then◌else◌, List, codes, Option, Some, None, is_some, option_and_then, Result, Ok}
 use Rattle.std.specs.Str.{bytes_eq}
 use Rattle.det_cbor.specs.HeadReading.{◌>>=◌}
@@ -59,7 +59,7 @@ none_severed = record {
   kinds = plain_kinds;
 }
 
--- a member that is given with its content: the field is there, and is not an object
+-- a member is given with its content if its field is there and is not an object
 abbrev pub is_content : Option Data → Bool
 is_content None = false
 is_content (Some d) = not (is_some (as_object d))
@@ -74,7 +74,7 @@ given_in d = record {
 
 -- ---- entries: a name, for SHA-256, or a name and a hash function
 
--- one more name, of the members that are given
+-- the name of a member that is given, and not named yet
 abbrev pub one_name : Severed → Severed → Data → Result MemberName Flaw
 one_name given s d =
     found_or Field (option_and_then member_named (as_str d)) >>= λ name.

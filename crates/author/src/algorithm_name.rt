@@ -1,4 +1,4 @@
-//! Names of the hash functions.
+//! Names of hash functions.
 
 ghost use Rattle.std.specs.Prelude.{◌≡◌};
 ghost use Rattle.serde_json.specs.View.{view};
@@ -21,7 +21,7 @@ fn algorithm_named(name: &str) -> Option<DigestKind>
     }
 }
 
-/// The hash function that a value names.
+/// Reads the name of a hash function.
 pub(crate) fn algorithm(alloc: Global, value: &Value) -> Result<DigestKind, JsonFault>
     ensures { Gives (λ kind. kind) result (algorithm_of (view value.now)) }
 {

@@ -15,14 +15,14 @@ use suit_envelope::string_digest;
 use suit_manifest::Member;
 use suit_params::DigestKind;
 
-/// The fields that were read, and which members are severed.
+/// The fields that have been read, and which members are severed.
 #[derive(Drop)]
 struct BareFields<'a> {
     fields: Fields<'a>,
     severed: Severed,
 }
 
-// The digest of nothing, in place of a member's content.
+// The digest of no bytes, in place of a member's content.
 fn no_content(kind: DigestKind) -> Member
     ensures { result ≡ no_content kind }
 {
@@ -49,7 +49,7 @@ impl Draft for BareFields<'_> {
     }
 }
 
-/// Reads a description's parts without the contents of these members, which may be too long to read.
+/// Reads a description's parts without the contents of its severed members, which may be too long to read.
 pub(crate) fn read_bare<'a>(
     alloc: Global,
     value: &Value,

@@ -11,7 +11,7 @@ use serde_json::Value;
 use std::alloc::Global;
 use suit_commands::{ActKind, TestKind};
 
-/// Which command a name stands for.
+/// The command that a name stands for.
 #[derive(Clone, Copy)]
 pub(crate) enum CommandName {
     Test(TestKind),
@@ -47,7 +47,7 @@ fn command_named(name: &str) -> Option<CommandName>
     Some(command)
 }
 
-/// The command that a value names, if it does.
+/// The command that a value names, if it names one.
 pub(crate) fn named(value: &Value) -> Option<CommandName>
     ensures { result ≡ command_by_name (view value.now) }
 {
@@ -57,7 +57,7 @@ pub(crate) fn named(value: &Value) -> Option<CommandName>
     }
 }
 
-/// The command that a value names, in the shared sequence or another one.
+/// Reads the name of a command, which the shared sequence may have if `shared` is set.
 pub(crate) fn name(alloc: Global, value: &Value, shared: bool) -> Result<CommandName, JsonFault>
     ensures { Gives (λ n. n) result (name_of shared (view value.now)) }
 {

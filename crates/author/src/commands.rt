@@ -1,4 +1,4 @@
-//! Commands of a description.
+//! Commands in a description.
 
 ghost use Rattle.std.specs.Prelude.{◌≡◌};
 ghost use Rattle.serde_json.specs.View.{view};
@@ -17,7 +17,7 @@ use serde_json::Value;
 use std::alloc::Global;
 use suit_commands::{Branches, Command, Sequence, Step};
 
-/// A sequence of commands, nested at most so many levels deep.
+/// Reads a sequence of commands, nested at most `levels` levels deep.
 #[cycle(commands)]
 pub(crate) fn sequence(
     alloc: Global,
@@ -59,7 +59,7 @@ fn command(
     }
 }
 
-// The command with this name and argument.
+// Reads the argument of the command with this name.
 #[cycle(commands)]
 fn named(
     alloc: Global,
@@ -98,7 +98,7 @@ fn named(
     }
 }
 
-// A reporting policy, which is an argument.
+// Reads a reporting policy, which is the argument of a command.
 fn report(alloc: Global, value: &Value) -> Result<u8, JsonFault>
     ensures { Gives (λ r. r) result (argument (number_up_to 15 (view value.now))) }
 {
@@ -106,7 +106,7 @@ fn report(alloc: Global, value: &Value) -> Result<u8, JsonFault>
     Ok(report as u8)
 }
 
-// The sequences of a try each.
+// Reads the sequences of a try each.
 #[cycle(commands)]
 fn tries(alloc: Global, value: &Value, scope: &Scope<'_>, levels: u8) -> Result<Branches, JsonFault>
     ensures { Gives (λ b. b) result (tries_of scope.now levels (view value.now)) }
@@ -124,7 +124,7 @@ fn tries(alloc: Global, value: &Value, scope: &Scope<'_>, levels: u8) -> Result<
     Ok(branches)
 }
 
-// A branch. The last one may be null.
+// Reads a branch of a try each. The last one may be null.
 #[cycle(commands)]
 fn branch(
     alloc: Global,

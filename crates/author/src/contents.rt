@@ -1,4 +1,4 @@
-//! Files that stand as contents in the sequences of a description.
+//! The lengths of files that are contents in the sequences of a description.
 
 ghost use Rattle.std.specs.Prelude.{◌≡◌};
 ghost use Rattle.serde_json.specs.View.{view};
@@ -62,8 +62,8 @@ fn spend(left: u64, length: usize) -> Option<u64>
     }
 }
 
-/// What is left of so many bytes after the contents of a sequence, nested at most so many levels deep. It ends at the
-/// first that is too long.
+/// What is left of `left` bytes after the contents of a sequence, nested at most `levels` levels deep. Stops with
+/// `None` at the first content that is too long.
 #[cycle(contents)]
 pub(crate) fn after_sequence(value: &Value, files: &FileList, levels: u8, left: u64) -> Option<u64>
     ensures { result ≡ left_after left (sequence_length files.now levels (view value.now)) }

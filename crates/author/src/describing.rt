@@ -1,4 +1,4 @@
-//! Values of JSON as descriptions.
+//! Reads JSON values as descriptions.
 
 ghost use Rattle.std.specs.Prelude.{IfOk, IfErr, MatchResult};
 ghost use Rattle.serde_json.specs.View.{view};
@@ -13,7 +13,7 @@ use serde_json::Value;
 use std::alloc::Global;
 use suit_params::{Identifiers, first_alike};
 
-// Refuses more than eight components, and then two that are alike.
+// Refuses more than eight components, and then two with the same identifier.
 fn judge_components(components: &Identifiers) -> Result<(), DescriptionFault>
     ensures { MatchResult result (λ _. AreFewAndApart components.now)
         (RefusesComponents components.now) }
@@ -27,7 +27,7 @@ fn judge_components(components: &Identifiers) -> Result<(), DescriptionFault>
     }
 }
 
-// Reads and judges a value whose files have no bytes. The judgement is the same for all files.
+// Reads and judges a value whose files are all empty. The judgement is the same for all contents of the files.
 fn judged(alloc: Global, value: &Value) -> Result<(), DescriptionFault>
     ensures { MatchResult result (λ _. IsDescription (view value.now))
         (IsFaultOf (view value.now)) }
@@ -37,7 +37,7 @@ fn judged(alloc: Global, value: &Value) -> Result<(), DescriptionFault>
     judge_components(&parts.manifest.components)
 }
 
-// See `description`.
+// Does the work of `description`.
 fn read_description(alloc: Global, value: &Value) -> Result<Description, DescriptionFault>
     ensures ok { IfOk result (IsDescriptionOf (view value.now)) }
     ensures refused { IfErr result (IsFaultOf (view value.now)) }
@@ -48,9 +48,11 @@ fn read_description(alloc: Global, value: &Value) -> Result<Description, Descrip
     Ok(Description { value, names })
 }
 
-/// Reads a JSON value as a description. Its members are judged in the order of their keys' bytes, arrays by their
-/// indices, each value whole before the next, and then missing fields; after all fields, how many components there are,
-/// and whether two are alike. The value is copied.
+/// Reads a JSON value as a description. The value is copied.
+///
+/// The members of an object are judged in the order of their keys' bytes and the elements of an array by index, each
+/// value whole before the next, and then missing fields. After all fields come the number of components, and whether
+/// two are alike. The error tells the first fault.
 pub fn description(alloc: Global, value: &Value) -> Result<Description, DescriptionFault>
     ensures ok { IfOk result (IsDescriptionOf (view value.now)) }
     ensures refused { IfErr result (IsFaultOf (view value.now)) }

@@ -1,4 +1,4 @@
-//! Digests by their hexadecimal digits.
+//! Digests in hexadecimal digits.
 
 ghost use Rattle.serde_json.specs.View.{view};
 ghost use Rattle.json_fields.specs.Answers.{Gives};
@@ -9,7 +9,7 @@ use serde_json::Value;
 use std::alloc::Global;
 use suit_params::Digest;
 
-/// A digest, whose hash function its length tells.
+/// Reads a digest. Its length tells the hash function.
 pub(crate) fn digest_spelled(alloc: Global, value: &Value) -> Result<Digest, JsonFault>
     ensures { Gives (λ digest. digest) result (digest_spelled (view value.now)) }
 {

@@ -6,7 +6,7 @@ ghost use Rattle.author.specs.Elements.{items_in, pair_in};
 
 use serde_json::Value;
 
-/// The elements of an array, and none of another value.
+/// The elements of an array, or none for any other value.
 pub(crate) fn elements(value: &Value) -> &[Value]
     ensures { items_view result.now ≡ items_in (view value.now) }
 {
@@ -16,7 +16,7 @@ pub(crate) fn elements(value: &Value) -> &[Value]
     }
 }
 
-/// Both elements of an array of just two.
+/// The elements of an array of exactly two.
 pub(crate) fn pair(value: &Value) -> Option<(&Value, &Value)>
     ensures { option_map (λ p. (view p.0.now, view p.1.now)) result
         ≡ pair_in (items_in (view value.now)) }

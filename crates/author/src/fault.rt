@@ -1,4 +1,4 @@
-//! Why a value is no description.
+//! Why a value is not a description.
 
 ghost use Rattle.std.specs.Prelude.{◌≡◌};
 ghost use Rattle.author.specs.declared.fault.DescriptionFault.TheVariants.{NoMemory};
@@ -9,22 +9,22 @@ use json_fields::{FlawKind, JsonFault};
 use std::alloc::AllocError;
 use thiserror::Error;
 
-/// Why a value is no description. The texts are JSON Pointers (RFC 6901): where the first wrong value stands.
+/// Why a value is not a description. The texts are JSON Pointers (RFC 6901) to the first wrong value.
 #[derive(Debug, Drop, Error)]
 pub enum DescriptionFault {
     /// A malformed value, an unknown field, or a missing one.
     #[error("bad field")]
     BadField(Text),
-    /// A text that is not hexadecimal, two digits for each byte, or a digest of the wrong length.
+    /// A text that is not pairs of hexadecimal digits, or a digest of the wrong length.
     #[error("bad hex")]
     BadHex(Text),
-    /// A text that is no UUID.
+    /// A text that is not a UUID.
     #[error("bad uuid")]
     BadUuid(Text),
-    /// Two components with the same identifier, by their numbers: the first such pair.
+    /// The first two components with the same identifier, by their indices.
     #[error("components {first} and {second} are alike")]
     TwoAlike { first: u32, second: u32 },
-    /// The number of components, above eight.
+    /// More than eight components. Holds their number.
     #[error("{0} components")]
     TooMany(u64),
     #[error("out of memory")]

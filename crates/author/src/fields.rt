@@ -27,7 +27,7 @@ use suit_envelope::PayloadList;
 use suit_manifest::{Manifest, Member, TextMember};
 use suit_params::{DigestKind, Identifiers};
 
-/// The fields that were read.
+/// The fields that have been read.
 #[derive(Drop)]
 pub(crate) struct Fields<'a> {
     source: Source<'a>,
@@ -49,7 +49,7 @@ pub(crate) struct Fields<'a> {
 }
 
 impl<'a> Fields<'a> {
-    // The scope of a sequence, the shared one or another.
+    // The scope of the shared sequence or of another one.
     fn scope(&self, shared: bool) -> Scope<'a>
         ensures { result ≡ scope_of self.now shared }
     {
@@ -66,7 +66,7 @@ impl<'a> Fields<'a> {
         sequence(alloc, value, &self.scope(shared), MAX_LEVELS)
     }
 
-    // A sequence that is never severed.
+    // Takes a sequence that is never severed.
     fn take_sequence(&mut self, alloc: Global, key: &str, value: &Value) -> Result<(), JsonFault>
         ensures { Gives (λ _. self.new) result (takes_sequence self.old key.now (view value.now)) }
     {
@@ -80,7 +80,7 @@ impl<'a> Fields<'a> {
         Ok(())
     }
 
-    // A member that may be severed, or the names of those that are.
+    // Takes a member that may be severed, or the names of those that are.
     fn take_member(&mut self, alloc: Global, key: &str, value: &Value) -> Result<(), JsonFault>
         ensures { Gives (λ _. self.new) result (takes_member self.old key.now (view value.now)) }
     {
@@ -94,7 +94,7 @@ impl<'a> Fields<'a> {
         Ok(())
     }
 
-    // What stands beside the manifest.
+    // Takes what is in the envelope besides the manifest.
     fn take_beside(&mut self, alloc: Global, key: &str, value: &Value) -> Result<(), JsonFault>
         ensures { Gives (λ _. self.new) result (takes_beside self.old key.now (view value.now)) }
     {
@@ -148,13 +148,13 @@ fn count(description: &Value) -> u32
 /// The parts of a description.
 #[derive(Drop)]
 pub(crate) struct Described<'a> {
-    /// The manifest, with its members in it.
+    /// The manifest, with all its members inside.
     pub(crate) manifest: Manifest,
     /// Which of the members are severed.
     pub(crate) severed: Severed,
-    /// In the order of an envelope's map.
+    /// In the order of the envelope's map.
     pub(crate) payloads: PayloadList<'a>,
-    /// The name of the key.
+    /// The identifier of the key.
     pub(crate) kid: Option<Bytes>,
     /// The algorithm of the block.
     pub(crate) mac: MacKind,
@@ -162,7 +162,7 @@ pub(crate) struct Described<'a> {
     pub(crate) algorithm: DigestKind,
 }
 
-/// A description of no fields.
+/// The fields before any is read.
 pub(crate) fn no_fields<'a>(alloc: Global, description: &Value, files: &'a FileList) -> Fields<'a>
     ensures { result ≡ no_fields files.now (view description.now) }
 {
@@ -194,7 +194,7 @@ pub(crate) fn no_fields<'a>(alloc: Global, description: &Value, files: &'a FileL
 }
 
 impl<'a> Described<'a> {
-    /// The parts by the fields, of which two have to be there.
+    /// The parts that the fields make. Two of the fields are required.
     pub(crate) fn of(alloc: Global, fields: Fields<'a>) -> Result<Self, JsonFault>
         ensures { Gives (λ p. p) result (finished fields.entry) }
     {
@@ -221,7 +221,7 @@ impl<'a> Described<'a> {
         })
     }
 
-    /// Reads the parts, where the description's files have these bytes.
+    /// Reads the parts of a description whose files have these bytes.
     pub(crate) fn read(alloc: Global, value: &Value, files: &'a FileList) -> Result<Self, JsonFault>
         ensures { Gives (λ p. p) result (described files.now (view value.now)) }
     {

@@ -5,10 +5,10 @@ ghost use Rattle.author.specs.Files.{bytes_of, has_file, has_files};
 
 use det_cbor::{Bytes, List, Names, Text};
 
-/// Files, each a name and its bytes.
+/// Files, each with its name and its bytes.
 pub type FileList = List<(Text, Bytes)>;
 
-// Whether there is a file of this name.
+// Whether there is a file with this name.
 fn has_file(files: &FileList, name: &str) -> bool
     ensures { result ≡ has_file files.now name.now }
 {
@@ -20,7 +20,7 @@ fn has_file(files: &FileList, name: &str) -> bool
     false
 }
 
-/// Whether there is a file of each of these names.
+/// Whether there is a file for each of these names.
 pub fn has_files(files: &FileList, names: &Names) -> bool
     ensures { result ≡ has_files files.now names.now }
 {
@@ -32,7 +32,7 @@ pub fn has_files(files: &FileList, names: &Names) -> bool
     true
 }
 
-/// The bytes of the first file of a name, and no bytes where there is none.
+/// The bytes of the first file with a name, or no bytes if there is none.
 pub fn bytes_of<'a>(files: &'a FileList, name: &str) -> &'a [u8]
     ensures { result.now ≡ bytes_of files.now name.now }
 {

@@ -19,7 +19,7 @@ fn has_name(names: &Names, name: &str) -> bool
     false
 }
 
-// Adds a name that is not there yet.
+// Adds a name, unless it is there already.
 fn add(alloc: Global, names: &mut Names, name: &str) -> Result<(), AllocError>
     ensures { OnOk result (names.new ≡ with_name names.old name.now) }
 {
@@ -30,14 +30,14 @@ fn add(alloc: Global, names: &mut Names, name: &str) -> Result<(), AllocError>
     }
 }
 
-// The name that a member of an object gives.
+// The file name that a member of an object gives.
 fn name_under<'v>(key: &str, value: &'v Value) -> Option<&'v str>
     ensures { option_map (λ name. name.now) result ≡ name_under key.now (view value.now) }
 {
     if key == "file" { value.as_str() } else { None }
 }
 
-// Adds the names inside a value, each once.
+// Adds the file names in a value, each once.
 fn collect(alloc: Global, value: &Value, names: &mut Names) -> Result<(), AllocError>
     ensures { OnOk result (names.new ≡ once names.old (names_in (view value.now))) }
 {
@@ -60,7 +60,7 @@ fn collect(alloc: Global, value: &Value, names: &mut Names) -> Result<(), AllocE
     Ok(())
 }
 
-/// The files that a description names, each once, in the order in which they are read.
+/// The names of the files in a description, each once, in the order in which they are read.
 pub(crate) fn file_names(alloc: Global, description: &Value) -> Result<Names, AllocError>
     ensures { IfOk result (λ names. names ≡ file_names (view description.now)) }
 {

@@ -1,4 +1,4 @@
-//! Values that may come from a file.
+//! Values that can be taken from a file.
 
 ghost use Rattle.serde_json.specs.View.{view};
 ghost use Rattle.json_fields.specs.Answers.{Gives};
@@ -14,7 +14,7 @@ use serde_json::Value;
 use std::alloc::Global;
 use suit_params::{Digest, DigestKind, hash};
 
-/// A partly read `{"file": NAME}`.
+/// The fields of a `{"file": NAME}` that have been read.
 #[derive(Drop)]
 pub(crate) struct FileField {
     name: Option<Text>,
@@ -33,7 +33,7 @@ impl Draft for FileField {
     }
 }
 
-/// The name of `{"file": NAME}`.
+/// Reads the name in a `{"file": NAME}`.
 pub(crate) fn file_named(alloc: Global, value: &Value) -> Result<Text, JsonFault>
     ensures { Gives (λ name. name) result (file_named (view value.now)) }
 {
@@ -42,7 +42,7 @@ pub(crate) fn file_named(alloc: Global, value: &Value) -> Result<Text, JsonFault
     required(alloc, "file", field.name)
 }
 
-/// A partly read `{"file": NAME, "algorithm": NAME}`.
+/// The fields of a `{"file": NAME, "algorithm": NAME}` that have been read.
 #[derive(Drop)]
 pub(crate) struct DigestFile {
     name: Option<Text>,
@@ -62,7 +62,7 @@ impl Draft for DigestFile {
     }
 }
 
-// A file, and the hash function of its digest.
+// Reads a file's name and the hash function for its digest.
 fn digest_file(alloc: Global, value: &Value) -> Result<(Text, DigestKind), JsonFault>
     ensures { Gives (λ file. (file.0, file.1)) result (digest_file (view value.now)) }
 {
@@ -76,7 +76,7 @@ fn digest_file(alloc: Global, value: &Value) -> Result<(Text, DigestKind), JsonF
     Ok((name, algorithm))
 }
 
-/// A digest, or that of a file.
+/// Reads a digest, or makes that of a file.
 pub(crate) fn digest(alloc: Global, value: &Value, files: &FileList) -> Result<Digest, JsonFault>
     ensures { Gives (λ digest. digest) result (digest_of files.now (view value.now)) }
 {
@@ -88,7 +88,7 @@ pub(crate) fn digest(alloc: Global, value: &Value, files: &FileList) -> Result<D
     }
 }
 
-/// A number, or the length of a file.
+/// Reads a number, or takes the length of a file.
 pub(crate) fn size(alloc: Global, value: &Value, files: &FileList) -> Result<u64, JsonFault>
     ensures { Gives (λ n. n) result (size_of files.now (view value.now)) }
 {
@@ -100,7 +100,7 @@ pub(crate) fn size(alloc: Global, value: &Value, files: &FileList) -> Result<u64
     }
 }
 
-/// Bytes, or those of a file.
+/// Reads bytes, or takes those of a file.
 pub(crate) fn content(alloc: Global, value: &Value, files: &FileList) -> Result<Bytes, JsonFault>
     ensures { Gives (λ bytes. bytes) result (content_of files.now (view value.now)) }
 {

@@ -8,7 +8,7 @@ ghost use Rattle.author.specs.FileNames.{file_names};
 use det_cbor::Names;
 use serde_json::Value;
 
-/// A description of an envelope.
+/// A description of an envelope, as it was accepted.
 #[derive(Drop)]
 pub struct Description {
     pub(crate) value: Value,
@@ -20,7 +20,7 @@ pub struct Description {
 impl Description {
     ghost use Rattle.author.specs.Held.{value_of};
 
-    /// The files that it names, each once, in the order in which they are read.
+    /// The names of the files in the description, each once, in the order in which they are read.
     pub fn files(&self) -> &Names
         ensures { result.now ≡ file_names (value_of self.now) }
     {

@@ -1,4 +1,4 @@
-//! Component identifiers of a description.
+//! Component identifiers in a description.
 
 ghost use Rattle.std.specs.Prelude.{◌≡◌, ◌++◌, List, IfOk, OnOk};
 ghost use Rattle.det_cbor.specs.DataItem.{spell, spell_items, ByteString};
@@ -14,7 +14,7 @@ use serde_json::Value;
 use std::alloc::{AllocError, Global};
 use suit_params::{Identifier, Identifiers};
 
-// Adds byte strings as items.
+// Appends byte strings as CBOR items.
 fn push_strings(out: &mut Bytes, parts: &[Bytes]) -> Result<(), AllocError>
     ensures { OnOk result (out.new ≡ out.old ++ spell_items (string_items parts.now)) }
 {
@@ -24,7 +24,7 @@ fn push_strings(out: &mut Bytes, parts: &[Bytes]) -> Result<(), AllocError>
     Ok(())
 }
 
-// An identifier's spelling in a manifest.
+// Spells an identifier as a manifest does.
 #[tactic(auto, using(crate::proofs::Counts::counted_strings))]
 fn spelling(alloc: Global, identifier: &Identifier) -> Result<Bytes, AllocError>
     ensures { IfOk result (λ bytes. bytes ≡ spell (identifier_item identifier.now)) }
@@ -36,7 +36,7 @@ fn spelling(alloc: Global, identifier: &Identifier) -> Result<Bytes, AllocError>
     Ok(out)
 }
 
-// An array of byte strings, which a manifest spells in at most 64 bytes.
+// An array of byte strings that a manifest spells in at most 64 bytes.
 #[derive(Drop)]
 struct OneIdentifier;
 
@@ -58,7 +58,7 @@ impl Form for OneIdentifier {
     }
 }
 
-/// An array of at least one identifier.
+/// Reads an array of at least one identifier.
 pub(crate) fn identifiers(alloc: Global, value: &Value) -> Result<Identifiers, JsonFault>
     ensures { Gives (λ ids. ids) result (identifiers_of (view value.now)) }
 {

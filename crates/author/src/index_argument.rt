@@ -1,4 +1,4 @@
-//! The argument of `index`.
+//! The argument of the command `index`.
 
 ghost use Rattle.std.specs.Prelude.{◌≡◌};
 ghost use Rattle.serde_json.specs.View.{view};
@@ -13,7 +13,7 @@ use serde_json::Value;
 use std::alloc::Global;
 use suit_commands::{IndexList, Selection};
 
-// The index of one of so many components.
+// The index of a component, below a count.
 #[derive(Drop)]
 struct IndexBelow {
     count: u32,
@@ -38,7 +38,7 @@ fn is_list(value: &Value) -> bool
     !elements(value).is_empty()
 }
 
-/// Which of so many components a value selects.
+/// Reads which components a command selects, out of `count`.
 pub(crate) fn selection(alloc: Global, value: &Value, count: u32) -> Result<Selection, JsonFault>
     ensures { Gives (λ s. s) result (selection_of count (view value.now)) }
 {

@@ -1,4 +1,4 @@
-//! Descriptions of envelopes in JSON, and the envelopes that are made of them.
+//! Descriptions of envelopes in JSON, and the envelopes that are made from them.
 #![tactic(auto)]
 
 mod algorithm_name;

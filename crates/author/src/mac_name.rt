@@ -1,4 +1,4 @@
-//! Names of the algorithms of a block.
+//! Names of the algorithms of an authentication block.
 
 ghost use Rattle.std.specs.Prelude.{◌≡◌};
 ghost use Rattle.serde_json.specs.View.{view};
@@ -20,7 +20,7 @@ fn mac_named(name: &str) -> Option<MacKind>
     }
 }
 
-/// The algorithm that a value names.
+/// Reads the name of an algorithm.
 pub(crate) fn mac_kind(alloc: Global, value: &Value) -> Result<MacKind, JsonFault>
     ensures { Gives (λ kind. kind) result (mac_kind_of (view value.now)) }
 {

@@ -1,4 +1,4 @@
-//! The envelope of a description.
+//! The envelope that a description makes.
 
 ghost use Rattle.std.specs.Prelude.{◌≡◌, ◌<◌, ℕ, List, None, IfOk, IfErr, IfSome, IsTrue};
 ghost use Rattle.suit_manifest.specs.ManifestWriting.{IsWrittenManifest, ManifestFits};
@@ -25,7 +25,7 @@ use std::alloc::{AllocError, Global};
 use suit_envelope::{EnvelopeParts, string_digest};
 use suit_manifest::encode_manifest;
 
-// The parts of the envelope.
+// Makes the parts of the envelope.
 fn made_parts<'a>(
     alloc: Global,
     parted: Parted<'a>,
@@ -57,8 +57,8 @@ fn made_parts<'a>(
     })
 }
 
-// The limit that is passed where the severed members alone are too long: the first, if wrapper and manifest are too long
-// too. Their contents are not read.
+// The limit that is exceeded if the severed members alone are too long: that of the trimmed envelope, if wrapper and
+// manifest are too long as well. Does not read the contents of these members.
 fn passed_limit(
     alloc: Global,
     description: &Description,
@@ -81,7 +81,7 @@ fn passed_limit(
     }
 }
 
-// The limit that is passed for certain, by the files that stand as contents alone.
+// The limit that is exceeded for certain, if the files that are contents are too long by themselves.
 fn certain_limit(
     alloc: Global,
     description: &Description,
@@ -104,14 +104,14 @@ fn certain_limit(
     }
 }
 
-/// The tagged envelope of a description, where its files have these bytes (draft-ietf-suit-manifest-25, section 8.2).
-/// The members to be severed and the payloads stand beside its manifest. It is authentic under the key: its wrapper has
-/// just one block, which verifies.
+/// Makes the tagged envelope of a description whose files have these bytes (draft-ietf-suit-manifest-25, section 8.2).
+/// Severed members and payloads are in the envelope, outside its manifest. The envelope is authentic under the key: its
+/// wrapper has exactly one block, which verifies.
 ///
-/// Where no object of the description has a key twice, what the bytes hold is told by the description's JSON alone: a
-/// member that `sever` names stands in the envelope, with its digest in the manifest, and each payload under its key.
+/// If no object in the description has a key twice, its JSON alone tells what the envelope holds: a member that `sever`
+/// names is in the envelope, with its digest in the manifest, and each payload is there under its key.
 ///
-/// Refuses an envelope whose wrapper and manifest alone take more than 65,536 bytes, and then one of more than
+/// Returns `TooLong` if wrapper and manifest alone take more than 65,536 bytes, or else if the envelope takes more than
 /// 1,048,576.
 pub fn make(
     alloc: Global,

@@ -14,7 +14,7 @@ use hmac_mac0::{MacKind, make_block};
 use std::alloc::{AllocError, Global};
 use suit_params::{Digest, push_digest};
 
-// A digest's array (draft-ietf-suit-manifest-25, section 10).
+// Spells a digest's array (draft-ietf-suit-manifest-25, section 10).
 fn digest_bytes(alloc: Global, digest: &Digest) -> Result<Bytes, AllocError>
     ensures spelling { IfOk result (λ bytes. bytes ≡ spell (digest_item digest.now)) }
     ensures valid { IfOk result (λ _. IsValid (digest_item digest.now)) }
@@ -25,7 +25,7 @@ fn digest_bytes(alloc: Global, digest: &Digest) -> Result<Bytes, AllocError>
     Ok(out)
 }
 
-// An array of both byte strings.
+// Spells an array of two byte strings.
 fn both(alloc: Global, stated: &[u8], block: &[u8]) -> Result<Bytes, AllocError>
     ensures is { IfOk result (λ w. w ≡ spell (ArrayOf
         (ItemThen (ByteString stated.now) (ItemThen (ByteString block.now) NoItems)))) }
@@ -38,8 +38,8 @@ fn both(alloc: Global, stated: &[u8], block: &[u8]) -> Result<Bytes, AllocError>
     Ok(out)
 }
 
-/// The wrapper that states a digest, with one block by an algorithm and a key (draft-ietf-suit-manifest-25, section
-/// 8.3). The block's payload is the digest's array.
+/// Makes the wrapper that states a digest, with one block for an algorithm and a key (draft-ietf-suit-manifest-25,
+/// section 8.3). The payload of the block is the digest's array.
 pub(crate) fn made_wrapper(
     alloc: Global,
     mac: MacKind,

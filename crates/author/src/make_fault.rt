@@ -11,7 +11,7 @@ use thiserror::Error;
 pub enum MakeFault {
     #[error("out of memory")]
     NoMemory,
-    /// The limit in bytes that the envelope exceeds, trimmed or whole.
+    /// The envelope is longer than a limit, trimmed or whole. Holds the limit in bytes.
     #[error("longer than {0} bytes")]
     TooLong(u64),
 }

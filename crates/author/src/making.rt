@@ -1,4 +1,4 @@
-//! The manifest of a description, and what stands beside it.
+//! The manifest of a description, and what is outside it in the envelope.
 
 ghost use Rattle.std.specs.Prelude.{◌≡◌, IfOk, IsTrue};
 ghost use Rattle.author.specs.FileNames.{file_names};
@@ -19,18 +19,18 @@ use suit_envelope::{PayloadList, string_digest};
 use suit_manifest::{Manifest, Member, TextMember};
 use suit_params::DigestKind;
 
-/// A description's parts, with its severed members beside the manifest.
+/// The parts of a description, with its severed members taken out of the manifest.
 #[derive(Drop)]
 pub(crate) struct Parted<'a> {
-    /// The manifest with digests in place of them.
+    /// The manifest, with digests in place of the severed members.
     pub(crate) manifest: Manifest,
-    /// The contents of those that are given.
+    /// The contents of the severed members that are given.
     pub(crate) payload_fetch: Option<Bytes>,
     pub(crate) install: Option<Bytes>,
     pub(crate) text: Option<Bytes>,
-    /// In the order of an envelope's map.
+    /// In the order of the envelope's map.
     pub(crate) payloads: PayloadList<'a>,
-    /// The name of the key.
+    /// The identifier of the key.
     pub(crate) kid: Option<Bytes>,
     /// The algorithm of the block.
     pub(crate) mac: MacKind,
@@ -38,7 +38,7 @@ pub(crate) struct Parted<'a> {
     pub(crate) algorithm: DigestKind,
 }
 
-// A member as it stands in the manifest, and its content where that stands beside it.
+// A member as it is in the manifest, and its content if that is severed.
 fn part_member(
     alloc: Global,
     severed: bool,
@@ -72,7 +72,7 @@ fn part_text(severed: bool, kind: DigestKind, text: TextMember) -> (TextMember, 
     }
 }
 
-/// Puts the severed members of a description beside its manifest.
+/// Takes the severed members of a description out of its manifest.
 pub(crate) fn part<'a>(alloc: Global, parts: Described<'a>) -> Result<Parted<'a>, AllocError>
     ensures is { IfOk result (λ p. p ≡ parted parts.entry) }
     ensures written { IfOk result (λ _. AreWrittenApart parts.entry) }
@@ -107,8 +107,8 @@ pub(crate) fn part<'a>(alloc: Global, parts: Described<'a>) -> Result<Parted<'a>
     })
 }
 
-/// The manifest of a description, where its files have these bytes. A severed member stands in it as the digest
-/// of its whole byte string, under the hash function that is named for it.
+/// The manifest of a description whose files have these bytes. In place of a severed member it has the digest of the
+/// member's whole byte string, by the hash function that is named for it.
 pub fn manifest_of(
     alloc: Global,
     description: &Description,

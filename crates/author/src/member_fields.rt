@@ -16,7 +16,7 @@ use suit_commands::MAX_LEVELS;
 use suit_manifest::{Member, TextMember};
 use suit_params::Digest;
 
-/// A partly read `{"digest": HEX}`.
+/// The field of a `{"digest": HEX}` that has been read.
 #[derive(Drop)]
 pub(crate) struct DigestField {
     digest: Option<Digest>,
@@ -37,7 +37,7 @@ impl Draft for DigestField {
     }
 }
 
-// The digest of a member that is left out.
+// Reads the digest of a member that is left out.
 fn left_out(alloc: Global, value: &Value) -> Result<Digest, JsonFault>
     ensures { Gives (λ digest. digest) result (left_out (view value.now)) }
 {
@@ -46,7 +46,7 @@ fn left_out(alloc: Global, value: &Value) -> Result<Digest, JsonFault>
     required(alloc, "digest", field.digest)
 }
 
-/// The commands of a member, or the digest of one that is left out.
+/// Reads the commands of a member, or the digest of one that is left out.
 pub(crate) fn member(alloc: Global, value: &Value, scope: &Scope<'_>) -> Result<Member, JsonFault>
     ensures { Gives (λ m. m) result (described_member scope.now (view value.now)) }
 {
@@ -57,7 +57,7 @@ pub(crate) fn member(alloc: Global, value: &Value, scope: &Scope<'_>) -> Result<
     }
 }
 
-/// Whether bytes are exactly one item of deterministic CBOR. Takes no memory.
+/// Whether the bytes are exactly one item of deterministic CBOR. Does not allocate.
 pub fn is_one_item(bytes: &[u8]) -> bool
     ensures { result ≡ is_one_item bytes.now }
 {
@@ -68,7 +68,7 @@ pub fn is_one_item(bytes: &[u8]) -> bool
     }
 }
 
-/// A text member, or the digest of one that is left out.
+/// Reads a text member, or the digest of one that is left out.
 pub(crate) fn text_member(alloc: Global, value: &Value) -> Result<TextMember, JsonFault>
     ensures { Gives (λ m. m) result (text_member_of (view value.now)) }
 {

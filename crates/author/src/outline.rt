@@ -6,7 +6,7 @@ ghost use Rattle.author.specs.Outlines.{no_values, noted, outline_of, outline_vi
 
 use serde_json::Value;
 
-/// The values under a description's keys of sequences, and under `sever`.
+/// The values of a description's sequences and of `sever`.
 #[derive(Clone, Copy)]
 pub(crate) struct Outline<'v> {
     pub(crate) shared: Option<&'v Value>,
@@ -19,7 +19,7 @@ pub(crate) struct Outline<'v> {
 }
 
 impl<'v> Outline<'v> {
-    // No values yet, of this description.
+    // No values of this description yet.
     fn none(_description: &'v Value) -> Outline<'v>
         ensures { outline_view result ≡ no_values }
     {
@@ -51,7 +51,7 @@ impl<'v> Outline<'v> {
         self
     }
 
-    /// The outline of a description's value.
+    /// The outline of a description.
     pub(crate) fn of(description: &'v Value) -> Outline<'v>
         ensures { outline_view result ≡ outline_of (view description.now) }
     {

@@ -1,4 +1,4 @@
-//! Descriptions whose contents are too long before anything is made of them.
+//! Descriptions whose contents are found to be too long before anything is made of them.
 
 ghost use Rattle.std.specs.Prelude.{◌≡◌, IfOk, option_map};
 ghost use Rattle.serde_json.specs.View.{view};
@@ -19,7 +19,7 @@ use serde_json::Value;
 use std::alloc::{AllocError, Global};
 use suit_commands::MAX_LEVELS;
 
-// The members that a description severs by the value under `sever`.
+// The members that a description severs, by the value of `sever`.
 fn severed(alloc: Global, description: &Value, sever: Option<&Value>) -> Result<Severed, JsonFault>
     ensures { Gives (λ s. s) result (severed_by (given_in (view description.now))
         (option_map (λ v. view v.now) sever.entry)) }
@@ -30,7 +30,7 @@ fn severed(alloc: Global, description: &Value, sever: Option<&Value>) -> Result<
     }
 }
 
-// What is left of so many bytes after the contents of a sequence that is there.
+// What is left of `left` bytes after the contents of a sequence, if it is there.
 fn after_held(value: Option<&Value>, files: &FileList, left: u64) -> Option<u64>
     ensures { result
         ≡ left_after left (held_length files.now (option_map (λ v. view v.now) value.entry)) }
@@ -41,7 +41,7 @@ fn after_held(value: Option<&Value>, files: &FileList, left: u64) -> Option<u64>
     }
 }
 
-// The same of a member, which has none in the manifest if it is severed.
+// What is left of `left` bytes after the contents of a member. A severed one has none.
 fn after_member(value: Option<&Value>, severed: bool, files: &FileList, left: u64) -> Option<u64>
     ensures { result ≡ left_after left
         (member_length files.now severed (option_map (λ v. view v.now) value.entry)) }
@@ -53,7 +53,7 @@ fn after_member(value: Option<&Value>, severed: bool, files: &FileList, left: u6
     }
 }
 
-// What is left of so many bytes after all contents in the manifest.
+// What is left of `left` bytes after all contents in the manifest.
 fn after_manifest(
     outline: &Outline<'_>,
     severed: Severed,
@@ -71,7 +71,7 @@ fn after_manifest(
     after_member(outline.install, severed.install, files, left)
 }
 
-// What is left of so many bytes after all contents in the severed members.
+// What is left of `left` bytes after all contents in the severed members.
 fn after_severed(
     outline: &Outline<'_>,
     severed: Severed,
@@ -101,18 +101,18 @@ fn severed_in(
     }
 }
 
-/// Whether the files that stand as contents in a description leave room for its envelope.
+/// Whether the files that are contents in a description leave room for its envelope.
 #[derive(Clone, Copy)]
 pub(crate) enum Contents {
-    /// Those of the manifest and those of the severed members are within the limits.
+    /// The contents in the manifest, and those in the severed members, are within the limits.
     Short,
-    /// Those of the manifest alone are longer than a trimmed envelope may be.
+    /// The contents in the manifest are longer than a trimmed envelope may be.
     LongManifest,
-    /// Those of the severed members, which are these, are longer than an envelope may be.
+    /// The contents in these severed members are longer than an envelope may be.
     LongMembers(Severed),
 }
 
-/// Judges the files that stand as contents in a description. Copies no file.
+/// Judges the lengths of the files that are contents in a description. Copies no file.
 pub(crate) fn judge_contents(
     alloc: Global,
     description: &Description,

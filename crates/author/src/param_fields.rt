@@ -1,4 +1,4 @@
-//! Parameters of a description.
+//! Parameters in a description.
 
 ghost use Rattle.std.specs.Prelude.{◌≡◌, OnOk};
 ghost use Rattle.serde_json.specs.View.{view};
@@ -15,14 +15,14 @@ use std::cmp::Ordering;
 use std::marker::Model;
 use suit_params::{Param, ParamKey, ParamList};
 
-/// A whole number.
+/// Reads a number of 64 bits.
 pub(crate) fn whole(alloc: Global, value: &Value) -> Result<u64, JsonFault>
     ensures { Gives (λ n. n) result (number_of (view value.now)) }
 {
     number(alloc, value, u64::MAX)
 }
 
-/// The index of one of so many components.
+/// Reads the index of a component, out of `count`.
 pub(crate) fn index(alloc: Global, value: &Value, count: u32) -> Result<u32, JsonFault>
     ensures { Gives (λ i. i) result (index_of count (view value.now)) }
 {
@@ -34,7 +34,7 @@ pub(crate) fn index(alloc: Global, value: &Value, count: u32) -> Result<u32, Jso
     }
 }
 
-// The parameter of this key that a value gives.
+// Reads the value of a parameter with this key.
 fn param(alloc: Global, value: &Value, key: ParamKey, scope: &Scope<'_>) -> Result<Param, JsonFault>
     ensures { Gives (λ p. p) result (param_value scope.now key (view value.now)) }
 {
@@ -54,7 +54,7 @@ fn param(alloc: Global, value: &Value, key: ParamKey, scope: &Scope<'_>) -> Resu
     }
 }
 
-/// The parameters that were read, ascending by number.
+/// The parameters that have been read, ascending by number.
 #[derive(Drop)]
 struct ParamFields<'a> {
     scope: &'a Scope<'a>,
@@ -69,7 +69,7 @@ impl<'a> Model for ParamFields<'a> {
     ghost view = { λ a. record { scope = a.scope.now; list = a.list.items } };
 }
 
-// Where a parameter of the same key is among those that ascend by number, or else where it belongs.
+// The index of a parameter with the same key, or else the index where this one belongs. The list ascends by number.
 fn place_of(list: &[Param], param: &Param) -> Result<usize, usize>
     ensures { IsPlaceOf list.now param.now result }
 {
@@ -111,7 +111,7 @@ impl Draft for ParamFields<'_> {
     }
 }
 
-/// An object from names of parameters to their values.
+/// Reads an object from names of parameters to their values.
 pub(crate) fn params(
     alloc: Global,
     value: &Value,

@@ -5,7 +5,7 @@ ghost use Rattle.author.specs.ParamNames.{param_named};
 
 use suit_params::ParamKey;
 
-/// The parameter that has a name.
+/// The parameter with this name.
 pub(crate) fn param_named(name: &str) -> Option<ParamKey>
     ensures { result ≡ param_named name.now }
 {

@@ -12,7 +12,7 @@ use crate::{Description, FileList};
 use json_fields::JsonFault;
 use std::alloc::{AllocError, Global};
 
-/// A description's parts, where its files have these bytes. A file that is not listed has no bytes.
+/// The parts of a description whose files have these bytes. A file that is not listed is empty.
 pub(crate) fn parts_of<'a>(
     alloc: Global,
     description: &Description,
@@ -27,7 +27,7 @@ pub(crate) fn parts_of<'a>(
     }
 }
 
-/// The same without the contents of these members.
+/// The parts of a description without the contents of these members.
 pub(crate) fn bare_parts_of<'a>(
     alloc: Global,
     description: &Description,

@@ -1,4 +1,4 @@
-//! Integrated payloads of a description.
+//! Integrated payloads in a description.
 
 ghost use Rattle.serde_json.specs.View.{view};
 ghost use Rattle.json_fields.specs.Answers.{Gives};
@@ -13,7 +13,7 @@ use std::alloc::Global;
 use std::marker::Model;
 use suit_envelope::{PayloadBytes, PayloadList};
 
-/// A partly read `{"file": NAME}` or `{"hex": HEX}`.
+/// The fields of a `{"file": NAME}` or `{"hex": HEX}` that have been read.
 #[derive(Drop)]
 pub(crate) struct PayloadField {
     file: Option<Text>,
@@ -40,7 +40,7 @@ impl Draft for PayloadField {
     }
 }
 
-// The bytes of the one that is there. Those of a file are lent.
+// The bytes of the field that is there, which has to be just one. Those of a file are lent.
 fn source<'a>(
     alloc: Global,
     field: PayloadField,
@@ -56,7 +56,7 @@ fn source<'a>(
     }
 }
 
-/// The payloads that were read.
+/// The payloads that have been read.
 #[derive(Drop)]
 struct PayloadFields<'a> {
     files: &'a FileList,
@@ -72,7 +72,7 @@ impl<'a> Model for PayloadFields<'a> {
 }
 
 impl<'a> PayloadFields<'a> {
-    // The payload that a value gives.
+    // Reads the payload that a value gives.
     fn payload(&self, alloc: Global, value: &Value) -> Result<PayloadBytes<'a>, JsonFault>
         ensures { Gives (λ b. b) result (payload_of self.now.files (view value.now)) }
     {
@@ -98,7 +98,7 @@ impl Draft for PayloadFields<'_> {
     }
 }
 
-/// An object from keys to payloads, which ascend by the spellings of their keys.
+/// Reads an object from keys to payloads. They are in the order of the spellings of their keys.
 pub(crate) fn payloads<'a>(
     alloc: Global,
     value: &Value,

@@ -1,10 +1,10 @@
-//! The scope for reading a description.
+//! What is known when a description is read.
 
 use crate::FileList;
 use crate::severing::Severed;
 use std::marker::Model;
 
-/// The files and the number of components, and whether the commands stand in the shared sequence.
+/// The files and the number of components, and whether the commands are in the shared sequence.
 #[derive(Drop)]
 pub(crate) struct Scope<'a> {
     pub(crate) files: &'a FileList,
@@ -20,8 +20,8 @@ impl<'a> Model for Scope<'a> {
     ghost view = { λ s. record { files = s.files.now; shared = s.shared; count = s.count } };
 }
 
-/// A description before its fields are read: the scope of its sequences but the shared one, with as many
-/// components as it lists identifiers; and the members that it gives with their content.
+/// What is known before the fields are read: the scope of all sequences but the shared one, with as many components as
+/// identifiers are listed, and the members that are given with their content.
 #[derive(Drop)]
 pub(crate) struct Source<'a> {
     pub(crate) scope: Scope<'a>,

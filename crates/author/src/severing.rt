@@ -41,12 +41,12 @@ pub struct Severed {
     pub payload_fetch: bool,
     pub install: bool,
     pub text: bool,
-    /// The hash functions of their digests. Of a member that is not severed it is SHA-256.
+    /// The hash functions of their digests. SHA-256 for a member that is not severed.
     pub kinds: MemberKinds,
 }
 
 impl Severed {
-    /// None of them.
+    /// No member is severed.
     pub(crate) fn none() -> Severed
         ensures { result ≡ none_severed }
     {
@@ -100,7 +100,7 @@ fn member_named(name: &str) -> Option<MemberName>
     }
 }
 
-// Whether a description has a field of this name that is not an object.
+// Whether a description has a field with this name that is not an object.
 fn is_content(description: &Value, name: &str) -> bool
     ensures { result ≡ is_content (get name.now (view description.now)) }
 {
@@ -122,7 +122,7 @@ pub(crate) fn given(description: &Value) -> Severed
     }
 }
 
-// A name, one of the members that are given and are not named yet.
+// Reads the name of a member that is given, and not named yet.
 fn one_name(
     alloc: Global,
     value: &Value,
@@ -146,7 +146,7 @@ fn one_name(
     }
 }
 
-// A name, for SHA-256, or a name and a hash function.
+// Reads an entry: a name, for SHA-256, or a name and a hash function.
 fn entry(
     alloc: Global,
     value: &Value,
@@ -165,7 +165,7 @@ fn entry(
     }
 }
 
-// Adds an entry.
+// Reads an entry, and adds it to those read before.
 fn one_severed(
     alloc: Global,
     value: &Value,
@@ -178,7 +178,7 @@ fn one_severed(
     Ok(so_far.with(name, kind))
 }
 
-/// An array of entries of distinct names, of the members that are given.
+/// Reads an array of entries with distinct names, each of a member that is given.
 pub(crate) fn severed_members(
     alloc: Global,
     value: &Value,

@@ -1,4 +1,4 @@
-//! Envelopes within their limits.
+//! Envelopes within their limits of length.
 
 ghost use Rattle.std.specs.Prelude.{◌≡◌, ◌-◌, ◌^◌, None, IfOk, length, min};
 ghost use Rattle.suit_envelope.specs.Making.{SpellsParts};
@@ -19,7 +19,7 @@ pub(crate) const MAX_TRIMMED: u64 = 65_536;
 /// The longest envelope, in bytes.
 pub(crate) const MAX_WHOLE: u64 = 1_048_576;
 
-/// The length of the trimmed envelope of these parts. Saturates at 64 bits.
+/// The length in bytes of the trimmed envelope of these parts. Saturates at 64 bits.
 pub(crate) fn trimmed(parts: &EnvelopeParts<'_>) -> u64
     ensures { result ≡ min (length (trimmed_bytes parts.now)) (2 ^ 64 - 1) }
 {
@@ -59,7 +59,7 @@ fn payloads(list: &PayloadList<'_>) -> u64
     total
 }
 
-// The bytes beside wrapper and manifest: an envelope is longer than they are. Saturates at 64 bits.
+// The length of the contents besides wrapper and manifest. The envelope itself is longer. Saturates at 64 bits.
 fn contents(parts: &EnvelopeParts<'_>) -> u64
     ensures { result ≡ min (contents_length parts.now) (2 ^ 64 - 1) }
 {
@@ -69,8 +69,8 @@ fn contents(parts: &EnvelopeParts<'_>) -> u64
         .saturating_add(payloads(&parts.payloads))
 }
 
-/// The envelope of its parts, if it is not too long. Its trimmed length is judged first, and nothing is written where
-/// the contents alone are too long.
+/// Encodes the envelope of its parts, unless it is too long. Its trimmed length is judged first, and nothing is written
+/// if the contents alone are too long.
 pub(crate) fn encode_short(alloc: Global, parts: &EnvelopeParts<'_>) -> Result<Bytes, MakeFault>
     requires wrapper { HasWrapper parts.now.wrapper }
     requires payloads { AreAscending None parts.now.payloads }

@@ -1,4 +1,4 @@
--- What a check answers, by number: each refusal has its own. The numbers are those of the program's `check`.
+-- What a check returns, by number: each refusal has its own. The numbers are those of the program's `check`.
 use Rattle.std.specs.Prelude.{◌≡◌, ◌⊎◌, ℕ, List}
 use Rattle.admission.specs.Opening.{IsNotOpened, IsOpened}
 use Rattle.admission.specs.declared.opening.TheConstants.{LONGEST_TRIMMED}
@@ -28,7 +28,7 @@ tells_not_taken (faults.Differs name stated found) = answers.Differs
 tells_not_taken (faults.Refused refusal) = answers.Refused
 tells_not_taken faults.NoMemory = answers.NoMemory
 
--- ---- a manifest in its envelope, and then a file: refused, and told so
+-- ---- a manifest in its envelope, and then a file, that is refused with this answer
 
 pub data IsManifestRefusedAs (said : EnvelopeSays) (manifest : Manifest) (answer : Answer)
     : Type 0 where
@@ -44,7 +44,7 @@ pub data IsRefusedAs (bytes : List ℕ) (answer : Answer) : Type 0 where
       → IsOpened LONGEST_TRIMMED bytes said manifest → IsManifestRefusedAs said manifest answer
       → IsRefusedAs bytes answer
 
--- ---- what is answered: safe, so refused, or for want of memory
+-- ---- what is returned: safe, refused with this answer, or out of memory
 
 abbrev pub IsManifestAnswer : EnvelopeSays → Manifest → Answer → Type 0
 IsManifestAnswer said manifest answer =

@@ -1,4 +1,5 @@
--- Files whose procedures are safe (draft-ietf-suit-manifest-25, sections 6.4 and 8.4; what is safe is this project's own).
+-- Files whose procedures are safe (draft-ietf-suit-manifest-25, sections 6.4 and 8.4; what is safe is this project's
+-- own).
 use Rattle.std.specs.Prelude.{◌≡◌, ℕ, List}
 use Rattle.admission.specs.Judging.{MayNotRun, MayRun}
 use Rattle.admission.specs.Opening.{IsNotOpened, IsOpened}
@@ -16,20 +17,20 @@ use Rattle.suit_manifest.specs.declared.manifest.Members.{Members}
 use Rattle.suit_manifest.specs.declared.members.MemberFault.{MemberFault}
 use Rattle.suit_manifest.specs.declared.members.MemberFault.TheVariants as faults
 
--- its members are there, and on each path of both procedures each invoke is covered
+-- the severed members are there, and on each path of both procedures each invoke is covered
 pub record IsSafeManifest (said : EnvelopeSays) (manifest : Manifest) : Type 0 where
   pub members : Members
   pub has_members : HasMembers said manifest members
   pub safe : MayRun manifest members
 
--- they are there, and this is why the procedures may not be run
+-- the severed members are there, and this is why the procedures must not be run
 pub record IsNotSafeManifest (said : EnvelopeSays) (manifest : Manifest) (why : NotSafe)
     : Type 0 where
   pub members : Members
   pub has_members : HasMembers said manifest members
   pub not_safe : MayNotRun manifest members why
 
--- the bytes are those of an envelope that is short enough when it is trimmed, and its manifest is so
+-- the bytes are an envelope that is short enough when it is trimmed, and its manifest is safe
 pub record IsSafeFile (bytes : List ℕ) : Type 0 where
   pub said : EnvelopeSays
   pub manifest : Manifest
@@ -42,7 +43,7 @@ pub record IsNotSafeFile (bytes : List ℕ) (why : NotSafe) : Type 0 where
   pub opened : IsOpened LONGEST_TRIMMED bytes said manifest
   pub not_safe : IsNotSafeManifest said manifest why
 
--- how it is told
+-- the answer for procedures that must not be run
 abbrev pub tells_not_safe : NotSafe → Answer
 tells_not_safe (refusals.TooWide procedure width) = answers.TooWide
 tells_not_safe (refusals.Unsafe procedure path) = answers.Unsafe
@@ -50,7 +51,7 @@ tells_not_safe refusals.NoMemory = answers.NoMemory
 
 -- ---- what the grammar refuses
 
--- the place of a refusal, in bytes from the envelope's first
+-- the refusal of an envelope or a manifest is at this byte of the envelope
 abbrev pub IsRefusalAt : NotOpened → ℕ → Type 0
 IsRefusalAt (not_opened.NoEnvelope refusal) place = place ≡ refusal.place
 IsRefusalAt (not_opened.NoManifest refusal) place = place ≡ refusal.place
@@ -60,13 +61,13 @@ abbrev pub IsMemberRefusalAt : MemberFault → ℕ → Type 0
 IsMemberRefusalAt (faults.Refused refusal) place = place ≡ refusal.place
 IsMemberRefusalAt _ place = ⊥
 
--- a member that stands apart is refused as a sequence
+-- a severed member is refused as a sequence, at this byte of the envelope
 pub record RefusesMemberAt (said : EnvelopeSays) (manifest : Manifest) (place : ℕ) : Type 0 where
   pub fault : MemberFault
   pub lacks : LacksMembers said manifest fault
   pub at : IsMemberRefusalAt fault place
 
--- the envelope or its manifest is refused, or such a member
+-- the envelope, its manifest, or a severed member is refused at this byte of the envelope
 pub data IsRefusedAt (bytes : List ℕ) (place : ℕ) : Type 0 where
   AtOpening : (refusal : NotOpened) → IsNotOpened LONGEST_TRIMMED bytes refusal
       → IsRefusalAt refusal place → IsRefusedAt bytes place

@@ -36,7 +36,7 @@ use std::alloc::Global;
 use suit_answers::Answer;
 use suit_manifest::{MemberFault, members_of, procedure_laws};
 
-// Why a file is not opened, with the place of a refusal.
+// Why a file is not opened. Stores the place of a refusal.
 fn not_opened(refusal: NotOpened, place: &mut u64) -> Answer
     ensures done { result ≢ answers.Done }
     ensures covered { result ≢ answers.Unsafe }
@@ -56,7 +56,7 @@ fn not_opened(refusal: NotOpened, place: &mut u64) -> Answer
     }
 }
 
-// Why its members are not taken, with the place of a refusal.
+// Why the members are not taken. Stores the place of a refusal.
 fn not_taken(fault: MemberFault, place: &mut u64) -> Answer
     ensures done { result ≢ answers.Done }
     ensures covered { result ≢ answers.Unsafe }
@@ -77,7 +77,7 @@ fn not_taken(fault: MemberFault, place: &mut u64) -> Answer
     }
 }
 
-// Why its procedures are not to be run.
+// Why the procedures must not be run.
 fn not_safe(refusal: &NotSafe) -> Answer
     ensures { result ≡ tells_not_safe refusal.now }
 {
@@ -88,7 +88,7 @@ fn not_safe(refusal: &NotSafe) -> Answer
     }
 }
 
-// Judges the procedures of an envelope that was opened.
+// Judges the procedures of an opened envelope.
 fn judge_opened(alloc: Global, file: &Opened<'_>, place: &mut u64) -> Answer
     requires few { length file.now.manifest.components < 2 ^ 32 }
     requires places { MembersEndBelow (2 ^ 64) (said_by file.now.envelope) }
@@ -144,10 +144,13 @@ fn judge_file(alloc: Global, bytes: &[u8], place: &mut u64) -> Answer
     }
 }
 
-/// Judges a file, as the program's `check`: 0 exactly where on each path of both procedures each invoke is covered, 1 where on
-/// one it is not, 12 where there is too much to judge, and 11 where memory ran out. Where the grammar refuses the bytes, which
-/// is 3, `place` is that of the fault, in bytes from the first. 21 where the trimmed envelope has more than 16,384 bytes (the
-/// program's `check` takes 65,536), 16 where a member that stands apart is not there, and 17 where it has another digest.
+/// Judges a file, as the program's `check` does.
+///
+/// Returns 0 if on each path of both procedures each invoke is covered, and 1 if on some path one is not. Any other
+/// number says why there is no verdict: 3 if the grammar refuses the bytes, with the byte offset of the fault in
+/// `place`; 11 if memory ran out; 12 if a procedure is too wide to judge; 16 if a severed member is missing, and 17 if
+/// it has another digest; and 21 if the trimmed envelope has more than 16,384 bytes (the program's `check` takes
+/// 65,536). `place` is written only with 3.
 #[unsafe(no_mangle)]
 pub extern "C" fn suit_check(alloc: Global, file: &[u8], place: &mut u64) -> i32
     ensures safe { result ≡ code_of answers.Done → IsSafeFile file.now }

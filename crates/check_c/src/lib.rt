@@ -1,4 +1,4 @@
-//! The checker for programs in C, over the bytes of an envelope that they pass.
+//! The checker for programs in C, which pass the bytes of an envelope.
 #![tactic(auto)]
 
 mod checking;

@@ -12,7 +12,7 @@ use std::alloc::Global;
 use suit_answers::Answer;
 use suit_envelope::{decode_envelope, trim};
 
-// See `suit_trim`.
+// Does the work of `suit_trim`.
 fn trim_into(alloc: Global, file: &[u8], room: &mut [u8], count: &mut u64) -> Answer
     ensures answers { (result ≡ answers.Done) ⊎ (result ≡ answers.Refused)
         ⊎ (result ≡ answers.NoMemory) ⊎ (result ≡ answers.TooLong) }
@@ -42,9 +42,10 @@ fn trim_into(alloc: Global, file: &[u8], room: &mut [u8], count: &mut u64) -> An
     Answer::Done
 }
 
-/// Writes an envelope with its wrapper and manifest alone to the front of the room: 0, and `count` is the number of its bytes; 3
-/// where the bytes spell no envelope, 11 where memory ran out, and 21 where the room has fewer than `count` bytes, which then are
-/// as they were.
+/// Writes an envelope, trimmed to its wrapper and manifest, to the front of the room.
+///
+/// Returns 0 with the number of bytes in `count`; 3 if the bytes do not spell an envelope; 11 if memory runs out; and
+/// 21 if the room has fewer than `count` bytes, in which case it is left as it was.
 #[unsafe(no_mangle)]
 pub extern "C" fn suit_trim(alloc: Global, file: &[u8], room: &mut [u8], count: &mut u64) -> i32
     ensures answers { (result ≡ code_of answers.Done) ⊎ (result ≡ code_of answers.Refused)

@@ -1,4 +1,4 @@
--- Laws of what the bank of a record says.
+-- Laws of what the bytes in a record's bank start.
 use Rattle.std.specs.Prelude.{◌≡◌, ℕ, List}
 use Rattle.std.specs.List.{AllByRecursion}
 use Rattle.det_cbor.specs.DataItem.{IsByte}
@@ -12,15 +12,15 @@ use Rattle.invoke_proc.specs.declared.boot_end.BootEnd.{BootEnd}
 use Rattle.invoke_proc.specs.Starting.{IsDeclined, IsStarted}
 
 pub record BootLaws : Type 0 where
-  -- bytes have one cause to start nothing, at most
+  -- bytes are declined for at most one reason
   pub one : (layout : List Entry) (key bytes : List ℕ) (a b : BootEnd) → AllByRecursion IsByte bytes
       → IsDeclined layout key bytes a → IsDeclined layout key bytes b → a ≡ b
-  -- and none where they start a manifest
+  -- bytes that start a manifest are not declined
   pub none : (layout : List Entry) (key bytes : List ℕ) (said : EnvelopeSays) (manifest : Manifest)
       (end : BootEnd)
       → AllByRecursion IsByte bytes
       → IsStarted layout key bytes said manifest → IsDeclined layout key bytes end → ⊥
-  -- which is one
+  -- bytes start one manifest only
   pub same : (layout : List Entry) (key bytes : List ℕ) (said other : EnvelopeSays)
       (manifest next : Manifest)
       → AllByRecursion IsByte bytes

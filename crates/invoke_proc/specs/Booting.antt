@@ -1,4 +1,4 @@
--- A boot, by what the flash reads: what it starts, answers, launches and leaves.
+-- A boot by what the flash reads: what it starts, how it ends, what it launches and what it leaves.
 use Rattle.std.specs.Prelude.{◌≡◌, ◌⊎◌, ℕ, List, [], ◌++◌, Option, Some, None, map}
 use Rattle.std.specs.List.{AllByRecursion}
 use Rattle.suit_edge.specs.Flash.{Flash, Keeps}
@@ -34,7 +34,7 @@ use Rattle.invoke_proc.specs.Starting.{IsDeclined, IsStarted}
 
 -- ---- the start
 
--- each component of a manifest stands for the slot of it that is active
+-- each component of a manifest stands for its active slot
 pub record StandActive (layout : List Entry) (ids : List (List (List ℕ))) (active : List ℕ)
     (standings : List Standing) : Type 0 where
   pub places : Places
@@ -43,16 +43,16 @@ pub record StandActive (layout : List Entry) (ids : List (List (List ℕ))) (act
   pub chosen : AreInUse layout active slots.number
   pub stand : StandAs layout places slots standings
 
--- the flash has a record, whose bank starts a manifest
+-- the flash has this record, and the envelope in its bank starts this manifest
 pub record Starts (frame : Frame) (layout : List Entry) (key : Key) (reads : List ℕ) (r : Record)
     (manifest : Manifest) : Type 0 where
   pub recorded : record_in frame reads (Some r)
   pub said : EnvelopeSays
   pub started : IsStarted layout (key_bytes key) (bank_in frame reads r) said manifest
 
--- ---- answers
+-- ---- how a boot ends
 
--- before anything is started; or something is
+-- the end fits what the flash reads: it is the reason why nothing is started, or a manifest is started
 abbrev pub Answers : Frame → List Entry → Key → List ℕ → BootEnd → Type 0
 Answers frame layout key reads ends.NothingInstalled = record_in frame reads None
 Answers frame layout key reads (ends.BadBank refusal) =
@@ -74,8 +74,8 @@ Answers frame layout key reads ends.FlashFault = Unit {0}
 
 -- ---- the play
 
--- The invocation procedure of the manifest is played on the active slots, with working memory empty, no names of files,
--- and no payloads. It ends so, and leaves these contents and launches.
+-- The invocation procedure of the manifest is played on the active slots, with empty working memory, no files for URIs
+-- and no payloads. It ends like this, and leaves these contents and launches.
 pub record PlaysOn (layout : List Entry) (manifest : Manifest) (active : List ℕ)
     (files : List ℕ → Option (List ℕ)) (before after : List ℕ) (launched now : List Launch) (end : PlanEnd) : Type 0 where
   pub standings : List Standing
@@ -85,7 +85,7 @@ pub record PlaysOn (layout : List Entry) (manifest : Manifest) (active : List �
       (contents_of standings (empty_ram layout) before) (contents_of standings ram after) launched
       now
 
--- that of what the flash has
+-- the same for the record and the manifest that the flash has
 pub record PlaysBoot (frame : Frame) (layout : List Entry) (key : Key)
     (files : List ℕ → Option (List ℕ)) (before after : List ℕ) (launched now : List Launch) (end : PlanEnd)
     : Type 0 where
@@ -94,8 +94,9 @@ pub record PlaysBoot (frame : Frame) (layout : List Entry) (key : Key)
   pub starts : Starts frame layout key before installed manifest
   pub on : PlaysOn layout manifest installed.active files before after launched now end
 
--- The procedure was played and ended so; or nothing was launched. A fault of the flash that no command met came before
--- the procedure, and then the flash reads the same, or behind it: one that a directive met is told with its place.
+-- If the boot tells how the procedure ended, the procedure was played and ended like that; if not, nothing was
+-- launched. A fault that is told as one of the flash came before the procedure, and then the flash reads the same, or
+-- after it: one in a directive is told with the directive's place.
 abbrev pub PlayedSo : (PlanEnd → Type 0) → Type 0 → List Launch → List Launch → BootEnd → Type 0
 PlayedSo P Same launched now ends.Ended = P plays.Done
 PlayedSo P Same launched now (ends.Condition place) = P (plays.ConditionFailed place)
@@ -104,18 +105,18 @@ PlayedSo P Same launched now ends.FlashFault =
     ((now ≡ launched) × Same) ⊎ ((end : PlanEnd) × P end × IsUnfaulted end)
 PlayedSo P Same launched now _ = now ≡ launched
 
--- a procedure that has no names of files is not stopped by a fault of the host
+-- the procedure has no files for URIs, and so is not stopped by a fault of the host
 abbrev pub NeverHost : BootEnd → Type 0
 NeverHost (ends.Stopped place causes.HostFault) = ⊥
 NeverHost _ = Unit {0}
 
--- the answer of a procedure that ended so
+-- how a boot ends if its procedure ended like this
 abbrev pub end_of : PlanEnd → BootEnd
 end_of plays.Done = ends.Ended
 end_of (plays.ConditionFailed place) = ends.Condition place
 end_of (plays.DirectiveFailed place cause) = ends.Stopped place cause
 
--- each launch has its digest, and its size where one is in force
+-- launches were only added, and each of these has the digest that was in force, and the size if one was
 pub record GainsSafe (launched now : List Launch) : Type 0 where
   pub gained : List Launch
   pub added : now ≡ launched ++ gained
@@ -123,13 +124,14 @@ pub record GainsSafe (launched now : List Launch) : Type 0 where
 
 -- ---- what is left
 
--- nothing changed but slots that components stand for which the procedure may write
+-- nothing changed on the flash but slots of components that the procedure may write
 pub record KeepsOthers (layout : List Entry) (manifest : Manifest) (active : List ℕ)
     (old new : Flash) : Type 0 where
   pub standings : List Standing
   pub stand : StandActive layout manifest.components active standings
   pub keeps : Keeps (OutsideTargets (invocation_tree manifest) standings) old new
 
+-- the same for the record and the manifest that the flash has
 pub record KeepsBoot (frame : Frame) (layout : List Entry) (key : Key) (old new : Flash)
     : Type 0 where
   pub installed : Record
@@ -137,7 +139,7 @@ pub record KeepsBoot (frame : Frame) (layout : List Entry) (key : Key) (old new 
   pub starts : Starts frame layout key old.reads installed manifest
   pub others : KeepsOthers layout manifest installed.active old new
 
--- where the procedure was played, that was kept, and otherwise nothing changed
+-- what is kept holds if the procedure was played, and otherwise nothing changed
 abbrev pub KeptSo : Type 0 → Type 0 → BootEnd → Type 0
 KeptSo Kept Same ends.Ended = Kept
 KeptSo Kept Same (ends.Condition place) = Kept
@@ -145,7 +147,7 @@ KeptSo Kept Same (ends.Stopped place cause) = Kept
 KeptSo Kept Same ends.FlashFault = Same ⊎ Kept
 KeptSo Kept Same _ = Same
 
--- no fault of the flash
+-- the property holds, unless the flash failed
 abbrev pub IfUnfaulted : BootEnd → Type 0 → Type 0
 IfUnfaulted ends.FlashFault P = Unit {0}
 IfUnfaulted (ends.Stopped place causes.FlashFault) P = Unit {0}
@@ -153,7 +155,7 @@ IfUnfaulted _ P = P
 
 -- ---- inside
 
--- an end after something was started
+-- an end that may come once something was started
 abbrev pub IsStartEnd : BootEnd → Type 0
 IsStartEnd ends.NothingInstalled = ⊥
 IsStartEnd (ends.BadBank refusal) = ⊥
@@ -161,7 +163,7 @@ IsStartEnd (ends.NotAuthentic lacking) = ⊥
 IsStartEnd (ends.UnknownComponent component) = ⊥
 IsStartEnd _ = Unit {0}
 
--- a procedure that ended so is answered so, or the flash failed behind it
+-- the boot tells how the procedure ended, or the flash failed after it
 abbrev pub SettledSo : PlanEnd → BootEnd → ℕ → ℕ → Type 0
 SettledSo end answer before now =
     ((answer ≡ end_of end) × (now ≡ before))

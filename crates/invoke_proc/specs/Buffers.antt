@@ -4,11 +4,11 @@ use Rattle.flash_layout.specs.declared.frame.Frame.{Frame}
 use Rattle.flash_layout.specs.declared.layout.Entry.{Entry}
 use Rattle.flash_slots.specs.RamContents.{Held, empty_ram}
 
--- room for a bank of this frame, and contents in working memory
+-- room for the envelope in a bank of this frame, and for the contents in working memory
 pub record BootRoom : Type 0 where
   pub frame : Frame
   pub ram : List Held
 
--- that of a flash with this frame and layout
+-- the memory of a boot of a flash with this frame and layout
 abbrev pub boot_room : Frame → List Entry → BootRoom
 boot_room frame layout = record { frame = frame; ram = empty_ram layout }

@@ -1,5 +1,5 @@
--- The manifest that a record's bank starts, or why none, as admission judges its bytes (draft-ietf-suit-manifest-25, sections
--- 8.2 to 8.4).
+-- The manifest that the bytes in a record's bank start, or why they start none, as admission judges them
+-- (draft-ietf-suit-manifest-25, sections 8.2 to 8.4).
 use Rattle.std.specs.Prelude.{◌≡◌, ◌⊎◌, ℕ, List}
 use Rattle.suit_params.specs.declared.refusal.Refusal.{Refusal}
 use Rattle.suit_envelope.specs.declared.authenticity.Authenticity.{Authenticity}
@@ -19,38 +19,40 @@ use Rattle.invoke_proc.specs.declared.boot_end.Lacking.TheVariants as lacks
 
 -- ---- the start
 
--- an authentic manifest, whose components the layout has
+-- the bytes start this manifest: it is authentic, and the layout has its components
 abbrev pub IsStarted : List Entry → List ℕ → List ℕ → EnvelopeSays → Manifest → Type 0
 IsStarted layout key bytes said manifest =
     (places : Places) × IsStartable layout key bytes said manifest places
 
 -- ---- why nothing is started
 
--- the bytes spell no envelope, or one whose manifest is none
+-- the bytes are refused as an envelope, or its manifest is refused
 abbrev pub IsBad : List ℕ → Refusal → Type 0
 IsBad bytes r = SpellNone bytes r ⊎ SpellNoManifest bytes r
 
--- an answer without its values, where it is not `Yes`
+-- why an envelope is not authentic, without the values
 abbrev pub lacking_in : Authenticity → Lacking
 lacking_in (answers.DigestDiffers stated found) = lacks.DigestDiffers
 lacking_in (answers.MacDiffers expected found) = lacks.MacDiffers
 lacking_in _ = lacks.NoMac
 
+-- the envelope is not authentic under the key, for this reason
 abbrev pub IsUnauthentic : List ℕ → List ℕ → Lacking → Type 0
 IsUnauthentic key bytes lacking =
     (answer : Authenticity) × (lacking_in answer ≡ lacking) × IsStartUnauthentic key bytes answer
 
+-- the layout lacks this component of the manifest first
 abbrev pub IsUnknown : List Entry → List ℕ → List ℕ → ℕ → Type 0
 IsUnknown layout key bytes component = IsStartUnknown layout key bytes component
 
--- what is wrong first, in the order of the answers
+-- why the bytes start nothing: the first thing that is wrong
 abbrev pub IsDeclined : List Entry → List ℕ → List ℕ → BootEnd → Type 0
 IsDeclined layout key bytes (ends.BadBank r) = IsBad bytes r
 IsDeclined layout key bytes (ends.NotAuthentic lacking) = IsUnauthentic key bytes lacking
 IsDeclined layout key bytes (ends.UnknownComponent component) = IsUnknown layout key bytes component
 IsDeclined layout key bytes _ = ⊥
 
--- ---- the code's answer
+-- ---- what the code returns
 
 abbrev pub declined_as : NotStartable → BootEnd
 declined_as (refusals.NoEnvelope r) = ends.BadBank r

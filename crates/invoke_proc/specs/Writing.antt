@@ -1,5 +1,5 @@
--- Whether a directive that writes contents stands in a sequence, or in one inside it (draft-ietf-suit-manifest-25, section
--- 8.4.10).
+-- Sequences that hold a directive that writes contents, themselves or in a sequence inside them
+-- (draft-ietf-suit-manifest-25, section 8.4.10).
 use Rattle.std.specs.Prelude.{◌⊎◌}
 use Rattle.suit_commands.specs.Targets.{IsWriting}
 use Rattle.suit_commands.specs.Tree.{CommandTree, Test, Act, Index, Override, TryEach, RunSequence, SequenceTree, NoSteps, StepThen, BranchesTree, NoBranches, BranchThen, NullThen}

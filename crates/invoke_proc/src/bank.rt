@@ -13,14 +13,14 @@ use flash_layout::{FlashFault, Frame, Layout, Record, bank};
 use rollback_record::load_record_by;
 use suit_edge::{Disk, Edge};
 
-/// Why there is no envelope.
+/// Why no envelope was read.
 #[derive(Clone, Copy, Debug, PartialEq, Eq)]
 pub(crate) enum NoBank {
     NothingInstalled,
     FlashFault,
 }
 
-// Reads as much of a record's bank as the envelope takes.
+// Reads the envelope in the bank of a record, into a room of its length.
 fn read_into<D: Disk>(disk: &mut D, frame: Frame, installed: &Record, room: &mut [u8]) -> Edge
     requires frame { IsFrame (D.extent disk.old) frame }
     requires bank { installed.now.bank < 2 }
@@ -36,7 +36,7 @@ fn read_into<D: Disk>(disk: &mut D, frame: Frame, installed: &Record, room: &mut
     disk.read_at(bank(frame, u64::from(installed.bank)), room)
 }
 
-// Reads the envelope in the bank of a record, to the front of a room for a whole bank.
+// Reads the envelope in the bank of a record, into the front of a room for a whole bank.
 fn read_bank<D: Disk>(disk: &mut D, frame: Frame, installed: &Record, room: &mut [u8]) -> Edge
     requires frame { IsFrame (D.extent disk.old) frame }
     requires bank { installed.now.bank < 2 }
@@ -59,8 +59,8 @@ fn read_bank<D: Disk>(disk: &mut D, frame: Frame, installed: &Record, room: &mut
     )
 }
 
-/// Reads the record of a flash with this frame and layout, and its bank's envelope to the front of a room. Changes
-/// nothing on the flash, whatever it answers.
+/// Reads the record of a flash with this frame and layout, and the envelope in its bank into the front of the room,
+/// which has the length of a bank. Never changes the flash.
 pub(crate) fn find_bank<D: Disk>(
     disk: &mut D,
     frame: Frame,

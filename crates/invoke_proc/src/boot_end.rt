@@ -11,7 +11,7 @@ use suit_params::Refusal;
 /// Why an envelope is not authentic.
 #[derive(Clone, Copy, Debug, PartialEq, Eq)]
 pub enum Lacking {
-    /// The digest that the wrapper states is not that of the manifest.
+    /// The wrapper states another digest than that of the manifest.
     DigestDiffers,
     /// No block is a Mac0 block.
     NoMac,
@@ -19,31 +19,31 @@ pub enum Lacking {
     MacDiffers,
 }
 
-/// The outcome of a boot. Places are counted in bytes from the envelope's first.
+/// How a boot ended. Places are byte offsets in the envelope.
 #[derive(Clone, Copy, Debug, PartialEq, Eq)]
 pub enum BootEnd {
-    /// The invocation procedure of what is installed ran to its end.
+    /// The invocation procedure of the installed manifest ran to its end.
     Ended,
     /// The flash has no record.
     NothingInstalled,
-    /// The record's bank spells no envelope, or its manifest is none.
+    /// What the record's bank holds is refused as an envelope, or its manifest is refused.
     BadBank(Refusal),
-    /// The bank's envelope is not authentic under the key.
+    /// The envelope in the bank is not authentic under the key.
     NotAuthentic(Lacking),
     /// The layout lacks this component of the manifest, by its index there.
     UnknownComponent(u32),
     /// A condition failed at this place.
     Condition { place: u64 },
-    /// A directive failed at this place, or a fault came there.
+    /// A directive failed at this place, or a fault of the outside stopped it there.
     Stopped { place: u64, cause: Cause },
-    /// A call of the flash failed before the procedure, or the sync behind it, and its count of faults rose.
+    /// The flash failed before the procedure, or in the sync after it. Its count of faults rose.
     FlashFault,
 }
 
 impl<'a> From<Authenticity<'a>> for Lacking {
     ghost from_gives = { λ e r. r ≡ lacking_in e };
 
-    // Of a refused envelope, which is never `Yes`.
+    // The envelope was refused, so the answer is never `Yes`.
     fn from(answer: Authenticity<'a>) -> Lacking {
         match answer {
             Authenticity::DigestDiffers { .. } => Lacking::DigestDiffers,

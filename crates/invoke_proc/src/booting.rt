@@ -23,7 +23,7 @@ use step_machine::has_identifiers;
 use suit_edge::{Disk, Host, Launcher};
 use suit_manifest::{manifest_laws, procedure_laws};
 
-// The answer where no envelope is read.
+// How a boot ends if no envelope was read.
 fn without_bank(fault: NoBank) -> BootEnd
     ensures { result ≡ without_bank fault }
 {
@@ -33,7 +33,7 @@ fn without_bank(fault: NoBank) -> BootEnd
     }
 }
 
-// Starts what the flash has, whether it is sound or not.
+// Boots from the flash, whether it is sound or not.
 fn start_installed<H: Host, D: Disk, L: Launcher>(
     buffer: BootBuffer,
     host: &mut H,
@@ -85,13 +85,13 @@ fn start_installed<H: Host, D: Disk, L: Launcher>(
     start(host, disk, launcher, layout, &installed, startable, working)
 }
 
-/// Starts what is installed (draft-ietf-suit-manifest-25, section 6): the invocation procedure of the manifest in the
-/// bank of the flash's record, on the active slots, with working memory empty.
+/// Boots what is installed (draft-ietf-suit-manifest-25, section 6): runs the invocation procedure of the manifest in
+/// the bank of the flash's record, on the active slots and with empty working memory.
 ///
-/// The bank is judged first: the envelope and its manifest, whether the envelope is authentic under the key, and whether
-/// the layout has the manifest's components. The buffer is one that was made for the layout and the frame; no other memory is
-/// taken, so that it cannot run out. The layout, the frame and the key are those of the flash. Names of files are answered by none,
-/// so the host is not called.
+/// First judges the envelope in the bank, its manifest, whether it is authentic under the key, and whether the layout
+/// has the manifest's components. The layout, the frame and the key are those of the flash, and the buffer was made for
+/// this layout and frame. No other memory is taken, so that it cannot run out. No file answers a URI, so the host is
+/// never called.
 pub fn boot<H: Host, D: Disk, L: Launcher>(
     buffer: BootBuffer,
     host: &mut H,

@@ -9,7 +9,7 @@ use std::alloc::{AllocError, Global};
 use std::marker::Model;
 use step_machine::Uris;
 
-/// The frame of the flash, contents in working memory, and the files that answer URIs, of which there are none.
+/// The frame of the flash, the contents in working memory, and the files that answer URIs, of which there are none.
 #[derive(Drop)]
 pub(crate) struct Working {
     pub(crate) frame: Frame,
@@ -17,8 +17,8 @@ pub(crate) struct Working {
     pub(crate) uris: Uris,
 }
 
-/// All the memory of a boot of a flash with one frame and layout: room for the envelope of a bank, and for the contents in
-/// working memory. A boot uses it up. A contract sees the frame and those contents.
+/// All the memory that a boot takes, for one frame and layout: room for the envelope in a bank, and for the contents in
+/// working memory. A boot uses it up. Contracts see the frame and those contents.
 #[derive(Drop)]
 pub struct BootBuffer {
     pub(crate) bank: Vec<u8>,
@@ -39,7 +39,7 @@ impl Model for BootBuffer {
 }
 
 impl BootBuffer {
-    /// Takes the memory of a boot of a flash with this layout and frame.
+    /// Allocates the memory for a boot of a flash with this layout and frame.
     pub fn new(alloc: Global, layout: &Layout, frame: Frame) -> Result<BootBuffer, AllocError>
         ensures { IfOk result (λ buffer. buffer ≡ boot_room frame layout.now) }
     {

@@ -1,4 +1,4 @@
-//! The components of a manifest, each in the slot that is active.
+//! The components of a manifest in their active slots.
 
 ghost use Rattle.flash_layout.specs.Layouts.{IsLayout};
 ghost use Rattle.flash_layout.specs.Placement.{ArePlaces};
@@ -12,7 +12,8 @@ use flash_layout::{Frame, Layout, Record};
 use flash_slots::Ram;
 use step_machine::{SlotChoice, Uris, World, slots_in_use};
 
-/// The invocation procedure's world: each component of the manifest in its active slot, working memory empty, and no payloads.
+/// The world of the invocation procedure: each component of the manifest in its active slot, empty working memory, and
+/// no payloads.
 pub(crate) fn world_in<'a>(
     layout: &Layout,
     frame: Frame,

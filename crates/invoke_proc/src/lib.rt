@@ -1,4 +1,4 @@
-//! The invocation procedure of the installed manifest.
+//! Booting: the invocation procedure of the installed manifest.
 #![tactic(auto)]
 
 mod bank;

@@ -24,7 +24,7 @@ use path_model::Cause;
 use step_machine::{PlanEnd, Steps, run_plan};
 use suit_edge::{Disk, Edge, Host, Launcher};
 
-// The answer of a procedure that ended so.
+// How a boot ends if its procedure ended like this.
 fn end_of(end: PlanEnd) -> BootEnd
     ensures { result ≡ end_of end }
 {
@@ -35,7 +35,7 @@ fn end_of(end: PlanEnd) -> BootEnd
     }
 }
 
-// Syncs what a procedure wrote, unless it writes nothing or a fault of the flash ended it.
+// Syncs what a procedure wrote, unless it writes nothing or the flash failed in it.
 fn settle<D: Disk>(disk: &mut D, writes: bool, end: PlanEnd) -> BootEnd
     ensures read { ⟦<D as Steps>⟧.only_reads (SettledSo end result) disk.old disk.new }
     ensures settled { IsTrue D.told
@@ -57,8 +57,8 @@ fn settle<D: Disk>(disk: &mut D, writes: bool, end: PlanEnd) -> BootEnd
     }
 }
 
-/// Starts what was judged: runs the invocation procedure of the manifest on its active slots, with working memory empty. It
-/// has no payloads: those of the envelope in the bank are not fetched. Takes no memory.
+/// Runs the invocation procedure of a manifest that was judged, on its active slots and with empty working memory. It
+/// has no payloads: not even those of the envelope in the bank are fetched. Does not allocate.
 pub(crate) fn start<H: Host, D: Disk, L: Launcher>(
     host: &mut H,
     disk: &mut D,

@@ -19,7 +19,7 @@ fn is_writing(kind: ActKind) -> bool
     }
 }
 
-// Whether a directive that writes stands in the sequence, or in one inside it.
+// Whether the sequence, or one inside it, holds a directive that writes.
 #[cycle(writing)]
 fn has_writing(mut steps: LentSequence<'_>) -> bool
     ensures { IsTrue result ↔ HasWriting steps.entry }
@@ -71,7 +71,7 @@ fn part_has_writing(part: Option<LentSequence<'_>>) -> bool
     }
 }
 
-/// Whether a directive that writes contents stands in the procedure: a write, a fetch, a copy or a swap.
+/// Whether the procedure holds a directive that writes contents: a write, a fetch, a copy or a swap.
 pub(crate) fn may_write(program: Program<'_>) -> bool
     ensures { IsTrue result ↔ InSome (program_tree program.entry) HasWriting }
 {

@@ -1,4 +1,4 @@
-//! Members that may stand apart from their manifest.
+//! Members that may be severed from their manifest.
 
 ghost use Rattle.std.specs.Prelude.{◌≡◌, ◌<◌, ◌^◌, Option, option_map};
 ghost use Rattle.manifest_view.specs.Views.{member_of};
@@ -11,8 +11,8 @@ ghost use Rattle.suit_manifest.specs.Procedures.{member_tree};
 use manifest_view::MemberView;
 use suit_cursor::LentSequence;
 
-/// A member, wherever it stands: the manifest's own, or else the one whose content the envelope holds at this place, if it
-/// was taken from there before.
+/// Lends a member: the one in the manifest, or else the content that the envelope holds for it at this place, if it was
+/// taken from there.
 pub(crate) fn lend_member<'a>(
     member: MemberView<'a>,
     content: Option<&'a [u8]>,

@@ -14,9 +14,10 @@ use manifest_view::ManifestView;
 use step_machine::Program;
 use suit_envelope::Envelope;
 
-/// The update procedure of an envelope's manifest: payload-fetch, install and validate, each after the shared sequence. An
-/// absent member is an empty one, a member that the manifest holds is never taken from the envelope, and one that stands
-/// apart was found there before. Needs fewer than 2^32 components; a manifest of the grammar has at most eight.
+/// The update procedure of an envelope's manifest: payload-fetch, install and validate, each after the shared sequence.
+///
+/// An absent member counts as an empty one. A member that the manifest holds is never taken from the envelope, and a
+/// severed one was found there before. Needs fewer than 2^32 components; the grammar of a manifest allows eight.
 pub fn update_program<'a>(envelope: &Envelope<'a>, view: ManifestView<'a>) -> Program<'a>
     requires few { length view.components < 2 ^ 32 }
     requires ends { MembersEndBelow (2 ^ 64) (said_by envelope.now) }
@@ -38,8 +39,9 @@ pub fn update_program<'a>(envelope: &Envelope<'a>, view: ManifestView<'a>) -> Pr
     }
 }
 
-/// The invocation procedure of a manifest: validate, load and invoke, each behind the shared sequence. An absent member is
-/// an empty one. Needs fewer than 2^32 components; a manifest of the grammar has at most eight.
+/// The invocation procedure of a manifest: validate, load and invoke, each after the shared sequence.
+///
+/// An absent member counts as an empty one. Needs fewer than 2^32 components; the grammar of a manifest allows eight.
 pub fn invocation_program<'a>(view: ManifestView<'a>) -> Program<'a>
     requires { length view.components < 2 ^ 32 }
     ensures { program_tree result ≡ invocation_tree (manifest_of view.entry) }

@@ -1,4 +1,4 @@
--- Trees, events and endings that are the same places apart, case by case.
+-- Trees, events and endings that are the same but for places, case by case.
 use Rattle.std.proofs.Common.{◌≡◌, ℕ, Bool, List, [], ◌∷◌, ◌++◌, refl, ap}
 use Rattle.suit_params.specs.declared.param.Param.{Param}
 use Rattle.suit_commands.specs.declared.kinds.TestKind.{TestKind}

@@ -1,4 +1,4 @@
--- An item that says a manifest says it at each place, places apart.
+-- An item that says a manifest says it at each place, but for places.
 use Rattle.std.proofs.Common.{◌≡◌, ℕ, Bool, true, false, List, [], ◌∷◌, length, Option, Some, None, refl, ap, subst}
 use Rattle.det_cbor.specs.DataItem.{DataItem, DataPairs}
 use Rattle.suit_params.specs.declared.digest.Digest.{Digest}

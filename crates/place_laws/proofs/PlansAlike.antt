@@ -1,4 +1,4 @@
--- Procedures that are the same places apart have the same paths, places apart, and are safe alike.
+-- Procedures that are the same but for places have the same paths but for places, and both are safe or neither.
 use Rattle.std.proofs.Common.{◌≡◌, ℕ, List, ◌++◌, length, Option, Some, None, refl, sym, ap, subst, ◌∙◌}
 use Rattle.path_model.specs.declared.identity.Identity.{Identity}
 use Rattle.path_model.specs.declared.bad_path.BadPath.{BadPath}

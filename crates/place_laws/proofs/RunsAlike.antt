@@ -1,4 +1,4 @@
--- Sequences that are the same places apart run alike.
+-- Sequences that are the same but for places run alike.
 use Rattle.std.proofs.Common.{ℕ, true, false, List, [], ◌∷◌, ◌++◌, refl, subst, inl, inr}
 use Rattle.path_model.specs.declared.identity.Identity.{Identity}
 use Rattle.path_model.specs.Behaviour.{State, Ending, Done, Condition, Behaviour, Then, Each}

@@ -1,4 +1,4 @@
--- An item that says a sequence says it at each place, places apart.
+-- An item that says a sequence says it at each place, but for places.
 use Rattle.std.proofs.Common.{◌≡◌, ℕ, zero, suc, Bool, List, refl, ap}
 use Rattle.det_cbor.specs.DataItem.{DataItem, DataItems, UnsignedInteger, ByteString}
 use Rattle.suit_params.specs.Refusing.{content_place}

@@ -1,4 +1,4 @@
--- A judgement of a manifest where it stands in an envelope holds of it in the trimmed envelope.
+-- What is judged of a manifest at its place in an envelope holds of it in the trimmed envelope.
 use Rattle.std.specs.Prelude.{◌≡◌, ◌≤◌, ℕ, List}
 use Rattle.suit_params.specs.Refusing.{SaysWhole}
 use Rattle.suit_commands.specs.Numbers.{width_number}
@@ -16,8 +16,8 @@ use Rattle.flash_layout.specs.declared.layout.Entry.{Entry}
 use Rattle.flash_layout.specs.declared.slot.Record.{Record}
 use Rattle.rollback_record.specs.SoundFlash.{HasEach, IsInstalled, key_bytes, widest}
 
--- A manifest at some place, and its wrapper: authentic under the key, and judged as what is installed has to be. The record
--- has the manifest's number, and the digest that the wrapper states.
+-- A wrapper and a manifest at some place that are authentic under the key, and judged as what is installed has to be.
+-- The record has the manifest's sequence number, and the digest that the wrapper states.
 pub record IsAccepted (layout : List Entry) (key : Key) (wrapper manifest : List ℕ) (r : Record) : Type 0 where
   pub place : ℕ
   pub said : Manifest
@@ -29,7 +29,7 @@ pub record IsAccepted (layout : List Entry) (key : Key) (wrapper manifest : List
   pub safe : Safe (invocation_tree said)
   pub narrow : width_number (invocation_tree said) ≤ widest
 
--- of the wrapper and the manifest of an envelope
+-- if the wrapper and the manifest of an envelope are accepted, the trimmed envelope is one that is installed
 abbrev pub InstalledAnywhere : Type 0
 InstalledAnywhere =
     (layout : List Entry) (key : Key) (file : List ℕ) (envelope : EnvelopeSays) (r : Record)

@@ -1,4 +1,4 @@
--- Procedures that are equal places apart are judged alike.
+-- Procedures that differ only in their places are judged alike.
 use Rattle.std.specs.Prelude.{◌≡◌}
 use Rattle.suit_commands.specs.Tree.{PlanTree}
 use Rattle.suit_commands.specs.Allowed.{IsPlan}
@@ -10,14 +10,15 @@ use Rattle.path_model.specs.BadPaths.{IsBadPath}
 use Rattle.path_model.specs.Safe.{Safe}
 use Rattle.place_laws.specs.PlacesApart.{SameEvents, SameManifest, SamePlan}
 
--- so are the invocation procedures of manifests that are equal places apart
+-- if manifests differ only in their places, so do their invocation procedures
 abbrev pub ProcedureMoves : Type 0
 ProcedureMoves = (m n : Manifest) → SameManifest m n → SamePlan (invocation_tree m) (invocation_tree n)
 
+-- of procedures that differ only in their places, both are safe or neither is
 abbrev pub SafeMoves : Type 0
 SafeMoves = (a b : PlanTree) → SamePlan a b → Safe a → Safe b
 
--- a path that shows that one is not safe shows it of the other, with other places of what failed
+-- a path that shows that one procedure is not safe shows it of the other, but for the places of what failed
 abbrev pub BadPathMoves : Type 0
 BadPathMoves =
     (a b : PlanTree) (bad : BadPath) → SamePlan a b → IsBadPath a bad
@@ -28,8 +29,10 @@ pub record HaveSameNumbers (a b : PlanTree) : Type 0 where
   pub spread : spread_number a ≡ spread_number b
   pub width : width_number a ≡ width_number b
 
+-- procedures that differ only in their places have the same width
 abbrev pub NumbersMove : Type 0
 NumbersMove = (a b : PlanTree) → SamePlan a b → HaveSameNumbers a b
 
+-- of procedures that differ only in their places, the grammar allows both or neither
 abbrev pub GrammarMoves : Type 0
 GrammarMoves = (a b : PlanTree) → SamePlan a b → IsPlan a → IsPlan b

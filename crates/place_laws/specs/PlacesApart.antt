@@ -1,4 +1,4 @@
--- Equality places apart: of manifests, procedures and events. Places are those of commands in the envelope.
+-- Manifests, procedures and events that are the same but for places. Places are those of commands in the envelope.
 use Rattle.std.specs.Prelude.{◌≡◌, List, [], ◌∷◌}
 use Rattle.suit_commands.specs.Tree.{PlanTree}
 use Rattle.suit_commands.specs.SequenceMaking.{unplaced}
@@ -12,7 +12,7 @@ SameManifest m n = unplaced_manifest m ≡ unplaced_manifest n
 
 -- ---- procedures
 
--- each place is 0
+-- the procedure with 0 for each place
 abbrev pub unplaced_plan : PlanTree → PlanTree
 unplaced_plan plan = record {
   shared = unplaced plan.shared;

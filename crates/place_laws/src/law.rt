@@ -1,4 +1,4 @@
-//! Where the places of commands matter, and where they do not. The calls here do nothing: their contracts are the laws.
+//! Laws on the places of commands: where these matter, and where they do not.
 
 ghost use Rattle.place_laws.specs.Moving.{ManifestMoves, WholeMoves};
 ghost use Rattle.place_laws.specs.Judging.{ProcedureMoves, SafeMoves, BadPathMoves, NumbersMove, GrammarMoves};
@@ -6,9 +6,10 @@ ghost use Rattle.place_laws.specs.Installing.{InstalledAnywhere};
 
 use suit_envelope::envelope_laws;
 
-/// An item that says a manifest at one place says it at each other place, with other places of its commands and nothing
-/// else changed (`moved`, `whole`). Procedures that are equal places apart are both safe or neither, have bad paths
-/// alike, are of one width, and the grammar allows both or neither.
+/// Does nothing. Its contract has the laws: if an item says a manifest at one place, it says the same one at each other
+/// place, but for the places of its commands (`moved`, `whole`). Procedures that differ only in their places are both
+/// safe or neither, have bad paths that differ only in places, have the same width, and the grammar allows both or
+/// neither.
 pub fn place_laws()
     ensures moved { ManifestMoves }
     ensures whole { WholeMoves }
@@ -19,8 +20,8 @@ pub fn place_laws()
     ensures grammar { GrammarMoves }
 {}
 
-/// A manifest that was judged where it stands in an envelope may be recorded with the trimmed envelope, where it stands
-/// elsewhere.
+/// Does nothing. Its contract has the law: a manifest that was judged at its place in an envelope may be recorded with
+/// the trimmed envelope, where it is at another place.
 pub fn installation_laws()
     ensures { InstalledAnywhere }
 {

@@ -1,4 +1,4 @@
--- A command whose words stand in bytes.
+-- Commands whose words are in bytes.
 use Rattle.port_c.specs.Words.{AreWords}
 use Rattle.std.specs.Prelude.{◌≡◌, ℕ, ℤ, List, pos}
 use Rattle.suit_cli.specs.Launching.{Launching}
@@ -21,8 +21,8 @@ pub record HasRun (bytes : List ℕ) (before after : World) (status : ℕ) : Typ
   pub are_words : AreWords bytes words
   pub runs : Runs words before after status
 
--- What was at the port's other end before and after, as far as it is told: counts of faults alone. The program was run there with
--- the words in the bytes, and this is its status.
+-- The program was run with the words in the bytes at the other end of the port, and this is its status. What was there
+-- before and after is told by counts of faults alone.
 pub record HasRunThere (bytes : List ℕ) (result : ℤ) : Type 0 where
   pub outside : Outside
   pub launcher : Launching

@@ -11,7 +11,7 @@ use suit_cli::{SeenDisk, SeenHost, SeenLauncher, SeenSink, Status, run};
 use suit_edge::{Disk, Host, Launcher, Sink};
 use suit_port::{PortDisk, PortHost, PortLauncher, PortSink};
 
-// Runs the command whose words stand in the bytes.
+// Runs the command whose words are in the bytes.
 fn command<H: Host, D: Disk, L: Launcher, K: Sink>(
     alloc: Global,
     bytes: &[u8],
@@ -35,9 +35,11 @@ fn command<H: Host, D: Disk, L: Launcher, K: Sink>(
     Ok(run(alloc, &words, host, flash, launcher, out))
 }
 
-/// Runs a command of the program `suit` over the port with this number: the bytes are its words with zeros between them, such
-/// as `run`, `update`, `e.suit`, and the flash has so many bytes. Answers the status of the program: 8 where the flash is of
-/// fewer than 49,152 bytes, and 11 where memory runs out for the words; then no message is sent.
+/// Runs a command of the program `suit` over the port with this number.
+///
+/// `words` has the words of the command with zeros between them, such as `run`, `update` and `e.suit`, and `flash_size`
+/// is the size of the flash in bytes. Returns the status of the program, or 8 if the flash has fewer than 49,152 bytes,
+/// or 11 if memory runs out for the words; in these two cases no message is sent.
 #[unsafe(no_mangle)]
 pub extern "C" fn suit_command(alloc: Global, words: &[u8], port: i32, flash_size: u64) -> i32
     ensures small { flash_size < HEAD_SIZE → result ≡ pos 8 }

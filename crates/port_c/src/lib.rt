@@ -1,4 +1,4 @@
-//! The program for callers in C: a command is run over an outside behind a port.
+//! The program for callers in C, which runs a command over an outside behind a port.
 #![tactic(auto)]
 
 mod command;

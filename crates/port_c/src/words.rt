@@ -8,14 +8,14 @@ use det_cbor::{Names, Text};
 use std::alloc::{AllocError, Global};
 use std::str;
 
-// The parts of a text that zeros part.
+// Splits a text at zeros.
 fn parts(alloc: Global, text: &str) -> Result<Vec<&str>, AllocError>
     ensures { IfOk result (λ v. map (λ x. x.now) v.items ≡ slice_split (λ b. b == 0) text.now) }
 {
     text.split('\0').collect(alloc)
 }
 
-/// The words in bytes, where zeros stand between them. Bytes that are not UTF-8 are one word, `-`, which no command takes.
+/// Splits bytes into words at zeros. Bytes that are not UTF-8 become the one word `-`, which no command takes.
 pub(crate) fn words_of(alloc: Global, bytes: &[u8]) -> Result<Names, AllocError>
     ensures { IfOk result (AreWords bytes.now) }
 {

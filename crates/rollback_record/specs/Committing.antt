@@ -1,4 +1,4 @@
--- The effect of a commit on the flash.
+-- What a commit does to the flash.
 use Rattle.std.specs.Prelude.{◌≡◌, ◌⊎◌, ◌<◌, ◌+◌, ◌-◌, ℕ, List, slice_index, Option, Some, None}
 use Rattle.suit_edge.specs.Flash.{Flash, Keeps}
 use Rattle.suit_edge.specs.Gate.{IsGate}
@@ -12,12 +12,12 @@ use Rattle.rollback_record.specs.declared.spare.Spare.{Spare}
 use Rattle.rollback_record.specs.HeadRecord.{Counts, RecordOf}
 use Rattle.rollback_record.specs.RecordPage.{record_length}
 
--- the places of the head: the first bytes of the flash, which tell its frame, and those of the frame. In version 1 they
--- are the same.
+-- the place is in the head: in the first bytes of the flash, which tell the frame, or in the head of that frame; in
+-- version 1 these are the same
 abbrev pub InHead : Frame → ℕ → Type 0
 InHead frame i = Within 0 HEAD_SIZE i ⊎ Within frame.base (head_size frame) i
 
--- a record's generation is one above the one before it, and the first one's is 1
+-- the generation of a record is one above that of the record before, and 1 for the first record
 abbrev pub IsNext : Option Record → Record → Type 0
 IsNext None new = new.generation ≡ 1
 IsNext (Some r) new = new.generation ≡ r.generation + 1
@@ -27,18 +27,19 @@ abbrev pub HasHeldOrNew : Frame → Option Record → Record → List ℕ → Ty
 HasHeldOrNew frame held new image =
     RecordOf frame (head_of frame image) held ⊎ RecordOf frame (head_of frame image) (Some new)
 
--- the record page that is free to be written: the first where there is no record, else the one that does not hold it
+-- the record page that may be written: the first one if there is no record, and else the one that does not hold the
+-- record
 abbrev pub IsSpare : Frame → List ℕ → Option Record → ℕ → Type 0
 IsSpare frame head None which = which ≡ 0
 IsSpare frame head (Some r) which = (which < 2) × Counts frame head (1 - which) r
 
--- beside this record that page is free to be written, and its gate reads so
+-- that page may be written next to this record, and its gate reads like this
 pub record HasSpare (frame : Frame) (head : List ℕ) (held : Option Record) (spare : Spare)
     : Type 0 where
   pub free : IsSpare frame head held spare.which
   pub gate : IsGate spare.gate (slice_index head (record_from frame spare.which))
 
--- the head has this record, and that page beside it
+-- the head has this record, and that page may be written next to it
 pub record HasPages (frame : Frame) (head : List ℕ) (pages : RecordPages) : Type 0 where
   pub held : RecordOf frame head pages.held
   pub spare : HasSpare frame head pages.held pages.spare

@@ -1,5 +1,5 @@
--- Reading a bank that holds an installed envelope: it gives the envelope and the manifest that it was judged to hold,
--- and no refusal.
+-- Reading a bank that holds an installed envelope: it has the envelope and the manifest that were judged, and nothing
+-- of it is refused.
 use Rattle.std.specs.Prelude.{◌≡◌, ℕ, List}
 use Rattle.suit_params.specs.declared.refusal.Refusal.{Refusal}
 use Rattle.suit_params.specs.Refusing.{RefusesWhole, SaysWhole}
@@ -14,14 +14,14 @@ use Rattle.flash_layout.specs.declared.slot.Record.{Record}
 use Rattle.flash_layout.specs.Placement.{IsFirstUnknown}
 use Rattle.rollback_record.specs.SoundFlash.{IsInstalled}
 
--- of bytes that are installed
+-- the bytes of an installed envelope are read as what was installed
 pub record AreReadAsInstalled (layout : List Entry) (key : Key) (bytes : List ℕ) (r : Record)
     (is : IsInstalled layout key bytes r) : Type 0 where
-  -- their envelope says the two parts
+  -- their envelope has the installed wrapper and manifest
   pub envelope : (said : EnvelopeSays) → EnvelopeOf bytes said
       → said ≡ trimmed_says is.wrapper is.manifest
   pub refused : (e : Refusal) → RefusesBytes bytes e → ⊥
-  -- and its manifest that manifest
+  -- their manifest is the installed one
   pub manifest : (m : Manifest)
       → SaysWhole IsManifest (trimmed_says is.wrapper is.manifest).manifest_place is.manifest m
       → m ≡ is.said
@@ -29,7 +29,7 @@ pub record AreReadAsInstalled (layout : List Entry) (key : Key) (bytes : List �
       → RefusesWhole RefusesManifest (trimmed_says is.wrapper is.manifest).manifest_place
       is.manifest e
       → ⊥
-  -- whose components the layout has
+  -- the layout has all components of that manifest
   pub known : (component : ℕ) → IsFirstUnknown layout is.said.components component → ⊥
 
 abbrev pub InstalledLaw : Type 0

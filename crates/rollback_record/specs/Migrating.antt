@@ -1,4 +1,4 @@
--- Migration: a flash of layout version 1 becomes one of version 2, and tells the same.
+-- Migration: a flash of layout version 1 becomes one of version 2, and holds the same.
 use Rattle.std.specs.Prelude.{◌≡◌, ℕ, List, All, length, Some, None}
 use Rattle.suit_edge.specs.Faults.{Faulted}
 use Rattle.suit_edge.specs.Flash.{Flash}
@@ -20,9 +20,9 @@ use Rattle.rollback_record.specs.declared.migrating.Migrated.TheVariants as migr
 use Rattle.rollback_record.specs.HeadRecord.{RecordOf}
 use Rattle.rollback_record.specs.SoundFlash.{Settled, recorded_bank}
 
--- ---- what two images tell, each by its own frame
+-- ---- what two images hold, each by its own frame
 
--- the same record, whatever bank it tells
+-- both records are the same but for the bank
 pub record IsSameRecord (r s : Record) : Type 0 where
   pub generation : s.generation ≡ r.generation
   pub sequence : s.sequence ≡ r.sequence
@@ -30,7 +30,7 @@ pub record IsSameRecord (r s : Record) : Type 0 where
   pub digest : s.digest ≡ r.digest
   pub active : s.active ≡ r.active
 
--- neither head has a record, or both have the same, with the same bytes in the bank that each tells
+-- neither head has a record, or both have the same one, with the same bytes in their banks
 pub data HoldsAlike (frame : Frame) (head : List ℕ) (there : Frame) (other : List ℕ) : Type 0 where
   NoRecord : RecordOf frame head None → RecordOf there other None
       → HoldsAlike frame head there other
@@ -51,13 +51,14 @@ pub record IsSameInstallation (image other : List ℕ) : Type 0 where
 
 -- ---- a migrated flash
 
--- it has version 2 with that base, tells what it told, and neither a journal nor a checkpoint is begun
+-- the image has version 2 with that base and holds what the one before held, and neither a journal nor a checkpoint is
+-- begun
 pub record IsMigrated (base : ℕ) (before image : List ℕ) : Type 0 where
   pub alike : IsSameInstallation before image
   pub told : frame_told image ≡ Some (second_frame base)
   pub no_work : HasNoWork (second_frame base) image
 
--- a settled flash with a configuration
+-- the flash is settled, and has a configuration
 pub record IsReady (f : Flash) : Type 0 where
   pub settled : Settled f
   pub layout : List Entry
@@ -65,18 +66,19 @@ pub record IsReady (f : Flash) : Type 0 where
   pub frame : Frame
   pub config : ConfigOf (length f.reads) f.reads (Configured layout key frame)
 
--- all places but those that migration writes: what stands at the base, and the root
+-- the place is outside what belongs at the base, and outside the root
 abbrev pub OutsideMigration : ℕ → ℕ → Type 0
 OutsideMigration base i =
     Outside base (frame_size (second_frame base)) i × Outside ROOT_GATE ROOT_BYTES i
 
--- ---- by the answer
+-- ---- by the end of the migration
 
+-- the count of faults rose if the flash failed, and stayed the same if not
 abbrev pub MigrateCounts : Migrated → ℕ → ℕ → Type 0
 MigrateCounts migrated.FlashFault before now = Faulted before now
 MigrateCounts _ before now = now ≡ before
 
--- the flash has version 1 with a layout of which this holds
+-- the flash has version 1, with a layout of which P holds
 pub record HasFirst (size : ℕ) (image : List ℕ) (P : List Entry → Type 0) : Type 0 where
   pub layout : List Entry
   pub key : Key
@@ -91,7 +93,7 @@ pub record HasSecond (size : ℕ) (image : List ℕ) : Type 0 where
   pub config : ConfigOf size image (Configured layout key frame)
   pub version : frame.version ≡ 2
 
--- as the image says, unless there was a fault or memory ran out
+-- the end is the one that the image asks for, unless the flash failed or memory ran out
 abbrev pub MigratesExactly : ℕ → ℕ → List ℕ → Migrated → Type 0
 MigratesExactly base size image (migrated.Done frame) =
     (frame ≡ second_frame base) × HasFirst size image (IsBaseHeld (second_frame base) size)
@@ -106,11 +108,12 @@ MigratesExactly base size image (migrated.BaseOverlap i) =
 MigratesExactly base size image migrated.FlashFault = Unit {0}
 MigratesExactly base size image migrated.NoMemory = Unit {0}
 
+-- the property holds, if the flash was migrated
 abbrev pub IfMigrated : Migrated → Type 0 → Type 0
 IfMigrated (migrated.Done _) P = P
 IfMigrated _ P = Unit {0}
 
--- where it is neither done nor failed
+-- the property holds, unless the migration is done or the flash failed
 abbrev pub IfLeft : Migrated → Type 0 → Type 0
 IfLeft (migrated.Done _) P = Unit {0}
 IfLeft migrated.FlashFault P = Unit {0}

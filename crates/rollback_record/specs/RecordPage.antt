@@ -1,5 +1,6 @@
--- A record page of the flash: a gate, and a record behind it. All numbers are big-endian. In memory a record has an active
--- slot for each of 32 components; its page bears those of as many as a layout of the flash may have, and all others are 0.
+-- A record page of the flash: a gate, and a record after it. All numbers are big-endian. In memory a record has a slot
+-- in use for each of 32 components; its page has those of as many as a layout of the flash may have, and all others are
+-- 0.
 use Rattle.std.specs.Prelude.{◌≡◌, ◌↔◌, ◌⊎◌, ◌<◌, ◌≤◌, ◌+◌, ◌*◌, ◌^◌, ℕ, List, ◌∷◌, ◌++◌, Option, option_map, drop, length, slice_index, slice_range, take}
 use Rattle.suit_params.specs.declared.digest.Digest.{Digest}
 use Rattle.suit_params.specs.DigestBytes.{digest_bytes, digest_by, IsLong}
@@ -12,24 +13,24 @@ use Rattle.flash_layout.specs.ConfigPage.{number_bytes, padded}
 use Rattle.flash_layout.specs.PageReading.{number_at}
 use Rattle.flash_layout.specs.Frames.{bank_size, most}
 
--- how many of its bytes are read
+-- how many bytes of the page are read
 abbrev pub record_length : Frame → ℕ
 record_length frame = 91 + most frame
 
 -- ---- fields
 
--- The component of that index has a second slot, by the bytes of the configuration page: its fourth byte counts the
--- components, and the second byte of each of them its slots.
+-- The component with that index has a second slot by the bytes of the configuration page, whose fourth byte is the
+-- number of components and has for each of them its number of slots as the second byte.
 abbrev pub HasSecondSlot : List ℕ → ℕ → Type 0
 HasSecondSlot config i =
     (i < slice_index config 3) × (slice_index config (ENTRY_SIZE * i + (FRONT_SIZE + 1)) ≡ 2)
 
--- slot 0, or slot 1 of a component that has one
+-- the slot in use is 0, or it is 1 and the component has a second slot
 abbrev pub IsActiveSlot : Frame → List ℕ → ℕ → ℕ → Type 0
 IsActiveSlot frame config i slot =
     (slot ≡ 0) ⊎ ((slot ≡ 1) × (i < most frame) × HasSecondSlot config i)
 
--- fields of the lengths and ranges of their types
+-- the fields have the lengths and ranges of their types
 pub record IsTypedRecord (r : Record) : Type 0 where
   pub generation : r.generation < 2 ^ 64
   pub sequence : r.sequence < 2 ^ 64
@@ -37,7 +38,7 @@ pub record IsTypedRecord (r : Record) : Type 0 where
   pub digest : IsLong r.digest
   pub active : length r.active ≡ 32
 
--- fields in range, on a flash with that configuration page
+-- the fields are in range, on a flash with that configuration page
 pub record IsInRange (frame : Frame) (config : List ℕ) (r : Record) : Type 0 where
   pub bank : r.bank < 2
   pub size : r.length ≤ bank_size frame
@@ -45,22 +46,24 @@ pub record IsInRange (frame : Frame) (config : List ℕ) (r : Record) : Type 0 w
 
 -- ---- bytes
 
+-- the generation and the sequence number
 abbrev pub numbers_field : Record → List ℕ
 numbers_field r = number_bytes r.generation ++ number_bytes r.sequence
 
+-- the bank, and the length of the envelope
 abbrev pub bank_field : Record → List ℕ
 bank_field r = r.bank ∷ number_bytes r.length
 
--- the digest's length, and the digest with zeros after it
+-- the digest's length, and the digest padded with zeros
 abbrev pub digest_field : Digest → List ℕ
 digest_field digest = length (digest_bytes digest) ∷ padded 64 (digest_bytes digest)
 
--- the bytes behind the gate
+-- the bytes after the gate
 unfoldable pub record_body : Frame → Record → List ℕ
 record_body frame r =
     numbers_field r ++ (bank_field r ++ (digest_field r.digest ++ take (most frame) r.active))
 
--- The page counts, and holds the record: its gate is open, and the fields are in range.
+-- The page is valid, and holds this record: its gate is open, and the fields are in range.
 pub record IsRecordPage (frame : Frame) (config page : List ℕ) (r : Record) : Type 0 where
   pub typed : IsTypedRecord r
   pub fields : IsInRange frame config r
@@ -68,23 +71,23 @@ pub record IsRecordPage (frame : Frame) (config page : List ℕ) (r : Record) : 
 
 -- ---- by how many slots each component has
 
--- slot 0, or slot 1 of a component with two
+-- the slot in use is 0, or it is 1 and the component has two slots
 abbrev pub HasSlot : Frame → List ℕ → ℕ → ℕ → Type 0
 HasSlot frame slots i slot =
     (slot ≡ 0) ⊎ ((slot ≡ 1) × (i < most frame) × (slice_index slots i ≡ 2))
 
--- of the components of that configuration page those have a second slot that have two by this list
+-- by this list, just those components have two slots that have a second one on the configuration page
 abbrev pub CountSlots : Frame → List ℕ → List ℕ → Type 0
 CountSlots frame config slots =
     (i : ℕ) → i < most frame → (slice_index slots i ≡ 2) ↔ HasSecondSlot config i
 
--- fields in range, where components have so many slots
+-- the fields are in range, by how many slots each component has
 pub record FitsSlots (frame : Frame) (slots : List ℕ) (r : Record) : Type 0 where
   pub bank : r.bank < 2
   pub size : r.length ≤ bank_size frame
   pub active : (i : ℕ) → i < 32 → HasSlot frame slots i (slice_index r.active i)
 
--- and the page counts
+-- the page is valid, by how many slots each component has
 pub record IsPageBeside (frame : Frame) (slots page : List ℕ) (r : Record) : Type 0 where
   pub typed : IsTypedRecord r
   pub fields : FitsSlots frame slots r
@@ -92,7 +95,7 @@ pub record IsPageBeside (frame : Frame) (slots page : List ℕ) (r : Record) : T
 
 -- ---- reading
 
--- the digest behind its length, where that is the length of one
+-- the digest after its length, if that is the length of a digest
 abbrev pub digest_at : List ℕ → Option Digest
 digest_at page =
     option_map (λ kind. digest_by kind (slice_range page 27 (27 + size_of kind)))
@@ -109,5 +112,6 @@ fields_with page digest = record {
   active = padded 32 (drop 91 page);
 }
 
+-- the fields at their places, without a judgement
 abbrev pub fields_at : List ℕ → Option Record
 fields_at page = option_map (fields_with page) (digest_at page)

@@ -1,4 +1,4 @@
--- Where the fields of a record page stand, by their places in it. All numbers are big-endian.
+-- The places of the fields on a record page. All numbers are big-endian.
 use Rattle.std.specs.Prelude.{◌≡◌, ◌+◌, ◌-◌, ℕ, List, drop, length, replicate, slice_index, slice_range, take}
 use Rattle.suit_params.specs.DigestBytes.{digest_bytes, digest_kind}
 use Rattle.suit_params.specs.DigestKinds.{size_of}
@@ -8,6 +8,7 @@ use Rattle.flash_layout.specs.Frames.{most}
 use Rattle.flash_layout.specs.PagePlaces.{IsNumberField}
 use Rattle.rollback_record.specs.RecordPage.{IsRecordPage, record_length}
 
+-- the page has the fields of the record at these places
 pub record HasRecordPlaces (frame : Frame) (r : Record) (page : List ℕ) : Type 0 where
   pub long : length page ≡ record_length frame
   pub gate : slice_index page 0 ≡ 0xA5
@@ -22,7 +23,7 @@ pub record HasRecordPlaces (frame : Frame) (r : Record) (page : List ℕ) : Type
   pub active : slice_range page 91 (record_length frame) ≡ take (most frame) r.active
   pub unborne : drop (most frame) r.active ≡ replicate (32 - most frame) 0
 
--- each record page has its fields there
+-- each record page has its fields at these places
 abbrev pub RecordPlaces : Type 0
 RecordPlaces =
     (frame : Frame) (config page : List ℕ) (r : Record) → IsRecordPage frame config page r

@@ -1,5 +1,5 @@
--- A sound flash: whatever it would start is authentic, and was judged safe. Each word speaks of the head's bytes, and of
--- the contents of slots; the image tells by which frame.
+-- Sound flashes: whatever a sound flash would start is authentic, and was judged safe. Definitions speak of the bytes
+-- of the head and of the contents of slots; the image tells by which frame.
 use Rattle.std.specs.Prelude.{◌≡◌, ◌≤◌, ◌+◌, ℕ, List, length, slice_range, take, Some, None, All}
 use Rattle.std.specs.List.{AllByRecursion}
 use Rattle.det_cbor.specs.DataItem.{IsByte}
@@ -27,6 +27,7 @@ use Rattle.rollback_record.specs.HeadRecord.{RecordOf}
 
 -- ---- the installed envelope
 
+-- the bytes of the key
 abbrev pub key_bytes : Key → List ℕ
 key_bytes key = take key.length key.bytes
 
@@ -34,12 +35,12 @@ key_bytes key = take key.length key.bytes
 abbrev pub widest : ℕ
 widest = 4194304
 
--- the layout has each of the components
+-- the layout has each of these components
 abbrev pub HasEach : List Entry → List (List (List ℕ)) → Type 0
 HasEach layout ids = All (λ id. (i : ℕ) × HasPlace layout id i) ids
 
--- The bytes are a trimmed envelope, authentic under the key. The record is that of its manifest, whose components the
--- layout has, and whose invocation is judged safe.
+-- The bytes are a trimmed envelope that is authentic under the key. The record is that of its manifest, the layout has
+-- the manifest's components, and its invocation procedure is safe and narrow enough to be judged.
 pub record IsInstalled (layout : List Entry) (key : Key) (bytes : List ℕ) (r : Record)
     : Type 0 where
   pub wrapper : List ℕ
@@ -58,11 +59,11 @@ pub record IsInstalled (layout : List Entry) (key : Key) (bytes : List ℕ) (r :
 
 -- ---- a sound image
 
--- the bank of the record, as far as the envelope goes
+-- the bytes of the envelope in the bank of the record
 abbrev pub recorded_bank : Frame → List ℕ → Record → List ℕ
 recorded_bank frame head r = bank_of frame head r.bank r.length
 
--- it is blank; or it has a layout and a key, and by their frame no record, or that of what its bank holds
+-- the image is blank; or it has a layout and a key, and either no record, or one whose bank holds an installed envelope
 pub data Sound (image : List ℕ) : Type 0 where
   SoundBlank : ConfigOf (length image) image Blank → Sound image
   SoundEmpty : (layout : List Entry) (key : Key) (frame : Frame)
@@ -75,13 +76,13 @@ pub data Sound (image : List ℕ) : Type 0 where
 
 -- ---- a settled flash
 
--- the bytes of the work area, which version 1 lacks
+-- the bytes of the work area, which version 1 does not have
 abbrev pub area_of : Frame → List ℕ → List ℕ
 area_of frame image =
     slice_range image (frame.base + head_size frame) (frame.base + frame_size frame)
 
--- the same head and work area, by the frame that the image tells, and the same content in each slot of the layout
--- that it says
+-- the other image has the same head and work area by the frame that the image tells, and the same content in each slot
+-- of its layout
 pub record HoldsSame (image other : List ℕ) : Type 0 where
   pub head : HasSameHead image other
   pub area : (frame : Frame) → frame_told image ≡ Some frame
@@ -90,19 +91,20 @@ pub record HoldsSame (image other : List ℕ) : Type 0 where
       → ConfigOf (length image) image (Configured layout key frame)
       → All (λ slot. slot_content slot other ≡ slot_content slot image) (layout_slots layout)
 
--- reads give a sound image, and a power loss now leaves the head, the work area and each content as they read
+-- the flash reads as a sound image, and a power loss now leaves the head, the work area and each content as they read
 pub record Settled (f : Flash) : Type 0 where
   pub sound : Sound f.reads
   pub sure : (image : List ℕ) → Now f image → HoldsSame f.reads image
 
 -- ---- from one image to a later one
 
--- the later record's number is not lower, and where it is the same, so is the digest
+-- the later record's sequence number is not lower, and if it is the same, so is the digest
 pub record IsNoEarlier (r later : Record) : Type 0 where
   pub number : r.sequence ≤ later.sequence
   pub same : r.sequence ≡ later.sequence → r.digest ≡ later.digest
 
--- with the same layout and key, and where one was recorded, a record that is no earlier. Each image has its own frame.
+-- the later image has the same layout and key, and if the earlier one has a record, it has one that is no earlier; each
+-- by its own frame
 pub record GoesOn (a b : List ℕ) : Type 0 where
   pub layout : List Entry
   pub key : Key
@@ -113,6 +115,7 @@ pub record GoesOn (a b : List ℕ) : Type 0 where
   pub later : (r : Record) → RecordOf before (head_of before a) (Some r)
       → (s : Record) × RecordOf now (head_of now b) (Some s) × IsNoEarlier r s
 
+-- the earlier image is blank, or the later one goes on from it
 pub data Follows (a b : List ℕ) : Type 0 where
   FollowsBlank : ConfigOf (length a) a Blank → Follows a b
   FollowsOn : GoesOn a b → Follows a b

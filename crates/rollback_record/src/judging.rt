@@ -6,20 +6,20 @@ ghost use Rattle.std.specs.Prelude.{Some, option_map};
 use flash_layout::Record;
 use suit_params::Digest;
 
-/// The judgement of a manifest beside the held record.
+/// The judgement of a manifest against the held record.
 #[derive(Clone, Copy, Debug, PartialEq, Eq)]
 pub enum Judged {
-    /// It may be recorded.
+    /// The manifest may be recorded.
     Accepted,
-    /// Its number is below the recorded one.
+    /// The manifest's sequence number is below the recorded one.
     Lower { recorded: u64, offered: u64 },
-    /// Its number is the recorded one, and its digest is another.
+    /// The manifest's sequence number is the recorded one, but its digest is another.
     OtherDigest { recorded: Digest, offered: Digest },
-    /// The held record's generation is the last one.
+    /// The generation of the held record is the last one, so no record can follow.
     Worn,
 }
 
-// Judges a manifest beside a record.
+// Judges a manifest against a record.
 fn judge_beside(held: &Record, sequence: u64, digest: &Digest) -> Judged
     ensures { IsJudged sequence digest.now (Some held.now) result }
 {
@@ -41,8 +41,8 @@ fn judge_beside(held: &Record, sequence: u64, digest: &Digest) -> Judged
     Judged::Accepted
 }
 
-/// Judges a manifest's number and digest beside the held record. Answers the first thing that is wrong, in the order of
-/// the answers.
+/// Judges a manifest's sequence number and digest against the held record. Returns the first thing that is wrong, in
+/// the order of the variants.
 pub fn judge(held: Option<&Record>, sequence: u64, digest: &Digest) -> Judged
     ensures { IsJudged sequence digest.now (option_map (λ r. r.now) held.entry) result }
 {

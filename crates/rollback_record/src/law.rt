@@ -1,10 +1,10 @@
-//! Laws of record pages. The call here does nothing: its contract is the law.
+//! Laws of record pages.
 
 ghost use Rattle.rollback_record.specs.RecordLaws.{OneAnswer, OneRecord, RecordLengths, SomeAnswer};
 ghost use Rattle.rollback_record.specs.RecordPlaces.{RecordPlaces};
 
-/// A page holds one record at most, with its fields at their places, and is as long as the version of the layout says. The
-/// head of an image has one, or none.
+/// Does nothing. Its contract has the laws: a page holds at most one record, with its fields at their places, and has
+/// the length that the version of the layout says; and the head of an image has just one record, or none.
 pub fn record_laws()
     ensures page { OneRecord }
     ensures places { RecordPlaces }

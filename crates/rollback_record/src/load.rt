@@ -1,4 +1,4 @@
-//! Reading the record.
+//! Reads the record.
 
 ghost use Rattle.flash_layout.specs.declared.key.Key.{Key};
 ghost use Rattle.flash_layout.specs.Configs.{ConfigOf, Configured};
@@ -37,7 +37,7 @@ fn read_config<D: Disk>(disk: &mut D, frame: Frame, config: &mut [u8]) -> Edge
     }
 }
 
-// How many slots each component has, by the configuration page as it is read.
+// Reads from the configuration page how many slots each component has.
 fn read_counts<D: Disk>(disk: &mut D, frame: Frame) -> Result<[u8; MOST_ENTRIES], FlashFault>
     requires { IsFrame (D.extent disk.old) frame }
     ensures size { D.extent disk.new ≡ D.extent disk.old }
@@ -79,8 +79,8 @@ fn read_pages<D: Disk>(disk: &mut D, frame: Frame, first: &mut [u8], second: &mu
     }
 }
 
-// The record of two pages: of two that count that of the higher generation, and of equal ones the first. Beside it the
-// page that it does not stand on.
+// The record of two pages: if both are valid, that of the higher generation, and if these are equal, that of the first
+// page. Also returns which page does not hold it.
 fn higher_of(first: Option<Record>, second: Option<Record>) -> (Option<Record>, u64)
     ensures record { result.0 ≡ higher first second }
     ensures spare { result.1 ≡ beside_higher first second }
@@ -98,7 +98,7 @@ fn higher_of(first: Option<Record>, second: Option<Record>) -> (Option<Record>, 
     }
 }
 
-// Both pages, by the frame and where each component has so many slots.
+// What both pages hold, by the frame and by how many slots each component has.
 fn judge_pages(frame: Frame, slots: &[u8; MOST_ENTRIES], first: &[u8], second: &[u8]) -> RecordPages
     requires first { length first.now ≡ record_length frame }
     requires second { length second.now ≡ record_length frame }
@@ -118,7 +118,7 @@ fn judge_pages(frame: Frame, slots: &[u8; MOST_ENTRIES], first: &[u8], second: &
     RecordPages { held, spare }
 }
 
-// Both record pages, where each component has so many slots.
+// Reads both record pages, given how many slots each component has.
 fn load_beside<D: Disk>(
     disk: &mut D,
     frame: Frame,
@@ -147,8 +147,8 @@ fn load_beside<D: Disk>(
     Ok(judge_pages(frame, slots, first, second))
 }
 
-/// The record that the flash with this frame holds, or `None` where no page counts, as on a flash that has no room
-/// for the head. Changes nothing, whatever it answers.
+/// Reads the record of a flash with this frame. Returns `None` if no record page is valid, or if the flash has no room
+/// for the head. Never changes the flash.
 pub fn load_record<D: Disk>(disk: &mut D, frame: Frame) -> Result<Option<Record>, FlashFault>
     requires { head_size frame ≤ D.extent disk.old → IsFrame (D.extent disk.old) frame }
     ensures size { D.extent disk.new ≡ D.extent disk.old }
@@ -169,8 +169,9 @@ pub fn load_record<D: Disk>(disk: &mut D, frame: Frame) -> Result<Option<Record>
     Ok(pages.held)
 }
 
-/// The record that a flash with this frame and layout holds, or `None` where no page counts, and the page that the next one
-/// is to be written to. Its configuration page, which gave both, is not read again. Changes nothing, whatever it answers.
+/// Reads the record of a flash with this frame and layout, if a record page is valid, and finds the page that the next
+/// record is written to. Does not read the configuration page, which gave frame and layout, again. Never changes the
+/// flash.
 pub fn load_pages_by<D: Disk>(
     disk: &mut D,
     frame: Frame,
@@ -193,8 +194,8 @@ pub fn load_pages_by<D: Disk>(
     load_beside(disk, frame, &slots)
 }
 
-/// The record that a flash with this frame and layout holds, or `None` where no page counts. Its configuration page, which
-/// gave both, is not read again. Changes nothing, whatever it answers.
+/// Reads the record of a flash with this frame and layout. Returns `None` if no record page is valid. Does not read the
+/// configuration page, which gave frame and layout, again. Never changes the flash.
 pub fn load_record_by<D: Disk>(
     disk: &mut D,
     frame: Frame,

@@ -20,28 +20,28 @@ use flash_layout::{
 use std::alloc::Global;
 use suit_edge::{Disk, Edge, open_written};
 
-/// The outcome of a migration.
+/// How a migration ended.
 #[derive(Clone, Copy, Debug, PartialEq, Eq)]
 pub enum Migrated {
-    /// The flash has layout version 2 with this frame, and tells what it told.
+    /// The flash has layout version 2 with this frame, and holds the same as before.
     Done(Frame),
     /// The flash has no configuration.
     Blank,
-    /// Its configuration is wrong.
+    /// The configuration of the flash is wrong.
     BadConfig,
-    /// It has layout version 2.
+    /// The flash already has layout version 2.
     Already,
-    /// The base lies in the first 49,152 bytes, or what is to stand there ends behind the flash.
+    /// The base is within the first 49,152 bytes, or what belongs there does not fit into the flash.
     BaseOutside,
-    /// The first component with a slot that shares a byte with what is to stand at the base.
+    /// A slot of this component shares a byte with what belongs at the base. It is the first such component.
     BaseOverlap(u32),
-    /// A call of the flash failed, and its count of faults rose.
+    /// The flash failed. Its count of faults rose.
     FlashFault,
-    /// Memory ran out, before anything was written.
+    /// Memory ran out before anything was written.
     NoMemory,
 }
 
-// What is installed on a flash with this frame and layout, if anything is.
+// Reads what is installed on a flash with this frame and layout, if anything is.
 fn installed_on<D: Disk>(
     alloc: Global,
     disk: &mut D,
@@ -70,7 +70,7 @@ fn installed_on<D: Disk>(
     }
 }
 
-// Makes sure of all that was written, and then opens the root that tells of it.
+// Syncs all that was written, and then opens the root that points to it.
 fn open_root<D: Disk>(disk: &mut D, frame: Frame) -> Edge
     requires frame { IsFrame (D.extent disk.old) frame }
     requires version { frame.version ≡ 2 }
@@ -96,7 +96,7 @@ fn open_root<D: Disk>(disk: &mut D, frame: Frame) -> Edge
     }
 }
 
-// Moves what the flash tells to a base that has room for it.
+// Moves what the flash holds to a base that has room for it.
 fn move_to<D: Disk>(
     disk: &mut D,
     layout: &Layout,
@@ -131,7 +131,7 @@ fn move_to<D: Disk>(
     }
 }
 
-// Migrates a flash of version 1 with this layout and key.
+// Migrates a flash of layout version 1 that has this layout and key.
 fn migrate_first<D: Disk>(
     alloc: Global,
     disk: &mut D,
@@ -174,10 +174,11 @@ fn migrate_first<D: Disk>(
     }
 }
 
-/// Makes a flash of layout version 1 one of version 2 with this base: the same layout and key, the same record but for its
-/// bank, the same envelope and the same content in each slot. The banks and pages of version 1 stay as they are, and the
-/// root tells which count. All memory is taken before the first write. A power loss at any moment leaves a flash of either
-/// version that tells the same.
+/// Migrates a flash of layout version 1 to version 2 with this base. The layout, the key, the envelope and the content
+/// of each slot stay the same, and so does the record but for its bank.
+///
+/// The pages and banks of version 1 are left as they are, and the root says which pages are valid. All memory is taken
+/// before the first write. A power loss at any moment leaves a flash of either version that holds the same.
 pub fn migrate<D: Disk>(alloc: Global, disk: &mut D, base: u64) -> Migrated
     ensures size { D.extent disk.new ≡ D.extent disk.old }
     ensures counts { MigrateCounts result (D.faults disk.old) (D.faults disk.new) }

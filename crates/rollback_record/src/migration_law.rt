@@ -1,10 +1,10 @@
-//! Laws of a migration. The call here does nothing: its contract is the laws.
+//! Laws of a migration.
 
 ghost use Rattle.rollback_record.specs.MigrationLaws.{MigrationLaws};
 
 use flash_layout::config_laws;
 
-/// An image that tells the same as a sound one is sound, and goes on from it.
+/// Does nothing. Its contract has the laws: an image that holds the same as a sound one is sound, and follows it.
 pub fn migration_laws()
     ensures { MigrationLaws }
 {

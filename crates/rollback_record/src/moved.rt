@@ -1,4 +1,4 @@
-//! What stands at the base of a flash that is migrated.
+//! Writes what belongs at the base of a flash that is migrated.
 
 ghost use Rattle.std.specs.Prelude.{◌≡◌, ◌<◌, ◌≤◌, IfOk, IsTrue, length, slice_index};
 ghost use Rattle.suit_edge.specs.Edge.{IfDone};
@@ -14,21 +14,21 @@ use flash_layout::{Frame, Key, Layout, Record, bank, close_work, record_page, wr
 use std::alloc::Global;
 use suit_edge::{CLOSED, Disk, Edge};
 
-/// Why the flash was not read.
+/// Why reading the flash stopped.
 #[derive(Clone, Copy)]
 pub(crate) enum Stop {
     FlashFault,
     NoMemory,
 }
 
-/// What is installed: the record, with bank 0, and the envelope of its bank.
+/// What is installed: the record, with bank 0, and the envelope in its bank.
 #[derive(Drop)]
 pub(crate) struct Installed {
     held: Record,
     envelope: Vec<u8>,
 }
 
-/// Reads what the bank of a record holds.
+/// Reads the envelope in the bank of a record.
 pub(crate) fn read_installed<D: Disk>(
     alloc: Global,
     disk: &mut D,
@@ -114,7 +114,7 @@ fn put_record<D: Disk>(disk: &mut D, frame: Frame, held: &Record) -> Edge
     }
 }
 
-// Writes the page of the record, or closes it where there is none.
+// Writes the page of the record, or closes the page if there is no record.
 fn write_record<D: Disk>(disk: &mut D, frame: Frame, installed: &Option<Installed>) -> Edge
     requires { IsFrame (D.extent disk.old) frame }
     ensures size { D.extent disk.new ≡ D.extent disk.old }
@@ -188,8 +188,8 @@ fn write_envelope<D: Disk>(disk: &mut D, frame: Frame, installed: &Option<Instal
     }
 }
 
-/// Writes all that stands at the base, without a sync: the configuration, the record with bank 0, the envelope, and no work
-/// begun.
+/// Writes all that belongs at the base, without a sync: the configuration, the record with bank 0, the envelope, and
+/// closed gates for the work area.
 pub(crate) fn fill<D: Disk>(
     disk: &mut D,
     layout: &Layout,

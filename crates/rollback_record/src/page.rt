@@ -1,4 +1,4 @@
-//! The bytes of a record page, and how they are read and put together without memory.
+//! The bytes of a record page, read and written without allocating.
 
 ghost use Rattle.flash_layout.specs.ConfigPage.{padded};
 ghost use Rattle.flash_layout.specs.Frames.{most};
@@ -10,13 +10,13 @@ use flash_layout::{Frame, MOST_ENTRIES, Page, Record, bank_size, most, read_numb
 use suit_edge::OPEN;
 use suit_params::{Digest, kind_of_length};
 
-// Where the slots in use stand on a record page.
+// The byte of a record page where the slots in use begin.
 const ACTIVE_START: usize = 91;
 
-/// The bytes of a record page that are read, at most.
+/// The most bytes of a record page that are read.
 pub(crate) const RECORD_ROOM: usize = ACTIVE_START + MOST_ENTRIES;
 
-/// How many bytes of a record page are read: the gate, and the record behind it.
+/// How many bytes of a record page are read: the gate, and the record after it.
 pub(crate) fn record_length(frame: Frame) -> usize
     ensures is { result ≡ record_length frame }
     ensures few { result ≤ RECORD_ROOM }
@@ -24,7 +24,7 @@ pub(crate) fn record_length(frame: Frame) -> usize
     ACTIVE_START + most(frame)
 }
 
-// Adds the generation and the number.
+// Appends the generation and the sequence number.
 fn put_numbers(page: &mut Page<RECORD_ROOM>, installed: &Record)
     requires { length page.old + 16 ≤ RECORD_ROOM }
     ensures bytes { page.new ≡ page.old ++ numbers_field installed.now }
@@ -34,7 +34,7 @@ fn put_numbers(page: &mut Page<RECORD_ROOM>, installed: &Record)
     page.put_number(installed.sequence);
 }
 
-// Adds the bank, and how many of its bytes are used.
+// Appends the bank, and how many of its bytes are used.
 fn put_bank(page: &mut Page<RECORD_ROOM>, installed: &Record)
     requires { length page.old + 9 ≤ RECORD_ROOM }
     ensures bytes { page.new ≡ page.old ++ bank_field installed.now }
@@ -44,7 +44,7 @@ fn put_bank(page: &mut Page<RECORD_ROOM>, installed: &Record)
     page.put_number(installed.length);
 }
 
-// Adds how many bytes the digest has, and the digest with zeros behind it.
+// Appends the length of the digest, and the digest padded with zeros.
 fn put_digest(page: &mut Page<RECORD_ROOM>, digest: &Digest)
     requires { length page.old + 65 ≤ RECORD_ROOM }
     ensures bytes { page.new ≡ page.old ++ digest_field digest.now }
@@ -54,7 +54,7 @@ fn put_digest(page: &mut Page<RECORD_ROOM>, digest: &Digest)
     page.put(&digest.padded());
 }
 
-// Adds the slots in use, of as many components as the page bears.
+// Appends the slots in use, of as many components as the page has room for.
 fn put_active(page: &mut Page<RECORD_ROOM>, frame: Frame, active: &[u8; MOST_ENTRIES])
     requires { length page.old ≡ ACTIVE_START }
     ensures bytes { page.new ≡ page.old ++ take (most frame) active.now }
@@ -78,7 +78,7 @@ pub(crate) fn spell(frame: Frame, installed: &Record) -> Page<RECORD_ROOM>
     page
 }
 
-// The digest behind its length, where that is the length of one.
+// Reads the digest after its length, if that is the length of a digest.
 fn read_digest(page: &[u8]) -> Option<Digest>
     requires { ACTIVE_START ≤ length page.now }
     ensures { result ≡ digest_at page.now }
@@ -89,7 +89,7 @@ fn read_digest(page: &[u8]) -> Option<Digest>
     }
 }
 
-// The slots in use that a page bears, with zeros behind them.
+// Reads the slots in use that the page has room for, and pads them with zeros.
 fn read_active(page: &[u8]) -> [u8; MOST_ENTRIES]
     requires low { ACTIVE_START ≤ length page.now }
     requires high { length page.now ≤ RECORD_ROOM }
@@ -101,7 +101,7 @@ fn read_active(page: &[u8]) -> [u8; MOST_ENTRIES]
     active
 }
 
-// The other fields, without a judgement.
+// Reads the other fields, without judging them.
 fn read_with(page: &[u8], digest: Digest) -> Record
     requires low { ACTIVE_START ≤ length page.now }
     requires high { length page.now ≤ RECORD_ROOM }
@@ -117,7 +117,7 @@ fn read_with(page: &[u8], digest: Digest) -> Record
     }
 }
 
-// The fields, without a judgement.
+// Reads the fields, without judging them.
 fn read_fields(page: &[u8]) -> Option<Record>
     requires low { ACTIVE_START ≤ length page.now }
     requires high { length page.now ≤ RECORD_ROOM }
@@ -129,7 +129,7 @@ fn read_fields(page: &[u8]) -> Option<Record>
     }
 }
 
-// Whether the component of that index has this slot, where each has so many.
+// Whether the component with that index has this slot, given how many slots each component has.
 fn has_slot(frame: Frame, slots: &[u8; MOST_ENTRIES], i: usize, slot: u8) -> bool
     requires { i < MOST_ENTRIES }
     ensures { IsTrue result ↔ HasSlot frame slots.now i slot }
@@ -137,7 +137,7 @@ fn has_slot(frame: Frame, slots: &[u8; MOST_ENTRIES], i: usize, slot: u8) -> boo
     slot == 0 || (slot == 1 && i < most(frame) && slots[i] == 2)
 }
 
-// Whether each component has its slot. Behind the last that a page bears there are zeros.
+// Whether each component has its slot in use, and after the last one of the page there are zeros.
 fn are_active(frame: Frame, slots: &[u8; MOST_ENTRIES], active: &[u8; MOST_ENTRIES]) -> bool
     ensures { IsTrue result
         ↔ ((i : ℕ) → i < 32 → HasSlot frame slots.now i (slice_index active.now i)) }
@@ -150,7 +150,7 @@ fn are_active(frame: Frame, slots: &[u8; MOST_ENTRIES], active: &[u8; MOST_ENTRI
     true
 }
 
-/// Whether the fields are in range, by the frame and where each component has so many slots.
+/// Whether the fields are in range, by the frame and by how many slots each component has.
 pub(crate) fn is_in_range(frame: Frame, slots: &[u8; MOST_ENTRIES], installed: &Record) -> bool
     ensures { IsTrue result ↔ FitsSlots frame slots.now installed.now }
 {
@@ -159,14 +159,14 @@ pub(crate) fn is_in_range(frame: Frame, slots: &[u8; MOST_ENTRIES], installed: &
         && are_active(frame, slots, &installed.active)
 }
 
-/// Whether the bytes are the page of the record.
+/// Whether the bytes are the page of this record.
 pub(crate) fn is_page_of(frame: Frame, page: &[u8], installed: &Record) -> bool
     ensures { IsTrue result ↔ (page.now ≡ OPEN ∷ record_body frame installed.now) }
 {
     spell(frame, installed).as_slice() == page
 }
 
-// The record, where the page counts and holds it.
+// The record, if its page is valid.
 fn judged(
     frame: Frame,
     slots: &[u8; MOST_ENTRIES],
@@ -185,7 +185,7 @@ fn judged(
     }
 }
 
-/// The record of a page that counts, where each component has so many slots, or `None` where the page does not count.
+/// Decodes a record page, given how many slots each component has. Returns `None` if the page is not valid.
 pub(crate) fn decode(frame: Frame, slots: &[u8; MOST_ENTRIES], page: &[u8]) -> Option<Record>
     requires { length page.now ≡ record_length frame }
     ensures some { IfSome result (λ r. IsPageBeside frame slots.now page.now r) }

@@ -1,4 +1,4 @@
-//! How many slots each component has. A record names one of them.
+//! How many slots each component has. A record names one of them for each.
 
 ghost use Rattle.flash_layout.specs.declared.layout.Entry.{Entry};
 ghost use Rattle.flash_layout.specs.Frames.{most, page_bytes};
@@ -7,7 +7,7 @@ ghost use Rattle.std.specs.Prelude.{◌≡◌, ◌↔◌, ◌<◌, ℕ, get_or, 
 
 use flash_layout::{ENTRY_SIZE, Entry, FRONT_SIZE, Frame, Layout, MOST_ENTRIES, most};
 
-// The slots of the component of that index by the configuration page; 0 where there is no such component.
+// How many slots the component with that index has by the configuration page. 0 if there is no such component.
 fn slots_on(frame: Frame, config: &[u8], i: usize) -> u8
     requires page { length config.now ≡ page_bytes frame }
     requires few { i < most frame }
@@ -20,7 +20,7 @@ fn slots_on(frame: Frame, config: &[u8], i: usize) -> u8
     }
 }
 
-/// The slots of each component by the configuration page.
+/// How many slots each component has by the configuration page.
 pub(crate) fn counts_on(frame: Frame, config: &[u8]) -> [u8; MOST_ENTRIES]
     requires { length config.now ≡ page_bytes frame }
     ensures { CountSlots frame config.now result }
@@ -32,7 +32,7 @@ pub(crate) fn counts_on(frame: Frame, config: &[u8]) -> [u8; MOST_ENTRIES]
     slots
 }
 
-// The slots of the component of that index; 0 where there is no such component.
+// How many slots the component with that index has. 0 if there is no such component.
 fn slots_in(entries: &[Entry], i: usize) -> u8
     ensures { (result ≡ 2)
         ↔ ((i < length entries.now) × ((d : Entry) → (get_or entries.now i d).slots ≡ 2)) }
@@ -44,7 +44,7 @@ fn slots_in(entries: &[Entry], i: usize) -> u8
     }
 }
 
-/// The slots of each component of a layout.
+/// How many slots each component of a layout has.
 pub(crate) fn counts_in(layout: &Layout) -> [u8; MOST_ENTRIES]
     ensures { (i : ℕ) → i < 32 → (slice_index result i ≡ 2)
         ↔ ((i < length layout.now) × ((d : Entry) → (get_or layout.now i d).slots ≡ 2)) }

@@ -1,4 +1,4 @@
-//! Laws of sound flashes. The calls here do nothing: their contracts are the laws.
+//! Laws of sound flashes.
 
 ghost use Rattle.rollback_record.specs.InstalledLaws.{InstalledLaw};
 ghost use Rattle.rollback_record.specs.SoundLaws.{SoundLaws};
@@ -7,14 +7,16 @@ use flash_layout::config_laws;
 use suit_envelope::envelope_laws;
 use suit_manifest::manifest_laws;
 
-/// Formatting and committing leave a sound flash, which goes on from what stood before.
+/// Does nothing. Its contract has the laws: formatting and committing leave a sound flash, which follows the one
+/// before.
 pub fn sound_laws()
     ensures { SoundLaws }
 {
     config_laws();
 }
 
-/// The bank of a sound flash is read as the envelope and the manifest that were installed.
+/// Does nothing. Its contract has the law: the bank of a sound flash is read as the envelope and the manifest that were
+/// installed.
 pub fn installed_laws()
     ensures { InstalledLaw }
 {

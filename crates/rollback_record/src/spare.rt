@@ -1,4 +1,4 @@
-//! The record page that may be written over.
+//! The record page that may be overwritten.
 
 use flash_layout::Record;
 use suit_edge::Gate;
@@ -6,17 +6,17 @@ use suit_edge::Gate;
 /// The record page that the next record is written to, as it was read.
 #[derive(Clone, Copy, Debug, PartialEq, Eq)]
 pub struct Spare {
-    /// Which of the two it is.
+    /// Which of the two pages it is, 0 or 1.
     pub which: u64,
-    /// How its gate reads.
+    /// What its gate reads.
     pub gate: Gate,
 }
 
 /// Both record pages, as they were read.
 #[derive(Clone, Copy, Debug, PartialEq, Eq)]
 pub struct RecordPages {
-    /// The record that stands.
+    /// The record, if a page is valid.
     pub held: Option<Record>,
-    /// The page beside it.
+    /// The page that does not hold the record.
     pub spare: Spare,
 }

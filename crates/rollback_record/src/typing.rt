@@ -1,10 +1,10 @@
-//! The bounds of a record's fields, by their types.
+//! Bounds of a record's fields that follow from their types.
 
 ghost use Rattle.rollback_record.specs.RecordPage.{IsTypedRecord};
 
 use flash_layout::{Record, in_range, sized};
 
-/// A record of the code has fields of the lengths and ranges of their types.
+/// Does nothing. Its contract says that the fields have the lengths and ranges of their types.
 pub(crate) fn typed(installed: &Record)
     ensures { IsTypedRecord installed.now }
 {

@@ -1,4 +1,4 @@
-//! Writing the record.
+//! Writes the record.
 
 ghost use Rattle.flash_layout.specs.Frames.{IsFrame, config_page_of, head_of};
 ghost use Rattle.flash_layout.specs.ToldFrames.{IsTold};
@@ -17,7 +17,7 @@ use crate::typing::typed;
 use flash_layout::{FlashFault, Frame, Record, record_page};
 use suit_edge::{Disk, Edge, write_known};
 
-// A call on the flash that failed is a fault of it.
+// A call of the flash that failed is a fault of the flash.
 fn result_of(answer: Edge) -> Result<(), FlashFault>
     ensures ok { OnOk result (answer ≡ edge.Done) }
     ensures err { OnErr result (answer ≡ edge.Failed) }
@@ -28,9 +28,11 @@ fn result_of(answer: Edge) -> Result<(), FlashFault>
     }
 }
 
-/// Records what is installed on the flash with this frame, on the spare record page, as it was read. A power loss now must
-/// leave the head as it reads. After a fault, and after a power loss at any moment, the flash holds the held record or the
-/// new one, and all else as it was.
+/// Writes a new record to the spare record page of a flash with this frame. The page has to be as it was read, and a
+/// power loss now must leave the head as it reads.
+///
+/// After an error, and after a power loss at any moment, the flash has the old record or the new one, and all else is
+/// as it was.
 pub fn commit<D: Disk>(
     disk: &mut D,
     frame: Frame,

@@ -1,4 +1,5 @@
--- Where one content has changed and the rest of flash and memory stayed, the contents are those before, but for that one.
+-- Where one content has changed and the rest of flash and memory stayed, the contents are those before, but for that
+-- one.
 use Rattle.std.proofs.Common.{◌≡◌, ◌≢◌, ◌≤◌, ◌<◌, ◌+◌, ℕ, zero, suc, List, [], ◌∷◌, length, get_or, set, map, refl, ap, subst, ◌∙◌, arith, inl, inr, get_or-set_other}
 use Rattle.std.proofs.lemmas.Bool.{cases_lt}
 use Rattle.suit_edge.specs.Flash.{Flash, Keeps}

@@ -1,4 +1,4 @@
--- The result of a part of a procedure in a world, as its play has it. No events are kept.
+-- The result of a part of a procedure in a world, as its play has it. Events are left out.
 use Rattle.std.specs.Prelude.{◌≡◌, Result, Ok, Err}
 use Rattle.path_model.specs.Behaviour.{State, Done, Condition}
 use Rattle.path_model.specs.Plays.{Play}
@@ -6,8 +6,8 @@ use Rattle.step_machine.specs.declared.stop.Stop.{Stop}
 use Rattle.step_machine.specs.declared.stop.Stop.TheVariants as stops
 use Rattle.step_machine.specs.Directives.{StopsSo}
 
--- From this state and world it is done, with that state and world; or it is stopped, by a condition, by a directive or by a
--- fault, and leaves that world. The state after a stop is any.
+-- From this state and world the play is done, with the next state and world; or a condition, a directive or a fault
+-- stops it, and leaves that world. The state after a stop is arbitrary.
 abbrev pub Comes : {World : Type 0} → Play World → State → World → Result (Unit {0}) Stop → State → World
     → Type 0
 Comes play state before (Ok _) next after =

@@ -1,4 +1,4 @@
--- When a condition passes for a component, and where a fault of the flash cuts it, as plays have it.
+-- When a condition passes for a component, and when a fault of the flash cuts it, as plays have it.
 use Rattle.std.specs.Prelude.{◌≡◌, ◌↔◌, ℕ, Bool, IsTrue, List, Some, slice_get}
 use Rattle.suit_params.specs.InForce.{Parameters}
 use Rattle.suit_commands.specs.declared.kinds.TestKind.{TestKind}
@@ -8,7 +8,8 @@ use Rattle.path_model.specs.Settings.{Setting}
 use Rattle.path_model.specs.DevicePlays.{Device, content_at, unread, condition_play}
 use Rattle.path_model.specs.DeviceLaws.{TestPasses}
 
--- in each setting and on each device where the component is this and holds that content
+-- the play of the condition passes or not like this, in each setting and on each device where the component has this
+-- identity and content
 abbrev pub PassesAs : TestKind → ℕ → Parameters → Identity → List ℕ → Bool → Type 0
 PassesAs kind component parameters identity content passed =
     (setting : Setting) (place : ℕ) (state : State) (device : Device)
@@ -16,7 +17,7 @@ PassesAs kind component parameters identity content passed =
     → content_at device component ≡ content
     → IsTrue passed ↔ TestPasses setting kind place component state device
 
--- a play is cut there
+-- the play of the condition may be cut, in each setting and on each device
 abbrev pub CutsPlay : TestKind → ℕ → Parameters → Type 0
 CutsPlay kind component parameters =
     (setting : Setting) (place : ℕ) (state : State) (device : Device)

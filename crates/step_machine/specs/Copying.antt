@@ -1,4 +1,5 @@
--- The result of a copy and a swap for two components, as plays have it (draft-ietf-suit-manifest-25, section 8.4.10).
+-- The results of a copy and a swap for two components, as plays have them (draft-ietf-suit-manifest-25, section
+-- 8.4.10).
 use Rattle.std.specs.Prelude.{◌≡◌, ◌≢◌, ◌<◌, ℕ, List, Some, Result, length}
 use Rattle.suit_params.specs.declared.param.ParamKey.TheVariants as keys
 use Rattle.suit_params.specs.InForce.{in_force, number_of}
@@ -14,17 +15,17 @@ use Rattle.step_machine.specs.Spots.{IsRamBut, IsSpot, OutsideSpot}
 use Rattle.step_machine.specs.Devices.{AreSpotsClear}
 use Rattle.step_machine.specs.Directives.{ActsSo}
 
--- the source that is in force for the component
+-- this source is in force for the component
 abbrev pub NamesSource : State → ℕ → ℕ → Type 0
 NamesSource state component source =
     number_of (in_force state.parameters component keys.Source) ≡ Some source
 
--- other components share no byte
+-- if the two are different components, their contents share no byte
 abbrev pub AreApart : ℕ → Spot → ℕ → Spot → Type 0
 AreApart component spot source other = source ≢ component → AreSpotsClear spot other
 
--- in each setting and on each device where the component has that room, the source holds that content, and the component
--- holds the content before, and then the content after
+-- the play of the copy has this result, in each setting and on each device where the component has this room, the
+-- source has this content, and the component has one content before and the other after
 abbrev pub CopiesAs : ℕ → ℕ → ℕ → List ℕ → List ℕ → List ℕ → Result (Unit {0}) Cause → Type 0
 CopiesAs component capacity source content before after result =
     (setting : Setting) (place : ℕ) (state : State) (device : Device)
@@ -36,7 +37,7 @@ CopiesAs component capacity source content before after result =
 
 -- ---- two contents that change
 
--- a component with its room, and what it holds before and after
+-- a component with its room, and its content before and after
 pub record Side : Type 0 where
   pub component : ℕ
   pub capacity : ℕ
@@ -47,7 +48,8 @@ abbrev pub side_of : ℕ → ℕ → List ℕ → List ℕ → Side
 side_of component capacity before after =
     record { component = component; capacity = capacity; before = before; after = after }
 
--- in each setting and on each device where both have that room and hold the contents before, and then those after
+-- the play of the swap has this result, in each setting and on each device where both components have their room, and
+-- their contents before and after
 abbrev pub SwapsAs : Side → Side → Result (Unit {0}) Cause → Type 0
 SwapsAs one other result =
     (setting : Setting) (place : ℕ) (state : State) (device : Device)
@@ -60,25 +62,25 @@ SwapsAs one other result =
     → ActsSo (directive_play setting acts.Swap place one.component) place state device result
     (with_content (with_content device one.component one.after) other.component other.after)
 
--- both are within the flash or the memory, and share no byte
+-- both contents are within the flash or working memory, and share no byte
 pub record IsPair (size : ℕ) (ram : List Held) (a b : Spot) : Type 0 where
   pub one : IsSpot size ram a
   pub other : IsSpot size ram b
   pub clear : AreSpotsClear a b
 
--- all of the flash but two slots
+-- the place is outside both slots
 abbrev pub OutsideBoth : Spot → Spot → ℕ → Type 0
 OutsideBoth one other i = OutsideSpot one i × OutsideSpot other i
 
--- all of the flash but two rooms
+-- the place is outside both rooms
 abbrev pub OutsideRooms : Spot → Spot → ℕ → Type 0
 OutsideRooms one other i = OutsideRoom one i × OutsideRoom other i
 
--- all of the flash but two stored lengths
+-- the place is outside both stored lengths
 abbrev pub OutsideLengths : Spot → Spot → ℕ → Type 0
 OutsideLengths one other i = OutsideLength one i × OutsideLength other i
 
--- all of the memory but two components
+-- working memory has changed in these two components at most
 abbrev pub IsRamButBoth : Spot → Spot → List Held → List Held → Type 0
 IsRamButBoth one other old new =
     (middle : List Held) × IsRamBut one old middle × IsRamBut other middle new

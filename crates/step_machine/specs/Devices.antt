@@ -1,4 +1,4 @@
--- The contents of components that stand so, as a device of plays has them.
+-- The contents of a procedure's components, as a device of plays has them.
 use Rattle.std.specs.Prelude.{◌≢◌, ◌<◌, ℕ, List, length, map, get_or}
 use Rattle.flash_layout.specs.Layouts.{AreClear}
 use Rattle.flash_layout.specs.Slots.{extent_of}
@@ -8,11 +8,11 @@ use Rattle.step_machine.specs.declared.spot.Spot.TheVariants as spots
 use Rattle.step_machine.specs.declared.spot.Standing.{Standing}
 use Rattle.step_machine.specs.Spots.{content_of}
 
--- one content for each component
+-- the content of each component
 abbrev pub contents_of : List Standing → List Held → List ℕ → List (List ℕ)
 contents_of standings ram reads = map (λ standing. content_of standing.spot ram reads) standings
 
--- two contents share no byte
+-- the two contents share no byte
 abbrev pub AreSpotsClear : Spot → Spot → Type 0
 AreSpotsClear (spots.Flash one) (spots.Flash other) =
     AreClear one.start (extent_of one) other.start (extent_of other)

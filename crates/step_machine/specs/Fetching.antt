@@ -1,4 +1,4 @@
--- The result of a fetch for a component, as plays have it, and of taking a file piece by piece.
+-- The result of a fetch for a component, as plays have it, and of taking in a file piece by piece.
 use Rattle.std.specs.Prelude.{◌≡◌, ◌⊎◌, ◌<◌, ◌≤◌, ◌+◌, ◌*◌, ◌==◌, ℕ, suc, Bool, IsTrue, if◌then◌else◌, List, [], ◌∷◌, ◌++◌, Option, Some, None, Result, Ok, Err, get_or, length, map, take}
 use Rattle.std.specs.Borrow.{Bor}
 use Rattle.std.specs.List.{AllByRecursion}
@@ -21,23 +21,23 @@ use Rattle.step_machine.specs.UrisSet.{SetsUri}
 
 -- ---- one piece
 
--- the next piece of what is left of a file stands at the front of the room; it has no bytes only at the end
+-- the next bytes of what is left of a file are at the front of the room; there are none only at the end
 pub record IsPiece (n : ℕ) (rest later room : List ℕ) : Type 0 where
   pub is : rest ≡ take n room ++ later
   pub end : n ≡ 0 → rest ≡ []
 
--- no more bytes are given than are wanted; where more are left than that, it is refused
+-- the next piece is given, or more is left of the file than is wanted, or a fault came
 abbrev pub GivesPiece : Result ℕ Cause → ℕ → List ℕ → List ℕ → List ℕ → Type 0
 GivesPiece (Ok n) wanted rest later room = IsPiece n rest later room
 GivesPiece (Err causes.TooLarge) wanted rest later room = wanted < length rest
 GivesPiece (Err _) wanted rest later room = Unit {0}
 
--- at most one byte more than is wanted was handed out
+-- the host gave just the piece; if that failed, it gave at most one byte more than is wanted
 abbrev pub PullsPiece : Result ℕ Cause → ℕ → ℕ → ℕ → Type 0
 PullsPiece (Ok n) wanted before now = now ≡ before + n
 PullsPiece (Err _) wanted before now = now ≤ before + (wanted + 1)
 
--- the host's count rose for its fault, and stayed otherwise; nothing else stops a piece but its size
+-- the host's count of faults rose if it failed, and stayed if not; besides a fault, only the size stops a piece
 abbrev pub PieceCounts : Result ℕ Cause → ℕ → ℕ → Type 0
 PieceCounts (Ok n) before now = now ≡ before
 PieceCounts (Err causes.TooLarge) before now = now ≡ before
@@ -46,7 +46,8 @@ PieceCounts (Err _) before now = ⊥
 
 -- ---- a whole file
 
--- It became the content. Or it was too large or the host failed, and the content is empty. Or the flash failed.
+-- The file became the content. Or it was too large or the host failed, and the content is empty. Or the flash failed,
+-- and the content is within the room.
 abbrev pub TakesIn : Result (Unit {0}) Cause → ℕ → List ℕ → List ℕ → Type 0
 TakesIn (Ok _) capacity file content = (length file ≤ capacity) × (content ≡ file)
 TakesIn (Err causes.TooLarge) capacity file content = (capacity < length file) × (content ≡ [])
@@ -54,7 +55,7 @@ TakesIn (Err causes.HostFault) capacity file content = content ≡ []
 TakesIn (Err causes.FlashFault) capacity file content = length content ≤ capacity
 TakesIn (Err _) capacity file content = ⊥
 
--- the counts of the host and of the flash: the one rose whose fault it was, and no other
+-- the count of faults rose of the host or the flash if that failed, and all others stayed
 abbrev pub FetchCounts : Result (Unit {0}) Cause → ℕ → ℕ → ℕ → ℕ → Type 0
 FetchCounts (Err causes.HostFault) before now disk_before disk_now =
     Faulted before now × (disk_now ≡ disk_before)
@@ -63,7 +64,7 @@ FetchCounts (Err causes.FlashFault) before now disk_before disk_now =
 FetchCounts (Err causes.LaunchFault) before now disk_before disk_now = ⊥
 FetchCounts _ before now disk_before disk_now = (now ≡ before) × (disk_now ≡ disk_before)
 
--- all of it was put, or it was too large, or a fault came
+-- the whole file was put, or it was too large, or a fault came
 abbrev pub PutsIn : Result (Unit {0}) Cause → ℕ → List ℕ → List ℕ → Type 0
 PutsIn (Ok _) capacity file put = (length file ≤ capacity) × (put ≡ file)
 PutsIn (Err causes.TooLarge) capacity file put = capacity < length file
@@ -71,30 +72,30 @@ PutsIn (Err causes.HostFault) capacity file put = Unit {0}
 PutsIn (Err causes.FlashFault) capacity file put = Unit {0}
 PutsIn (Err _) capacity file put = ⊥
 
--- why a started file may not be taken
+-- why a started file may not be taken in
 abbrev pub StopsTaking : Cause → Type 0
 StopsTaking causes.TooLarge = Unit {0}
 StopsTaking causes.HostFault = Unit {0}
 StopsTaking causes.FlashFault = Unit {0}
 StopsTaking _ = ⊥
 
--- some file was taken in: where the host tells, the one that was started
+-- some file was taken in; if the host tells, it is the one that was started
 pub record TakesSome (told : Bool) (rest : List ℕ) (result : Result (Unit {0}) Cause) (capacity : ℕ)
     (content : List ℕ) : Type 0 where
   pub file : List ℕ
   pub is : IsTrue told → file ≡ rest
   pub takes : TakesIn result capacity file content
 
--- The named file became the content. If there was none it stays, and a fault of the host leaves it or empties it.
+-- The named file was taken in. If there is none the content stays, and after a fault of the host it stays or is empty.
 abbrev pub TakesNamed : Result (Unit {0}) Cause → ℕ → Option (List ℕ) → List ℕ → List ℕ → Type 0
 TakesNamed (Err causes.Absent) capacity named before after = (named ≡ None) × (after ≡ before)
 TakesNamed (Err causes.HostFault) capacity named before after = (after ≡ before) ⊎ (after ≡ [])
 TakesNamed result capacity named before after =
     (file : List ℕ) × (named ≡ Some file) × TakesIn result capacity file after
 
--- ---- requests of a host
+-- ---- requests to a host
 
--- a request of a host: the name of a file, and the bytes given under it, where there is such a file
+-- a request to a host: the name of a file, and the bytes given under it, if there is such a file
 pub record Request : Type 0 where
   pub name : List ℕ
   pub given : Option (List ℕ)
@@ -105,14 +106,14 @@ request name given = record { name = name; given = given }
 abbrev pub names_of : List Request → List (List ℕ)
 names_of requests = map (λ (r : Request). r.name) requests
 
--- from this number on, the files of a setting are given so
+-- from this number on, the setting gives its requests what these requests were given
 abbrev pub AreGiven : (ℕ → List ℕ → Option (List ℕ)) → ℕ → List Request → Type 0
 AreGiven files number [] = Unit {0}
 AreGiven files number (r ∷ requests) =
     (files number r.name ≡ r.given) × AreGiven files (suc number) requests
 
--- The requests from one moment of a host to a later one. Where it tells, they are the names that it was asked for, in order,
--- and were given its files. Where no URI names a file there are none.
+-- The requests to a host from one moment to a later one. If the host tells, these are the names that it was asked for,
+-- in order, and it gave its files. If no URI has the name of a file, there are none.
 pub record AreRequests (told : Bool) (words : List (List ℕ × List ℕ))
     (files : List ℕ → Option (List ℕ)) (before now : List (List ℕ)) (requests : List Request)
     : Type 0 where
@@ -120,8 +121,8 @@ pub record AreRequests (told : Bool) (words : List (List ℕ × List ℕ))
   pub given : IsTrue told → AllByRecursion (λ (r : Request). r.given ≡ files r.name) requests
   pub none : words ≡ [] → requests ≡ []
 
--- The file of this name was asked for, and taken in as it was given; or the host failed before that. Without a name nothing
--- was asked for.
+-- The file of this name was asked for, and taken in as it was given; or the host failed before that. Without a name
+-- nothing was asked for.
 abbrev pub TakesOf : Option (List ℕ) → List Request → Result (Unit {0}) Cause → ℕ → List ℕ → List ℕ
     → Type 0
 TakesOf None requests result capacity before after =
@@ -133,19 +134,19 @@ TakesOf (Some name) requests result capacity before after =
 
 -- ---- as plays have it
 
--- the payloads that a procedure may fetch: those of its envelope, or none where it is given none
+-- the payloads that a procedure may fetch: those of its envelope, or none if it has no envelope
 abbrev pub ArePayloads : Option (Bor Envelope) → List (List ℕ × List ℕ) → Type 0
 ArePayloads None payloads = payloads ≡ []
 ArePayloads (Some envelope) payloads = HasPayloads envelope.now.whole.now payloads
 
--- the payload that a URI names, of these payloads, these names of files and these files
+-- what a URI names: a payload if it begins with `#`, and otherwise the file whose name answers it
 abbrev pub payload_by : List (List ℕ × List ℕ) → List (List ℕ × List ℕ) → (List ℕ → Option (List ℕ))
     → List ℕ → Option (List ℕ)
 payload_by payloads words files uri =
     if get_or uri 0 0 == 35 then found_under payloads uri
     else option_and_then files (found_under words uri)
 
--- the file that the URI in force for the component names
+-- what the URI in force for the component names
 abbrev pub file_by : ℕ → Parameters → List (List ℕ × List ℕ) → List (List ℕ × List ℕ)
     → (List ℕ → Option (List ℕ)) → Option (List ℕ)
 file_by component parameters payloads words files =
@@ -156,8 +157,8 @@ file_by component parameters payloads words files =
 abbrev pub with_asked : Device → List (List ℕ) → Device
 with_asked device names = record device { asked = device.asked ++ names }
 
--- in each setting with these payloads that gives the requests so, and on each device where the component has that room
--- and holds the content before, and holds the content after
+-- the play of the fetch has this result, in each setting with these payloads and names of files that gives the requests
+-- what they were given, and on each device where the component has this room, one content before and the other after
 abbrev pub FetchesAs : ℕ → ℕ → Parameters → List (List ℕ × List ℕ) → List (List ℕ × List ℕ)
     → List Request → List ℕ → List ℕ → Result (Unit {0}) Cause → Type 0
 FetchesAs component capacity parameters payloads words requests before after result =
@@ -171,7 +172,7 @@ FetchesAs component capacity parameters payloads words requests before after res
 
 -- ---- calls of the host
 
--- the name of the file that the URI in force for the component names, by these names of files
+-- the name of the file that answers the URI in force for the component
 abbrev pub file_named : ℕ → Parameters → List (List ℕ × List ℕ) → Option (List ℕ)
 file_named component parameters words =
     option_and_then (found_under words) (bytes_of (in_force parameters component keys.Uri))
@@ -184,20 +185,20 @@ pub record Asked : Type 0 where
 abbrev pub asked_at : List (List ℕ) → ℕ → Asked
 asked_at names pulled = record { names = names; pulled = pulled }
 
--- at most the named file was asked for, and that once, and at most so many bytes were pulled from it
+-- nothing was asked for, or the named file was asked for once, and at most this many bytes were pulled from it
 abbrev pub AsksAtMost : Option (List ℕ) → ℕ → Asked → Asked → Type 0
 AsksAtMost named most before now =
     ((now.names ≡ before.names) × (now.pulled ≡ before.pulled))
     ⊎ ((name : List ℕ) × (named ≡ Some name) × AsksFor name before.names now.names
     × (now.pulled ≤ before.pulled + most))
 
--- a URI that the procedure sets names this file
+-- some URI that the procedure sets has this name of a file
 abbrev pub IsFileOf : PlanTree → List (List ℕ × List ℕ) → List ℕ → Type 0
 IsFileOf plan words name =
     (uri : List ℕ) × SetsUri plan uri × (found_under words uri ≡ Some name)
 
--- Only files that URIs of the procedure name were asked for, in this order. In all no more was pulled than, for each time that
--- one was asked for, one byte more than there is room for.
+-- Only files were asked for that URIs of the procedure name. In all, the bytes that were pulled are at most one more
+-- than there is room for, for each request.
 pub record AsksAmong (plan : PlanTree) (words : List (List ℕ × List ℕ)) (room : ℕ)
     (before now : Asked) : Type 0 where
   pub more : List (List ℕ)
@@ -205,7 +206,7 @@ pub record AsksAmong (plan : PlanTree) (words : List (List ℕ × List ℕ)) (ro
   pub among : AllByRecursion (IsFileOf plan words) more
   pub pulled : now.pulled ≤ before.pulled + length more * (room + 1)
 
--- its files stay, and at most one byte more than these was pulled
+-- the host keeps its files, and at most one byte more than this number was pulled
 pub record PullsUpTo (told : Bool) (most : ℕ) (earlier later : List ℕ → Option (List ℕ))
     (before now : ℕ) : Type 0 where
   pub files : IsTrue told → later ≡ earlier

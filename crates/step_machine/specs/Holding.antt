@@ -1,4 +1,4 @@
--- Whether a condition holds of a component: of its parameters in force, of what it is, and of its content.
+-- Whether a condition holds of a component, by its parameters in force, its identity and its content.
 use Rattle.std.specs.Prelude.{ℕ, Bool, false, List, Option, Some, None, IsSome}
 use Rattle.suit_params.specs.declared.digest.Digest.{Digest}
 use Rattle.suit_params.specs.declared.param.ParamKey.TheVariants as keys
@@ -8,10 +8,12 @@ use Rattle.suit_commands.specs.declared.kinds.TestKind.TheVariants as tests
 use Rattle.path_model.specs.declared.identity.Identity.{Identity}
 use Rattle.path_model.specs.DevicePlays.{is_content, is_image, same_identifier, same_number}
 
+-- a digest is in force, and the content has it, and the size if one is in force
 abbrev pub has_match : Option Digest → Option ℕ → List ℕ → Bool
 has_match None size content = false
 has_match (Some digest) size content = is_image digest size content
 
+-- whether the condition holds
 abbrev pub holds : TestKind → ℕ → Parameters → Identity → List ℕ → Bool
 holds tests.Vendor component parameters identity content =
     same_identifier (identifier_of (in_force parameters component keys.Vendor)) identity.vendor
@@ -27,7 +29,7 @@ holds tests.CheckContent component parameters identity content =
     is_content (bytes_of (in_force parameters component keys.Content)) content
 holds tests.Abort component parameters identity content = false
 
--- it looks at the content, since its parameter is there
+-- the condition reads the content, since its parameter is in force
 abbrev pub Looks : TestKind → ℕ → Parameters → Type 0
 Looks tests.ImageMatch component parameters = IsSome (digest_in parameters component)
 Looks tests.CheckContent component parameters =

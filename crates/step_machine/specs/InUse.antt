@@ -3,11 +3,11 @@ use Rattle.std.specs.Prelude.{◌≡◌, ◌<◌, ◌≤◌, ◌==◌, ◌&&◌,
 use Rattle.flash_layout.specs.declared.frame.TheConstants.{MOST_ENTRIES}
 use Rattle.flash_layout.specs.declared.layout.Entry.{Entry}
 
--- the one of this number, where the component has a second slot; otherwise its first
+-- the slot with this number if the component has two slots, or else its first
 abbrev pub slot_in_use : Entry → ℕ → ℕ
 slot_in_use e number = if (number == 1) && (e.slots == 2) then 1 else 0
 
--- of each component of the layout the slot of its number, and 0 behind the last
+-- each component of the layout has its slot in use, and after the last there are zeros
 pub record AreInUse (layout : List Entry) (active numbers : List ℕ) : Type 0 where
   pub size : length numbers ≡ MOST_ENTRIES
   pub each : (i : ℕ) (d : Entry) → i < length layout

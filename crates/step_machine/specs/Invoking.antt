@@ -18,11 +18,11 @@ use Rattle.path_model.specs.Plays.{Play}
 use Rattle.path_model.specs.DevicePlays.{Launched, Device, content_at, directive_play}
 use Rattle.step_machine.specs.Directives.{StopsSo}
 
--- on a flash that tells what it reads, the image has these bytes
+-- the image has these bytes, on a flash that tells what it reads
 abbrev pub IsImageOf : List ℕ → List ℕ → Image → Type 0
 IsImageOf reads content image = (bytes : List ℕ) → AreImage image true reads bytes → bytes ≡ content
 
--- an answer of a launcher as the outcome of an invoke
+-- the result of an invoke, by the answer of the launcher
 abbrev pub result_of : Answer → Result (Unit {0}) Cause
 result_of answers.Done = Ok tt
 result_of answers.DiskFailed = Err causes.FlashFault
@@ -38,7 +38,7 @@ launched_as launch = record {
   args = launch.args;
 }
 
--- in each setting, and on each device where the component holds this
+-- the play of the invoke has this result, in each setting and on each device where the component has this content
 abbrev pub OnEachDevice : ℕ → Parameters → List ℕ → (Play Device → ℕ → State → Device → Type 0)
     → Type 0
 OnEachDevice component parameters content Comes =
@@ -46,7 +46,8 @@ OnEachDevice component parameters content Comes =
     → state.parameters ≡ parameters → content_at device component ≡ content
     → Comes (directive_play setting acts.Invoke place component) place state device
 
--- where it is done there is one launch more, and that is the one of the play; otherwise there is none, and the play is cut
+-- if the invoke is done, one launch is added, which is that of the play; if not, none is added, and the play stops for
+-- the same cause
 abbrev pub InvokesAs : ℕ → Parameters → List ℕ → List Launch → List Launch → Result (Unit {0}) Cause
     → Type 0
 InvokesAs component parameters content before now (Ok _) =
@@ -61,7 +62,7 @@ InvokesAs component parameters content before now (Err cause) =
     × OnEachDevice component parameters content
     (λ play place state device. StopsSo play place state device cause device)
 
--- the counts of the launcher and of the flash: one of them rose for its fault
+-- the count of faults rose of the launcher or the flash, if that failed
 abbrev pub InvokeCounts : Result (Unit {0}) Cause → ℕ → ℕ → ℕ → ℕ → Type 0
 InvokeCounts (Ok _) before now disk_before disk_now = (now ≡ before) × (disk_now ≡ disk_before)
 InvokeCounts (Err causes.LaunchFault) before now disk_before disk_now =

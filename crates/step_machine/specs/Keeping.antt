@@ -1,4 +1,4 @@
--- Which steps are free, and how the outcome of one is kept.
+-- Which steps are free, and how their outcomes are kept.
 use Rattle.std.specs.Prelude.{◌≡◌, ◌⊎◌, ℕ, Bool, true, false, not, IsTrue, is_some, [], ◌∷◌, ◌++◌, Option, Some, None, Result, Ok, Err}
 use Rattle.suit_params.specs.declared.param.ParamKey.TheVariants as keys
 use Rattle.suit_params.specs.InForce.{Parameters, bytes_of, digest_in, in_force, number_of}
@@ -16,12 +16,14 @@ use Rattle.step_machine.specs.Stages.{IsTrailed, Stage, StaysKept, counts_in}
 
 -- ---- free steps
 
+-- a condition is free if it reads the content, since its parameter is in force
 abbrev pub is_free_test : TestKind → ℕ → Parameters → Bool
 is_free_test tests.ImageMatch component parameters = is_some (digest_in parameters component)
 is_free_test tests.CheckContent component parameters =
     is_some (bytes_of (in_force parameters component keys.Content))
 is_free_test _ component parameters = false
 
+-- a directive is free if the parameter that it needs is in force; an invoke needs none
 abbrev pub is_free_act : ActKind → ℕ → Parameters → Bool
 is_free_act acts.Write component parameters =
     is_some (bytes_of (in_force parameters component keys.Content))
@@ -35,12 +37,14 @@ is_free_act acts.Invoke component parameters = true
 
 -- ---- an outcome that is kept, or could not be
 
+-- the outcome to keep for a step that ended like this; none for a directive that failed
 abbrev pub outcome_of : Result (Unit {0}) Stop → Option Bool
 outcome_of (Ok _) = Some true
 outcome_of (Err (stops.Condition place soft_failure)) = Some false
 outcome_of (Err (stops.Directive place cause)) = None
 
--- The step ends as it did, with its outcome in the list; or keeping failed, and it ends by a fault of the flash.
+-- The step ends as it did, and its outcome is in the list; or keeping it failed, and the step ends in a fault of the
+-- flash.
 abbrev pub IsOutcomeKept : Machine → ℕ → Result (Unit {0}) Stop → Bool → Stage
     → Result (Unit {0}) Stop → Stage → Type 0
 IsOutcomeKept machine place ended passed before result after =
@@ -52,7 +56,7 @@ IsOutcomeKept machine place ended passed before result after =
     × CountsFor causes.FlashFault (counts_in before) (counts_in after)
     × (IsTrue before.trail.told → after.trail.list ≡ before.trail.list))
 
--- that a directive failed is not kept
+-- the outcome is kept, unless a directive failed
 abbrev pub KeptEnd : Machine → ℕ → Result (Unit {0}) Stop → Option Bool → Stage
     → Result (Unit {0}) Stop → Stage → Type 0
 KeptEnd machine place ended (Some passed) before result after =
@@ -61,7 +65,7 @@ KeptEnd machine place ended None before result after =
     (result ≡ ended) × (counts_in after ≡ counts_in before)
     × (IsTrue before.trail.told → after.trail.list ≡ before.trail.list)
 
--- no content changes, nothing is launched and nothing asked for
+-- keeping the outcome changes no content, launches nothing and asks for nothing
 pub record KeptSo (machine : Machine) (place : ℕ) (ended : Result (Unit {0}) Stop) (before : Stage)
     (result : Result (Unit {0}) Stop) (after : Stage) : Type 0 where
   pub stays : StaysKept machine before after

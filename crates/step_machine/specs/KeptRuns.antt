@@ -1,4 +1,4 @@
--- How a procedure ends that recalls and keeps the outcomes of its free steps, by its play.
+-- How a procedure that recalls and keeps the outcomes of its free steps ends, by its play.
 use Rattle.std.specs.Prelude.{◌≡◌, ℕ, Bool, not, List, [], ◌∷◌, ◌++◌, map}
 use Rattle.suit_edge.specs.declared.launch.Launch.{Launch}
 use Rattle.suit_edge.specs.Ranges.{OutsideEach, Range}
@@ -13,7 +13,7 @@ use Rattle.step_machine.specs.Invoking.{launched_as}
 use Rattle.step_machine.specs.PlanRuns.{EndsAs, OutsideTargets}
 use Rattle.step_machine.specs.Stages.{Terms}
 
--- a setting, with a trail that is silent or is not
+-- the setting, in which keeping may fail unless the trail is silent
 abbrev pub terms_of : Bool → Setting → Terms
 terms_of silent setting = record { setting = setting; may_fail = not silent }
 
@@ -25,8 +25,8 @@ pub record KeptAt : Type 0 where
 abbrev pub kept_at : List (List ℕ) → List Bool → KeptAt
 kept_at contents left = record { contents = contents; left = left }
 
--- the launches that were gained and the names that were asked for are the play's, and so are the outcomes that were
--- recalled or kept
+-- the launches that were added and the names that were asked for are those of the play, and so are the outcomes that
+-- were recalled or kept
 pub record PlaysKept (plan : PlanTree) (terms : Terms) (end : PlanEnd) (before after : KeptAt)
     (launched now : List Launch) : Type 0 where
   pub gained : List Launch
@@ -39,13 +39,13 @@ pub record PlaysKept (plan : PlanTree) (terms : Terms) (end : PlanEnd) (before a
       (recalling after.left noted
       (record { contents = after.contents; launches = map launched_as gained; asked = asks }))
 
--- outside the slots that the procedure may write, and outside these places
+-- the place is outside the slots that the procedure may write, and outside these ranges
 abbrev pub OutsideWrites : PlanTree → List Standing → List Range → ℕ → Type 0
 OutsideWrites plan standings [] = OutsideTargets plan standings
 OutsideWrites plan standings (range ∷ ranges) =
     λ i. OutsideTargets plan standings i × OutsideEach (range ∷ ranges) i
 
--- where no directive failed, and no fault came
+-- the property holds, unless a directive failed or a fault came
 abbrev pub IfNoFault : PlanEnd → Type 0 → Type 0
 IfNoFault ends.Done P = P
 IfNoFault (ends.ConditionFailed place) P = P

@@ -1,4 +1,4 @@
--- The parts of a procedure.
+-- The plays of the parts of a procedure.
 use Rattle.std.specs.Prelude.{ℕ, Bool, true, false, List, Option, Some, None}
 use Rattle.suit_commands.specs.Tree.{CommandTree, Test, Act, Index, Override, TryEach, RunSequence, SequenceTree, BranchesTree, PlanTree}
 use Rattle.suit_commands.specs.declared.kinds.TestKind.{TestKind}
@@ -35,7 +35,7 @@ abbrev pub sequence_part : SequenceTree → ℕ → KeptPart
 sequence_part sequence count terms =
     sequence_play Recalling (keeping_tests terms) (keeping_acts terms) count sequence
 
--- a shared sequence or a member
+-- a member or the shared sequence
 abbrev pub starting_part : SequenceTree → ℕ → KeptPart
 starting_part sequence count terms =
     starting Recalling (keeping_tests terms) (keeping_acts terms) count sequence
@@ -58,7 +58,7 @@ kept_test_part kind place component terms = keeping_tests terms kind place compo
 abbrev pub kept_act_part : ActKind → ℕ → ℕ → KeptPart
 kept_act_part kind place component terms = keeping_acts terms kind place component
 
--- a command at one component; which are selected next is no matter of one
+-- a command at one component; set component index does nothing there
 abbrev pub at_part : CommandTree → ℕ → ℕ → ℕ → KeptPart
 at_part (Test kind report) count place component = kept_test_part kind place component
 at_part (Act kind report) count place component = kept_act_part kind place component
@@ -68,12 +68,13 @@ at_part (TryEach branches) count place component = branches_part branches count 
 at_part (RunSequence inner) count place component =
     λ terms. running_inner Recalling (sequence_part inner count terms) component
 
--- at each of these components
+-- a command at each of these components
 abbrev pub each_part : CommandTree → ℕ → ℕ → List ℕ → KeptPart
 each_part command count place components terms =
     each Recalling (λ c. at_part command count place c terms) components
 
--- how an inner sequence that was stopped stops the outer one, which holds this soft failure; not where it failed softly
+-- how the stop of an inner sequence stops the outer one, which has this soft failure; an inner one that failed softly
+-- does not
 abbrev pub passed_on : Stop → Bool → Option Stop
 passed_on (stops.Condition place true) soft_failure = None
 passed_on (stops.Condition place false) soft_failure = Some (stops.Condition place soft_failure)

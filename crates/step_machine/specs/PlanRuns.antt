@@ -20,7 +20,7 @@ use Rattle.step_machine.specs.Directives.{StopsSo}
 use Rattle.step_machine.specs.Invoking.{launched_as}
 use Rattle.step_machine.specs.Spots.{OutsideSpot}
 
--- the setting of components that stand so, with these payloads, these URIs and what each request is given
+-- the setting of these components, with these payloads, these names of files for URIs, and what each request is given
 abbrev pub setting_of : List Standing → List (List ℕ × List ℕ) → List (List ℕ × List ℕ)
     → (ℕ → List ℕ → Option (List ℕ)) → Setting
 setting_of standings payloads words files = record {
@@ -33,8 +33,8 @@ setting_of standings payloads words files = record {
 
 -- ---- by its play
 
--- Without a fault it ends as its play does from this world, and leaves what that leaves. With a fault it ends as some play
--- does that the fault cut short.
+-- Without a fault, the procedure ends as its play does from this world, and leaves the same. With a fault, it ends as
+-- the play may end when that fault cuts it short.
 abbrev pub EndsAs : {World : Type 0} → Play World → World → PlanEnd → World → Type 0
 EndsAs play before ends.Done after =
     (next : State) × ((play.comes first_state before).ending ≡ Done next)
@@ -45,18 +45,18 @@ EndsAs play before (ends.ConditionFailed place) after =
 EndsAs play before (ends.DirectiveFailed place cause) after =
     StopsSo play place first_state before cause after
 
--- no directive of the procedure was stopped by a fault of the flash
+-- no fault of the flash stopped the procedure
 abbrev pub IsUnfaulted : PlanEnd → Type 0
 IsUnfaulted (ends.DirectiveFailed place causes.FlashFault) = ⊥
 IsUnfaulted _ = Unit {0}
 
--- what each request is given: by a host that tells, its files each time, and so where no URI names one
+-- each request is given the host's file, if the host tells, or if no URI has the name of a file
 abbrev pub GivesAs : Bool → List (List ℕ × List ℕ) → (List ℕ → Option (List ℕ))
     → (ℕ → List ℕ → Option (List ℕ)) → Type 0
 GivesAs told words files given = IsTrue told ⊎ (words ≡ []) → given ≡ steady files
 
--- the contents before and after, and the launches before and after, of which those gained are the play's; and the names
--- that the play asks for, in order
+-- the procedure ends as its play does, with these contents before and after; the launches that were added are the
+-- play's, and so are the names that it asks for
 pub record PlaysPlan (plan : PlanTree) (setting : Setting) (end : PlanEnd)
     (before after : List (List ℕ)) (launched now : List Launch) : Type 0 where
   pub gained : List Launch
@@ -66,7 +66,7 @@ pub record PlaysPlan (plan : PlanTree) (setting : Setting) (end : PlanEnd)
       EndsAs (plan_play plan setting) (first_device before) end
       (record { contents = after; launches = map launched_as gained; asked = asks })
 
--- how a procedure ends of which a sequence ended so
+-- how a procedure ends if one of its sequences ended like this
 abbrev pub end_of : Result (Unit {0}) Stop → PlanEnd
 end_of (Ok _) = ends.Done
 end_of (Err (stops.Condition place soft_failure)) = ends.ConditionFailed place
@@ -74,6 +74,7 @@ end_of (Err (stops.Directive place cause)) = ends.DirectiveFailed place cause
 
 -- ---- counts of faults
 
+-- the counts of faults of the host, the flash and the launcher
 pub record Counts : Type 0 where
   pub host : ℕ
   pub disk : ℕ
@@ -82,7 +83,7 @@ pub record Counts : Type 0 where
 abbrev pub counts_of : ℕ → ℕ → ℕ → Counts
 counts_of host disk launcher = record { host = host; disk = disk; launcher = launcher }
 
--- the count rose of the object whose fault it was
+-- the count of faults rose of the object that failed
 abbrev pub CountsFor : Cause → Counts → Counts → Type 0
 CountsFor causes.HostFault before now =
     Faulted before.host now.host × (now.disk ≡ before.disk) × (now.launcher ≡ before.launcher)
@@ -92,19 +93,20 @@ CountsFor causes.LaunchFault before now =
     (now.host ≡ before.host) × (before.disk ≤ now.disk) × Faulted before.launcher now.launcher
 CountsFor _ before now = now ≡ before
 
+-- the counts of faults after a procedure that ended like this
 abbrev pub EndCounts : PlanEnd → Counts → Counts → Type 0
 EndCounts ends.Done before now = now ≡ before
 EndCounts (ends.ConditionFailed place) before now = now ≡ before
 EndCounts (ends.DirectiveFailed place cause) before now = CountsFor cause before now
 
--- a fault of the flash before the procedure or behind it: another object may have failed in the procedure
+-- the flash failed before the procedure or after it, and another object may have failed in the procedure
 abbrev pub FlashFailed : Counts → Counts → Type 0
 FlashFailed before now =
     (before.host ≤ now.host) × Faulted before.disk now.disk × (before.launcher ≤ now.launcher)
 
--- ---- the parts that it leaves alone
+-- ---- what the procedure leaves alone
 
--- outside the slots that the components stand for which the procedure may write
+-- the place is outside the slots of components that the procedure may write
 abbrev pub OutsideTargets : PlanTree → List Standing → ℕ → Type 0
 OutsideTargets plan standings i =
     (k : ℕ) (d : Standing) → k < length standings → IsTarget plan k

@@ -1,4 +1,4 @@
--- The effect of a part of a procedure on a device, from a moment to a later one.
+-- What a part of a procedure does to a device, from one moment to a later one.
 use Rattle.std.specs.Prelude.{◌≡◌, ◌⊎◌, ◌<◌, ◌-◌, ℕ, Bool, IsTrue, List, [], ◌∷◌, ◌++◌, Option, Some, Result, Ok, Err, length, map}
 use Rattle.std.specs.List.{AllByRecursion, range_with_len}
 use Rattle.suit_edge.specs.Flash.{Grows, Keeps}
@@ -32,17 +32,20 @@ use Rattle.step_machine.specs.Worlds.{AreStandings, StandAtMost}
 
 -- ---- a moment
 
+-- a host at a moment
 pub record HostAt : Type 0 where
   pub told : Bool
   pub files : List ℕ → Option (List ℕ)
   pub asked : Asked
   pub faults : ℕ
 
+-- a launcher at a moment
 pub record LauncherAt : Type 0 where
   pub told : Bool
   pub launches : List Launch
   pub faults : ℕ
 
+-- the objects that a procedure works with, at a moment
 pub record Moment : Type 1 where
   pub host : HostAt
   pub disk : DiskAt
@@ -55,12 +58,12 @@ moment host disk launcher ram = record { host = host; disk = disk; launcher = la
 abbrev pub counts_at : Moment → Counts
 counts_at m = counts_of m.host.faults m.disk.faults m.launcher.faults
 
--- the launches of a play so far, and the names that it asked for
+-- the launches of a play so far, and the names that it has asked for
 pub record Past : Type 0 where
   pub launches : List Launched
   pub asked : List (List ℕ)
 
--- the device of plays, after these
+-- the device of a play after these launches and requests
 abbrev pub device_at : Machine → Moment → Past → Device
 device_at machine m past = record {
   contents = contents_of machine.standings.now m.ram m.disk.flash.reads;
@@ -68,11 +71,12 @@ device_at machine m past = record {
   asked = past.asked;
 }
 
--- the launches of a part, and its requests of the host
+-- the launches of a part, and its requests to the host
 pub record Gained : Type 0 where
   pub launches : List Launch
   pub requests : List Request
 
+-- what a play has launched and asked for after a part
 abbrev pub followed : Past → Gained → Past
 followed past more = record {
   launches = past.launches ++ map launched_as more.launches;
@@ -93,7 +97,8 @@ state_of progress = record {
   soft_failure = progress.soft_failure;
 }
 
--- A source in force is one of the components, and the procedure names it as one. A URI in force is one that it sets.
+-- Each source in force is one of the components, and one that the procedure names. Each URI in force is one that it
+-- sets.
 pub record AreSources (machine : Machine) (parameters : Parameters) : Type 0 where
   pub components : (component source : ℕ) → component < 8
       → number_of (in_force parameters component keys.Source) ≡ Some source
@@ -103,17 +108,18 @@ pub record AreSources (machine : Machine) (parameters : Parameters) : Type 0 whe
       → bytes_of (in_force parameters component keys.Uri) ≡ Some uri
       → MaySet machine uri
 
+-- the sources in force and the selected components are components of the procedure
 pub record IsUnderWay (machine : Machine) (state : State) : Type 0 where
   pub sources : AreSources machine state.parameters
   pub selection : AllByRecursion (λ c. c < length machine.standings.now) state.selection
 
--- the components stand within this flash and this memory
+-- the components are within this flash and this working memory
 pub record IsReady (machine : Machine) (size : ℕ) (ram : List Held) : Type 0 where
   pub standings : AreStandings size ram machine.standings.now
   pub count : machine.program.now.count ≡ length machine.standings.now
 
--- the references are those that were lent, and a host is left alone where no name of a file is known, or no fetch stands in
--- the procedure
+-- the references are still those that were lent; the host is left alone if no URI has the name of a file, or if the
+-- procedure has no fetch
 pub record LeavesWork {H D L : Type 0} (machine : Machine) (before after : Work H D L) : Type 0 where
   pub unasked : machine.uris.now ≡ [] → after.host.now ≡ before.host.now
   pub unfetched : (MayFetch machine → ⊥) → after.host.now ≡ before.host.now
@@ -125,11 +131,11 @@ pub record LeavesWork {H D L : Type 0} (machine : Machine) (before after : Work 
 
 -- ---- from a moment to a later one
 
--- the files are known: the host tells of them, or no name of a file is, and it is left alone
+-- the files are known: the host tells them, or no URI has the name of a file, so that the host is left alone
 abbrev pub AreFilesKnown : Machine → Moment → Type 0
 AreFilesKnown machine at = IsTrue at.host.told ⊎ (machine.uris.now ≡ [])
 
--- the properties that hold however it ends, where it leaves these places alone
+-- what stays however the part ends, if it leaves these places alone
 pub record StaysOn (Left : ℕ → Type 0) (machine : Machine) (before after : Moment) : Type 0 where
   pub host : after.host.told ≡ before.host.told
   pub disk : after.disk.told ≡ before.disk.told
@@ -145,15 +151,16 @@ pub record StaysOn (Left : ℕ → Type 0) (machine : Machine) (before after : M
   pub keeps : IsTrue before.disk.told → Keeps Left before.disk.flash after.disk.flash
   pub grows : IsTrue before.disk.told → Grows before.disk.flash after.disk.flash
 
--- all but the slots that the procedure may write
+-- the place is outside the slots that the procedure may write
 abbrev pub OutsideWritten : Machine → ℕ → Type 0
 OutsideWritten machine =
     OutsideTargets (program_tree machine.program.now) machine.standings.now
 
+-- what stays however the part ends, outside the slots that the procedure may write
 abbrev pub Stays : Machine → Moment → Moment → Type 0
 Stays machine before after = StaysOn (OutsideWritten machine) machine before after
 
--- where it was stopped by a fault, the count of its object rose
+-- if a fault stopped the part, the count of faults rose of the object that failed
 abbrev pub StopCounts : Result (Unit {0}) Stop → Counts → Counts → Type 0
 StopCounts (Ok _) before now = now ≡ before
 StopCounts (Err (stops.Condition place soft_failure)) before now = now ≡ before
@@ -166,11 +173,12 @@ pub record Fits (machine : Machine) (setting : Setting) : Type 0 where
   pub payloads : ArePayloads machine.envelope setting.payloads
   pub words : setting.words ≡ machine.uris.now
 
+-- the play of a part, in each setting
 abbrev pub Part : Type 1
 Part = Setting → Play Device
 
--- The launches and the requests from one moment to a later one. In each setting that gives the requests so, the play comes
--- to that.
+-- The launches and requests from one moment to a later one. In each setting that gives the requests what they were
+-- given, the play comes to the same.
 pub record Goes (machine : Machine) (part : Part) (state : State) (before : Moment)
     (result : Result (Unit {0}) Stop) (next : State) (after : Moment) : Type 0 where
   pub more : Gained
@@ -183,6 +191,7 @@ pub record Goes (machine : Machine) (part : Part) (state : State) (before : Mome
       → Comes (part setting) state (device_at machine before past) result next
       (device_at machine after (followed past more))
 
+-- a part ran with this result, from one moment to a later one
 pub record RunsPart (machine : Machine) (part : Part) (state : State) (before : Moment)
     (result : Result (Unit {0}) Stop) (next : State) (after : Moment) : Type 0 where
   pub stays : Stays machine before after
@@ -191,7 +200,7 @@ pub record RunsPart (machine : Machine) (part : Part) (state : State) (before : 
   pub goes : IsTrue before.disk.told → IsTrue before.launcher.told
       → Goes machine part state before result next after
 
--- ---- where a directive stopped
+-- ---- a directive that stopped
 
 abbrev pub stopped : ℕ → Result (Unit {0}) Cause → Result (Unit {0}) Stop
 stopped place (Ok u) = Ok u

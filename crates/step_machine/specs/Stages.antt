@@ -1,4 +1,4 @@
--- The effect of a part of a procedure that recalls and keeps the outcomes of its free steps, from a stage to a later one.
+-- What a part of a procedure that recalls and keeps the outcomes of its free steps does, from one stage to a later one.
 use Rattle.std.specs.Prelude.{◌≡◌, ◌<◌, ◌≤◌, ◌+◌, ℕ, Bool, not, IfSome, IsTrue, List, ◌++◌, Option, Result, Ok, Err, length, get_or}
 use Rattle.suit_edge.specs.Ranges.{InSome, OutsideEach, Range}
 use Rattle.path_model.specs.Behaviour.{State}
@@ -18,7 +18,7 @@ use Rattle.step_machine.specs.Spots.{OutsideSpot}
 
 -- ---- a stage
 
--- the meanings of a trail
+-- the state of a trail
 pub record TrailAt : Type 1 where
   pub told : Bool
   pub silent : Bool
@@ -28,6 +28,7 @@ pub record TrailAt : Type 1 where
   pub ranges : List Range
   pub holds : List Bool → List ℕ → Type 0
 
+-- the objects that a procedure works with and its trail, at a moment
 pub record Stage : Type 1 where
   pub outside : Moment
   pub trail : TrailAt
@@ -38,30 +39,30 @@ stage outside trail = record { outside = outside; trail = trail }
 abbrev pub counts_in : Stage → Counts
 counts_in s = counts_at s.outside
 
--- the world of recalled plays, after these launches and requests, and these outcomes
+-- the world of a play that recalls, after these launches and requests, and with these outcomes
 abbrev pub world_at : Machine → Stage → Past → List Bool → Recalling
 world_at machine s past kept = recalling s.trail.left kept (device_at machine s.outside past)
 
--- ---- the needs of keeping
+-- ---- what keeping needs
 
--- outside the slots of all components
+-- the place is outside the slots of all components
 abbrev pub OutsideStandings : List Standing → ℕ → Type 0
 OutsideStandings standings i =
     (k : ℕ) (d : Standing) → k < length standings → OutsideSpot (get_or standings k d).spot i
 
--- the trail has places of its own, within the flash, where the flash bears its list
+-- the trail has ranges of its own within the flash, and the flash holds its list there
 pub record IsTrailed (machine : Machine) (s : Stage) : Type 0 where
   pub clear : (i : ℕ) → InSome s.trail.ranges i → OutsideStandings machine.standings.now i
   pub within : LieWithin s.outside.disk.size s.trail.ranges
   pub holds : IsTrue s.outside.disk.told
       → HoldsNow (s.trail.holds s.trail.list) s.outside.disk.flash
 
--- a trail that tells its list has room for so many outcomes more
+-- a trail that tells its list has room for this many more outcomes
 pub record HasRoom (s : Stage) (n : ℕ) : Type 0 where
   pub fits : IsTrue s.trail.told
       → IfSome s.trail.room (λ room. length s.trail.list + n ≤ room)
 
--- where the procedure may go on behind this
+-- the property holds, if the procedure may go on after this
 abbrev pub IfGoesOn : Result (Unit {0}) Stop → Type 0 → Type 0
 IfGoesOn (Ok _) P = P
 IfGoesOn (Err (stops.Condition place soft_failure)) P = P
@@ -69,10 +70,11 @@ IfGoesOn (Err (stops.Directive place cause)) P = Unit {0}
 
 -- ---- from a stage to a later one
 
--- the places that are left alone: all but the slots that the procedure may write and the places of the trail
+-- the place is outside the slots that the procedure may write, and outside the ranges of the trail
 abbrev pub OutsideKept : Machine → List Range → ℕ → Type 0
 OutsideKept machine ranges i = OutsideWritten machine i × OutsideEach ranges i
 
+-- what stays however the part ends, outside the slots that the procedure may write and outside the trail
 pub record StaysKept (machine : Machine) (before after : Stage) : Type 0 where
   pub outside :
       StaysOn (OutsideKept machine before.trail.ranges) machine before.outside after.outside
@@ -86,16 +88,17 @@ pub record Terms : Type 0 where
   pub setting : Setting
   pub may_fail : Bool
 
--- those of the machine and the trail
+-- the setting is that of the machine, and keeping may fail unless the trail is silent
 pub record FitsKept (machine : Machine) (silent : Bool) (terms : Terms) : Type 0 where
   pub setting : Fits machine terms.setting
   pub may_fail : terms.may_fail ≡ not silent
 
+-- the play of a part that recalls and keeps, in each setting
 abbrev pub KeptPart : Type 1
 KeptPart = Terms → Play Recalling
 
--- The launches, the requests and the outcomes from one stage to a later one. In each setting that gives the requests so, the
--- play comes to that.
+-- The launches, the requests and the outcomes from one stage to a later one. In each setting that gives the requests
+-- what they were given, the play comes to the same.
 pub record GoesKept (machine : Machine) (part : KeptPart) (state : State) (before : Stage)
     (result : Result (Unit {0}) Stop) (next : State) (after : Stage) : Type 0 where
   pub more : Gained
@@ -111,6 +114,7 @@ pub record GoesKept (machine : Machine) (part : KeptPart) (state : State) (befor
       → Comes (part terms) state (world_at machine before past kept) result next
       (world_at machine after (followed past more) (kept ++ noted))
 
+-- a part ran with this result, from one stage to a later one
 pub record RunsKept (machine : Machine) (part : KeptPart) (state : State) (before : Stage)
     (result : Result (Unit {0}) Stop) (next : State) (after : Stage) : Type 0 where
   pub stays : StaysKept machine before after
@@ -120,7 +124,7 @@ pub record RunsKept (machine : Machine) (part : KeptPart) (state : State) (befor
   pub goes : IsTrue before.outside.disk.told → IsTrue before.outside.launcher.told
       → GoesKept machine part state before result next after
 
--- it keeps at most so many outcomes: the room for others stays
+-- the part keeps at most this many outcomes, and leaves the room for others
 pub record Spends (work : ℕ) (before : Stage) (result : Result (Unit {0}) Stop) (after : Stage)
     : Type 0 where
   pub others : (n : ℕ) → HasRoom before (work + n) → IfGoesOn result (HasRoom after n)

@@ -1,4 +1,4 @@
--- Which URIs a procedure sets, and where it fetches.
+-- Which URIs a procedure sets, and whether it fetches.
 use Rattle.std.specs.Prelude.{◌≡◌, ◌⊎◌, ℕ, List, [], ◌∷◌}
 use Rattle.suit_params.specs.declared.param.Param.{Param}
 use Rattle.suit_params.specs.declared.param.Param.TheVariants as params
@@ -9,6 +9,7 @@ use Rattle.suit_commands.specs.Tree.{CommandTree, Test, Act, Index, Override, Tr
 
 -- ---- URIs that overrides set
 
+-- the list of parameters sets this URI
 abbrev pub NamesUri : List Param → List ℕ → Type 0
 NamesUri [] uri = ⊥
 NamesUri (params.Uri text ∷ list) uri = (uri ≡ text) ⊎ NamesUri list uri
@@ -34,9 +35,10 @@ abbrev mutual
 
 -- ---- of a procedure
 
+-- some sequence of the procedure sets this URI
 abbrev pub SetsUri : PlanTree → List ℕ → Type 0
 SetsUri plan uri = InSome plan (λ s. Sets s uri)
 
--- a fetch stands in some sequence of it
+-- some sequence of the procedure has a fetch
 abbrev pub HasFetch : PlanTree → Type 0
 HasFetch plan = InSome plan (HasAct acts.Fetch)

@@ -58,7 +58,7 @@ pub(crate) fn test<H: Host, D: Disk, L: Launcher>(
     }
 }
 
-// A directive with this result stops its sequence if it failed.
+// Turns the result of a directive into that of its sequence, which a failed directive stops.
 fn stopped(place: u64, came: Result<(), Cause>) -> Result<(), Stop>
     ensures { result ≡ stopped place came }
 {
@@ -68,7 +68,7 @@ fn stopped(place: u64, came: Result<(), Cause>) -> Result<(), Stop>
     }
 }
 
-// A copy or a swap, from the component that is named in force.
+// Runs a copy or a swap, with the source that is in force.
 fn act_from_source<H: Host, D: Disk, L: Launcher>(
     machine: &Machine<'_>,
     work: &mut Work<'_, H, D, L>,

@@ -1,4 +1,4 @@
-//! Reading contents in pieces, wherever they stand.
+//! Reads contents in pieces, from slots or working memory.
 
 ghost use Rattle.flash_slots.specs.Contents.{ResultCounts};
 ghost use Rattle.flash_slots.specs.RamContents.{held_by};
@@ -12,7 +12,7 @@ use flash_layout::FlashFault;
 use flash_slots::{Ram, read_some};
 use suit_edge::Disk;
 
-// Copies bytes from that one on, as many as fit in the room.
+// Copies the bytes from an index on, as many as fit into the room.
 fn copy_some(bytes: &[u8], from: usize, room: &mut [u8]) -> usize
     requires { from ≤ length bytes.now }
     ensures count { result ≡ min (length room.old) (length bytes.now - from) }
@@ -24,7 +24,7 @@ fn copy_some(bytes: &[u8], from: usize, room: &mut [u8]) -> usize
     count
 }
 
-// A piece of a content in working memory.
+// Reads a piece of a content in working memory.
 fn read_held(ram: &Ram, component: u32, size: usize, from: usize, room: &mut [u8]) -> usize
     requires component { component < length ram.now }
     requires size { size ≤ length (held_by ram.now component).content }
@@ -37,7 +37,7 @@ fn read_held(ram: &Ram, component: u32, size: usize, from: usize, room: &mut [u8
     copy_some(&content[..size], from, room)
 }
 
-// Reads so many of the first bytes, from one of them on, as much as fits in the room.
+// Reads a piece of the first `size` bytes, from an index on, as long as fits into the room. Returns its length.
 pub(crate) fn read_piece<D: Disk>(
     disk: &mut D,
     ram: &Ram,

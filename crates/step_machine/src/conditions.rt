@@ -48,7 +48,7 @@ fn is_digest(found: &Digest, digest: &Digest) -> bool
     found.bytes() == digest.bytes()
 }
 
-// Whether a content of so many bytes has the size, where there is one.
+// Whether a content of `count` bytes has the size, if there is one.
 fn has_size(count: u64, size: Option<u64>) -> bool
     ensures { (content : List ℕ) → count ≡ length content → result ≡ fits_size size content }
 {
@@ -58,7 +58,7 @@ fn has_size(count: u64, size: Option<u64>) -> bool
     }
 }
 
-// Whether the content has the size, where there is one, and the digest. A content of another size is not read.
+// Whether the content has the size, if there is one, and the digest. A content of another size is not read.
 fn has_image<D: Disk>(
     disk: &mut D,
     ram: &Ram,
@@ -82,7 +82,7 @@ fn has_image<D: Disk>(
     Ok(is_digest(&found, &digest))
 }
 
-// Whether the condition holds. The content is read through the room, if at all.
+// Whether the condition holds. Reads the content through the room, if it has to.
 fn holds_at<D: Disk>(
     disk: &mut D,
     ram: &Ram,
@@ -131,9 +131,11 @@ fn holds_at<D: Disk>(
     }
 }
 
-/// Whether a condition passes for a component, under the parameters in force
-/// (draft-ietf-suit-manifest-25, section 8.4.9). The content is read through the room, if at all, and nothing is
-/// changed. A fault of the flash comes only where the content had to be read.
+/// Returns whether a condition passes for a component, under the parameters in force (draft-ietf-suit-manifest-25,
+/// section 8.4.9).
+///
+/// Reads the content through `room` if it has to, and changes nothing. Returns an error only if the content had to be
+/// read.
 pub fn passes<D: Disk>(
     disk: &mut D,
     ram: &Ram,

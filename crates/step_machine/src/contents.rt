@@ -1,4 +1,4 @@
-//! Reading contents in parts, wherever they stand.
+//! Reads contents, from slots or working memory.
 
 ghost use Rattle.flash_slots.specs.Contents.{ResultCounts};
 ghost use Rattle.std.specs.Prelude.{◌≡◌, ◌<◌, ◌≤◌, IfOk, IsTrue, length, take};
@@ -15,7 +15,7 @@ use lane_bytes::same;
 use suit_edge::Disk;
 use suit_params::{Digest, DigestKind, hash};
 
-// The digest of so many of the first bytes of a room.
+// The digest of the first `size` bytes at a spot.
 pub(crate) fn digest_at<D: Disk>(
     disk: &mut D,
     ram: &Ram,
@@ -40,7 +40,7 @@ pub(crate) fn digest_at<D: Disk>(
     }
 }
 
-// How many bytes a content has.
+// The length of a content in bytes.
 pub(crate) fn length_at<D: Disk>(disk: &mut D, ram: &Ram, spot: Spot) -> Result<u64, FlashFault>
     requires spot { IsSpot (D.extent disk.old) ram.now spot }
     ensures read { ⟦<D as Steps>⟧.only_reads (ResultCounts result) disk.old disk.new }
@@ -76,7 +76,7 @@ pub(crate) fn same_at<D: Disk>(
     }
 }
 
-// A content has no more bytes than there is room for. The call does nothing: its contract is the law.
+// Does nothing. Its contract is the law: a content has no more bytes than there is room for.
 pub(crate) fn content_fits<D: Disk>(disk: &D, ram: &Ram, spot: Spot)
     requires { IsSpot (D.extent disk.now) ram.now spot }
     ensures { length (content_of spot ram.now (D.flash disk.now).reads) ≤ room_at spot ram.now }

@@ -1,4 +1,4 @@
-//! Copy: the content of a component becomes that of another.
+//! Copy: replaces the content of a component with that of another.
 
 ghost use Rattle.flash_layout.specs.Slots.{LiesWithin, extent_of, slot_content};
 ghost use Rattle.flash_slots.specs.Contents.{IsEmptyInEach, IsEmptySlot, ResultCounts, pieces_of};
@@ -129,7 +129,7 @@ fn copy_to_ram<D: Disk>(
     Ok(())
 }
 
-// Copies the first bytes of a source to a content, where there is room for them.
+// Copies the first bytes of a source to a spot that has room for them.
 fn copy_content<D: Disk>(
     disk: &mut D,
     ram: &mut Ram,
@@ -161,9 +161,11 @@ fn copy_content<D: Disk>(
     }
 }
 
-/// Copy: the content becomes that of the source, which is read through the room (draft-ietf-suit-manifest-25, section
-/// 8.4.10). Where it is refused nothing changes, and after a fault of the flash the component holds any content. The
-/// source stays. A power loss on the way leaves the slot empty, or its room as it was or whole.
+/// Copy: replaces the content of a component with that of the source (draft-ietf-suit-manifest-25, section 8.4.10),
+/// which is read through `room`.
+///
+/// If the copy is refused, nothing changes. After a fault of the flash the component may have any content. The source
+/// stays as it is. A power loss on the way leaves the slot empty, or its bytes as they were, or the whole new content.
 pub fn copy<D: Disk>(
     disk: &mut D,
     ram: &mut Ram,

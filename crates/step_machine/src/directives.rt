@@ -19,9 +19,11 @@ use suit_cursor::SliceParams;
 use suit_edge::Disk;
 use suit_params::ParamKey;
 
-/// Write: the content becomes the parameter (draft-ietf-suit-manifest-25, section 8.4.10). Where it is refused nothing
-/// changes, and after a fault of the flash the component holds any content. A power loss on the way leaves the slot empty,
-/// or its room as it was or whole.
+/// Write: replaces the content of a component with the parameter in force (draft-ietf-suit-manifest-25, section
+/// 8.4.10).
+///
+/// If the write is refused, nothing changes. After a fault of the flash the component may have any content. A power
+/// loss on the way leaves the slot empty, or its bytes as they were, or the whole new content.
 pub fn write<D: Disk>(
     disk: &mut D,
     ram: &mut Ram,

@@ -1,4 +1,4 @@
-//! Changing contents in place.
+//! Exchanges two contents in place.
 
 ghost use Rattle.flash_slots.specs.Contents.{ResultCounts};
 ghost use Rattle.std.specs.Prelude.{◌≡◌, ◌<◌, ◌≤◌, ◌+◌, IsTrue, OnOk, drop, length, take};
@@ -17,7 +17,7 @@ use flash_layout::FlashFault;
 use flash_slots::{Ram, overwrite};
 use suit_edge::Disk;
 
-// Extends a content in working memory to at least so many bytes: those behind its own are any.
+// Extends a content in working memory to at least `size` bytes. Bytes after its own are arbitrary.
 fn stretch(ram: &mut Ram, spot: Spot, size: u64)
     requires spot { IsHeld spot ram.old }
     requires fits { size ≤ room_at spot ram.old }
@@ -35,7 +35,7 @@ fn stretch(ram: &mut Ram, spot: Spot, size: u64)
     }
 }
 
-// Writes a piece over a room, from one of its bytes on.
+// Overwrites bytes in the room of a content, from an index on.
 fn write_piece<D: Disk>(
     disk: &mut D,
     ram: &mut Ram,
@@ -63,7 +63,7 @@ fn write_piece<D: Disk>(
     }
 }
 
-// What is left to exchange: the bytes from that one on, of so many in all.
+// What is left to exchange: the bytes from the index `from` on, out of `size`.
 #[derive(Clone, Copy)]
 struct Left {
     from: u64,
@@ -106,7 +106,7 @@ fn exchange_piece<D: Disk>(
     write_piece(disk, ram, other, from, room)
 }
 
-// Exchanges the first bytes of two rooms, and syncs them.
+// Exchanges the first bytes in the rooms of two contents, and syncs them.
 fn exchange_pieces<D: Disk>(
     disk: &mut D,
     ram: &mut Ram,
@@ -156,8 +156,8 @@ fn exchange_pieces<D: Disk>(
     sync_slots(disk, one, other)
 }
 
-// Exchanges two contents of these sizes, where there is room for each. Both slots are empty until both contents stand in
-// them: a power loss on the way leaves no slot with some bytes of each.
+// Exchanges two contents of these sizes, if there is room for each. Both slots are marked as empty until both contents
+// are complete, so that a power loss on the way leaves no slot with some bytes of each.
 pub(crate) fn exchange<D: Disk>(
     disk: &mut D,
     ram: &mut Ram,

@@ -32,7 +32,7 @@ fn is_key(uri: &[u8]) -> bool
     }
 }
 
-// Makes the payload with this key the content.
+// Replaces the content with the payload that has this key.
 fn fetch_payload<D: Disk>(
     disk: &mut D,
     ram: &mut Ram,
@@ -64,7 +64,7 @@ fn fetch_payload<D: Disk>(
     }
 }
 
-// Makes the file of this name the content. It is started first, so that nothing changes if there is none.
+// Replaces the content with the file of this name. The file is started first, so that nothing changes if there is none.
 fn fetch_named<H: Host, D: Disk>(
     host: &mut H,
     name: &str,
@@ -102,7 +102,7 @@ fn fetch_named<H: Host, D: Disk>(
     }
 }
 
-// Makes the file that answers the URI the content.
+// Replaces the content with the file that answers the URI.
 fn fetch_file<H: Host, D: Disk>(
     host: &mut H,
     disk: &mut D,
@@ -144,13 +144,17 @@ fn fetch_file<H: Host, D: Disk>(
     }
 }
 
-/// Fetch: the content becomes what the URI in force names (draft-ietf-suit-manifest-25, section 8.4.10): a payload of the
-/// envelope where it begins with `#`, and otherwise the file that answers it; without an envelope there are no payloads.
-/// Where there is none nothing changes. One that is too large leaves the content empty, a fault of the host leaves the old
-/// content or none, and one of the flash any. The host is asked once for that file, and for none under `#`; it may fail
-/// before. A host that does not tell what it holds gives some file, or none. At most one byte more is pulled than there is
-/// room for. Where there are no names of files the host is not called. A power loss on the way leaves the slot empty, or
-/// its room as it was, or the file whole.
+/// Fetch: replaces the content of a component with what the URI in force names (draft-ietf-suit-manifest-25, section
+/// 8.4.10). A URI that begins with `#` names a payload of the envelope; without an envelope there are none. Any other
+/// URI names the file that answers it.
+///
+/// If there is no such payload or file, nothing changes. One that is too large leaves the content empty, a fault of the
+/// host leaves the old content or none, and a fault of the flash leaves any. A power loss on the way leaves the slot
+/// empty, or its bytes as they were, or the whole file.
+///
+/// The host is asked for the file once, unless it fails before, and for nothing if the URI begins with `#`. At most one
+/// byte more is pulled than there is room for. A host that does not tell what it holds gives some file or none. If no
+/// URI has the name of a file, the host is not called.
 pub fn fetch<H: Host, D: Disk>(
     host: &mut H,
     disk: &mut D,

@@ -1,4 +1,4 @@
-//! Replacing a content.
+//! Replaces contents.
 
 ghost use Rattle.flash_layout.specs.Slots.{LiesWithin, extent_of, slot_content};
 ghost use Rattle.flash_slots.specs.Contents.{ResultCounts};
@@ -50,7 +50,7 @@ fn fill_ram(ram: &mut Ram, component: u32, bytes: &[u8])
     }
 }
 
-// Makes bytes a content, where there is room for them.
+// Replaces a content with bytes that there is room for.
 pub(crate) fn fill<D: Disk>(
     disk: &mut D,
     ram: &mut Ram,

@@ -5,7 +5,7 @@ ghost use Rattle.step_machine.specs.InUse.{AreInUse, slot_in_use};
 
 use flash_layout::{Entry, Layout, MOST_ENTRIES};
 
-// The slot of this number, where the component has a second one; otherwise its first.
+// The slot with this number if the component has two slots, or else its first.
 fn slot_in_use(entry: &Entry, number: u8) -> u8
     ensures { result ≡ slot_in_use entry.now number }
 {
@@ -16,7 +16,8 @@ fn slot_in_use(entry: &Entry, number: u8) -> u8
     }
 }
 
-/// The slot of its number, for each component of the layout. Behind the last there are zeros.
+/// The slot in use of each component of the layout, by the numbers in a record. After the last component there are
+/// zeros.
 pub fn slots_in_use(layout: &Layout, active: &[u8; MOST_ENTRIES]) -> [u8; MOST_ENTRIES]
     requires { length layout.now ≤ MOST_ENTRIES }
     ensures { AreInUse layout.now active.now result }

@@ -58,7 +58,7 @@ fn image_at<'a, D: Disk>(disk: &mut D, ram: &'a Ram, spot: Spot) -> Result<Image
     }
 }
 
-// ---- the parameters beside it
+// ---- the parameters of a launch
 
 fn digest_for(params: &SliceParams<'_>, component: u32) -> Option<Digest>
     requires { component < 8 }
@@ -103,8 +103,8 @@ fn outcome_of(launched: Launched) -> Result<(), Cause>
     }
 }
 
-/// Invoke: the content is handed to the launcher, with the digest, the size and the arguments in force
-/// (draft-ietf-suit-manifest-25, section 8.4.10). Where it fails nothing was launched.
+/// Invoke: hands the content to the launcher, with the digest, the size and the arguments in force
+/// (draft-ietf-suit-manifest-25, section 8.4.10). If it fails, nothing was launched.
 pub fn invoke<D: Disk, L: Launcher>(
     disk: &mut D,
     launcher: &mut L,

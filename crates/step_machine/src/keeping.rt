@@ -1,5 +1,5 @@
-//! Free steps of a running procedure: recalled, or done, and then their outcomes kept. A step is free where it looks at a
-//! content or makes one, or launches.
+//! Free steps of a running procedure: their outcomes are recalled from a trail, or kept there once the step is done. A
+//! step is free if it reads or replaces a content, or launches it.
 
 ghost use Rattle.std.specs.Prelude.{◌≡◌, ◌<◌, [], length};
 ghost use Rattle.step_machine.specs.Allowing.{MayFetch, MaySwap, MayWrite};
@@ -23,7 +23,7 @@ use suit_cursor::SliceParams;
 use suit_edge::{Disk, Edge, Host, Launcher};
 use suit_params::ParamKey;
 
-// Whether a condition looks at a content.
+// Whether a condition is free, since it reads the content.
 fn is_free_test(kind: TestKind, component: u32, params: &SliceParams<'_>) -> bool
     requires { component < 8 }
     ensures { result ≡ is_free_test kind component params.now }
@@ -35,7 +35,7 @@ fn is_free_test(kind: TestKind, component: u32, params: &SliceParams<'_>) -> boo
     }
 }
 
-// Whether a directive has its parameter.
+// Whether a directive is free, since it has the parameter that it needs.
 fn is_free_act(kind: ActKind, component: u32, params: &SliceParams<'_>) -> bool
     requires { component < 8 }
     ensures { result ≡ is_free_act kind component params.now }
@@ -48,7 +48,7 @@ fn is_free_act(kind: ActKind, component: u32, params: &SliceParams<'_>) -> bool
     }
 }
 
-// The outcome that is kept of a free step that ended so. That a directive failed is not kept.
+// The outcome to keep for a free step that ended like this. None is kept for a directive that failed.
 fn outcome_of(ended: &Result<(), Stop>) -> Option<bool>
     ensures { result ≡ outcome_of ended.now }
 {
@@ -59,7 +59,7 @@ fn outcome_of(ended: &Result<(), Stop>) -> Option<bool>
     }
 }
 
-// Keeps what became of a free step.
+// Keeps the outcome of a free step.
 fn kept<H: Host, D: Disk, L: Launcher, T: Trail>(
     machine: &Machine<'_>,
     work: &mut Work<'_, H, D, L>,
@@ -91,7 +91,7 @@ fn kept<H: Host, D: Disk, L: Launcher, T: Trail>(
     }
 }
 
-/// Tests a condition, or recalls what became of it.
+/// Tests a condition, or recalls its outcome.
 pub(crate) fn test_kept<H: Host, D: Disk, L: Launcher, T: Trail>(
     machine: &Machine<'_>,
     work: &mut Work<'_, H, D, L>,

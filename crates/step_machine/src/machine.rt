@@ -4,7 +4,8 @@ use crate::{Program, Standing, Uris};
 use flash_slots::Ram;
 use suit_envelope::Envelope;
 
-/// The procedure, where its components stand, and where payloads come from: the envelope's own, if it is given one, and files.
+/// The procedure, its components and where their contents stand, and where payloads come from: an envelope, if there is
+/// one, and files.
 #[derive(Clone, Copy)]
 pub(crate) struct Machine<'m> {
     pub program: &'m Program<'m>,
@@ -13,14 +14,14 @@ pub(crate) struct Machine<'m> {
     pub envelope: Option<&'m Envelope<'m>>,
 }
 
-/// Room for two pieces of contents.
+/// Buffers for two pieces of contents.
 #[derive(Drop)]
 pub(crate) struct Pieces {
     pub one: [u8; 4096],
     pub other: [u8; 4096],
 }
 
-/// The objects that a running procedure works with: host, flash, launcher, working memory, and room for pieces.
+/// The objects that a running procedure works with: the host, the flash, the launcher, working memory, and buffers.
 #[derive(Drop)]
 pub(crate) struct Work<'w, H, D, L> {
     pub host: &'w mut H,

@@ -1,20 +1,20 @@
-//! The flash beside a host and a launcher, and what calls leave of it.
+//! What contracts say of the flash, the host and the launcher, before and after calls.
 
 use flash_layout::Trail;
 use suit_edge::{Disk, Host, Launcher};
 
-/// Moments of a flash beside a host and a launcher.
+/// Moments of a flash, together with a host and a launcher.
 pub(crate) trait Moments<H: Host, L: Launcher>: Disk {
     ghost use Rattle.flash_slots.specs.RamContents.{Held};
     ghost use Rattle.std.specs.Prelude.{List};
     ghost use Rattle.step_machine.specs.Running.{Moment};
     ghost use Rattle.step_machine.specs.declared.machine.Work.{Work};
 
-    /// The files, what was asked of them, the contents and the launches that are told of, and the counts of faults, with
-    /// this in working memory.
+    /// The state of all three at a moment, with this in working memory: the files and the requests for them, the
+    /// contents, the launches, and the counts of faults.
     ghost at: { H → Self → L → List Held → Moment };
 
-    /// The same of the objects that a running procedure works with.
+    /// The same for the objects that a running procedure works with.
     ghost of_work: { Work H Self L → Moment };
 }
 
@@ -48,17 +48,17 @@ impl<H: Host, D: Disk, L: Launcher> Moments<H, L> for D {
         }) work.ram.now };
 }
 
-/// Stages of a procedure: moments of what it works with, beside a trail.
+/// Stages of a procedure: moments of the objects that it works with, together with a trail.
 pub(crate) trait Stages<H: Host, L: Launcher, T: Trail>: Disk {
     ghost use Rattle.flash_slots.specs.RamContents.{Held};
     ghost use Rattle.std.specs.Prelude.{List};
     ghost use Rattle.step_machine.specs.Stages.{Stage};
     ghost use Rattle.step_machine.specs.declared.machine.Work.{Work};
 
-    /// The moment, with this in working memory, and the meanings of the trail.
+    /// The moment, with this in working memory, and the state of the trail.
     ghost at: { H → Self → L → List Held → T → Stage };
 
-    /// The same of the objects that a running procedure works with.
+    /// The same for the objects that a running procedure works with.
     ghost of_work: { Work H Self L → T → Stage };
 }
 
@@ -86,14 +86,15 @@ impl<H: Host, D: Disk, L: Launcher, T: Trail> Stages<H, L, T> for D {
     }) };
 }
 
-/// Calls of a flash, from before to behind.
+/// What calls do to a flash.
 pub trait Steps: Disk {
     ghost use Rattle.std.specs.Prelude.{ℕ};
 
-    /// It was only read, and its count of faults is so.
+    /// The flash was only read, and its count of faults went from before to after as the relation says.
     ghost only_reads: { (ℕ → ℕ → Type 0) → Self → Self → Type 0 };
 
-    /// Its size and its moments stay, and its count of faults is so.
+    /// The flash keeps its size and the images of past moments, and its count of faults went from before to after as
+    /// the relation says.
     ghost goes_on: { (ℕ → ℕ → Type 0) → Self → Self → Type 0 };
 }
 
@@ -109,11 +110,11 @@ impl<D: Disk> Steps for D {
         (disk_at D.told (D.extent b) (D.flash b) (D.faults b)) };
 }
 
-/// Calls of a host, from before to behind.
+/// What calls do to a host.
 pub(crate) trait Pulls: Host {
     ghost use Rattle.std.specs.Prelude.{ℕ};
 
-    /// Its files stay, and at most one byte more than these was pulled.
+    /// The host keeps its files, and at most one byte more than this number was pulled.
     ghost pulls: { ℕ → Self → Self → Type 0 };
 }
 

@@ -8,7 +8,7 @@ ghost use Rattle.suit_params.specs.InForce.{IsOverridden};
 use crate::progress::Progress;
 use suit_cursor::ParamView;
 
-/// Overrides a component's parameters, and soft failure where the list has it.
+/// Overrides a component's parameters, and soft failure if the list sets it.
 pub(crate) fn override_with<'p>(component: u32, list: ParamView<'p>, state: &mut Progress<'p>)
     requires { component < 8 }
     ensures after { state_of state.new

@@ -17,7 +17,7 @@ use path_model::Cause;
 use suit_edge::Disk;
 use suit_envelope::{Envelope, payload};
 
-// The envelope's payload with the key of these bytes. Bytes that are no text are no key.
+// The envelope's payload whose key has these bytes. Bytes that are not text are no key.
 fn payload_with<'a>(envelope: &Envelope<'a>, key: &[u8]) -> Option<&'a [u8]>
     ensures { (payloads : List (List ℕ × List ℕ)) → HasPayloads envelope.now.whole.now payloads
         → option_map (λ content. content.now) result ≡ found_under payloads key.now }
@@ -26,7 +26,7 @@ fn payload_with<'a>(envelope: &Envelope<'a>, key: &[u8]) -> Option<&'a [u8]>
     payload(envelope, text)
 }
 
-// The payload with this key, where payloads may be fetched.
+// The payload with this key, if there is an envelope to fetch from.
 pub(crate) fn payload_of<'a>(envelope: Option<&Envelope<'a>>, key: &[u8]) -> Option<&'a [u8]>
     ensures { (payloads : List (List ℕ × List ℕ)) → ArePayloads envelope.entry payloads
         → option_map (λ content. content.now) result ≡ found_under payloads key.now }
@@ -37,7 +37,7 @@ pub(crate) fn payload_of<'a>(envelope: Option<&Envelope<'a>>, key: &[u8]) -> Opt
     }
 }
 
-// Makes the payload the content. One that is too large leaves the content empty.
+// Replaces the content with the payload. One that is too large leaves the content empty.
 pub(crate) fn fill_with<D: Disk>(
     disk: &mut D,
     ram: &mut Ram,

@@ -6,8 +6,8 @@ ghost use Rattle.step_machine.specs.Fetching.{GivesPiece, PieceCounts, PullsPiec
 use path_model::Cause;
 use suit_edge::{Host, Pulled};
 
-// Pulls the next piece of the file to the front of the room, where at most so many bytes are wanted; none at its end.
-// At most one byte more is asked for, and a file that has it is too large.
+// Pulls the next piece of the file into the front of the room. Returns its length, which is 0 at the end of the file.
+// Asks for at most one byte more than the `left` bytes that are wanted, and a file that has it is too large.
 pub(crate) fn next_piece<H: Host>(host: &mut H, left: u64, room: &mut [u8]) -> Result<usize, Cause>
     requires room { 0 < length room.old }
     ensures few { IfOk result (λ n. n ≤ left) }

@@ -2,14 +2,14 @@
 
 use path_model::Cause;
 
-/// How a procedure ended. The place in the envelope is that of the innermost command that failed, or that of a try each
-/// none of whose sequences completed.
+/// How a procedure ended. The place is the byte offset in the envelope of the innermost command that failed, or of a
+/// try each in which no sequence completed.
 #[derive(Clone, Copy, Debug, PartialEq, Eq)]
 pub enum PlanEnd {
     /// Every command is done.
     Done,
     /// A condition failed.
     ConditionFailed { place: u64 },
-    /// A directive failed, or a fault came at a condition.
+    /// A directive failed, or a fault of the outside came in a condition.
     DirectiveFailed { place: u64, cause: Cause },
 }

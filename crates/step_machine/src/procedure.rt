@@ -32,7 +32,7 @@ use flash_slots::Ram;
 use suit_cursor::{LentSequence, SliceParams};
 use suit_edge::{Disk, Host, Launcher};
 
-// Runs a member or the shared sequence, where there is one. It begins with component 0 selected and soft failure false.
+// Runs a member or the shared sequence, if it is present. It begins with component 0 selected and soft failure false.
 fn part<'p, H: Host, D: Disk, L: Launcher, T: Trail>(
     machine: &Machine<'_>,
     work: &mut Work<'_, H, D, L>,
@@ -203,15 +203,16 @@ fn end_of(ended: Result<(), Stop>) -> PlanEnd
     }
 }
 
-/// Runs a procedure on a device (draft-ietf-suit-manifest-25, section 6.4). It ends as its play on the contents does, and
-/// leaves the contents and makes the launches that its play has. Where a fault comes it ends there, as a play that the
-/// fault cut short. The host is called only where a fetch stands in the procedure and a URI names a file, and is asked for the
-/// files of the play's fetches, in order, and for no others. A host that does not tell what it holds gives each request some
-/// file, or none. Takes no memory.
+/// Runs a procedure on a device (draft-ietf-suit-manifest-25, section 6.4).
 ///
-/// The first free steps are recalled from the trail, as many as it holds outcomes. They touch no content and launch nothing.
-/// The outcome of each further free step is kept in it, behind the step: of a condition whether it passed, and of a directive
-/// that it was done. A trail that keeps nothing leaves the play as it is.
+/// It ends as its play on the contents does, with the same contents and launches. A fault of the outside ends it like a
+/// play that the fault cuts short. The host is called only if the procedure has a fetch and some URI has the name of a
+/// file. It is asked for the files of the play's fetches, in order, and for no others. A host that does not tell what
+/// it holds gives some file or none for each request. Does not allocate.
+///
+/// The first free steps are recalled from the trail, as many as it has outcomes for. These touch no content and launch
+/// nothing. The outcome of each further free step is kept in the trail after the step: for a condition whether it
+/// passed, and for a directive that it was done. A trail that keeps nothing does not change the play.
 pub fn run_plan<H: Host, D: Disk, L: Launcher, T: Trail>(
     host: &mut H,
     disk: &mut D,
@@ -223,7 +224,7 @@ pub fn run_plan<H: Host, D: Disk, L: Launcher, T: Trail>(
     requires standings { AreStandings (D.extent disk.old) world.old.ram world.old.standings.items }
     requires plan { IsPlan (program_tree program) }
     requires count { program.count ≡ length world.old.standings.items }
-    // the trail has places of its own
+    // The trail has ranges of its own.
     requires clear { (i : ℕ) → InSome (T.ranges trail.old) i
         → OutsideStandings world.old.standings.items i }
     requires within { LieWithin (D.extent disk.old) (T.ranges trail.old) }

@@ -4,8 +4,8 @@ ghost use Rattle.std.specs.Prelude.{◌≡◌};
 
 use suit_cursor::LentSequence;
 
-/// A procedure, lent by bytes that were judged: its three members in their order, the shared sequence that is run before
-/// each of them, and the number of components. An absent sequence is an empty one.
+/// A procedure that is lent by bytes that were judged: its three members in order, the shared sequence that is run
+/// before each of them, and the number of components. An absent sequence counts as an empty one.
 #[derive(Drop)]
 pub struct Program<'a> {
     pub shared: Option<LentSequence<'a>>,

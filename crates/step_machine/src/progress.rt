@@ -12,7 +12,7 @@ use suit_cursor::{LentIndices, LentSelection, SliceParams};
 #[derive(Drop)]
 pub(crate) enum Selected<'p> {
     One(u32),
-    /// Those from the first on, up to the second, which is none of them.
+    /// The components from the first number up to the second, which is excluded.
     Range(u32, u32),
     Listed(LentIndices<'p>),
 }
@@ -26,7 +26,7 @@ pub(crate) struct Progress<'p> {
 }
 
 impl<'p> Selected<'p> {
-    /// Those that a selection names, of so many components.
+    /// The components that a command selects, out of `count`.
     pub(crate) fn by(selection: LentSelection<'p>, count: u32) -> Selected<'p>
         ensures { selected_list result ≡ selected_by (selection_of selection.entry) count }
     {
@@ -49,7 +49,7 @@ impl<'p> Selected<'p> {
         }
     }
 
-    /// The next one. `None` stands exactly at the end.
+    /// Takes the next component, or returns `None` at the end.
     pub(crate) fn next(&mut self) -> Option<u32>
         ensures { LendsIndex (selected_list self.old) (selected_list self.new) result }
     {
@@ -74,7 +74,7 @@ impl<'p> Selected<'p> {
 }
 
 impl<'p> Progress<'p> {
-    /// Begins an inner sequence, with one component selected. Answers the state of the outer one.
+    /// Begins an inner sequence, with one component selected. Returns the state of the outer one.
     pub(crate) fn enter(&mut self, component: u32, soft_failure: bool) -> Progress<'p>
         ensures outer { result ≡ self.old }
         ensures inner { state_of self.new ≡ entry_state (state_of self.old) component soft_failure }
@@ -90,7 +90,8 @@ impl<'p> Progress<'p> {
         }
     }
 
-    /// Goes on with the outer sequence behind an inner one, whose parameters stay in force.
+    /// Goes on with the outer sequence after an inner one that completed. The parameters of the inner one stay in
+    /// force.
     pub(crate) fn leave(&mut self, outer: &mut Progress<'p>)
         ensures { self.new ≡ record outer.old { params = self.old.params } }
     {

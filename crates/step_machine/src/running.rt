@@ -23,7 +23,7 @@ use flash_layout::Trail;
 use suit_cursor::{LentBranch, LentBranches, LentCommand, LentSequence};
 use suit_edge::{Disk, Host, Launcher};
 
-// How a stopped inner sequence stops the outer one; none if it failed softly.
+// How the stop of an inner sequence stops the outer one. `None` if the inner one failed softly.
 fn passed_on(stop: Stop, soft_failure: bool) -> Option<Stop>
     ensures { result ≡ passed_on stop soft_failure }
 {
@@ -75,7 +75,7 @@ pub(crate) fn sequence<'p, H: Host, D: Disk, L: Launcher, T: Trail>(
     Ok(())
 }
 
-// Does a command.
+// Runs a command.
 #[cycle(running)]
 fn command<'p, H: Host, D: Disk, L: Launcher, T: Trail>(
     machine: &Machine<'_>,
@@ -119,7 +119,7 @@ fn command<'p, H: Host, D: Disk, L: Launcher, T: Trail>(
     }
 }
 
-// Does a command at each selected component.
+// Runs a command at each selected component.
 #[cycle(running)]
 fn each<'p, H: Host, D: Disk, L: Launcher, T: Trail>(
     machine: &Machine<'_>,
@@ -161,7 +161,7 @@ fn each<'p, H: Host, D: Disk, L: Launcher, T: Trail>(
     Ok(())
 }
 
-// Does a command at one component.
+// Runs a command at one component.
 #[cycle(running)]
 fn at<'p, H: Host, D: Disk, L: Launcher, T: Trail>(
     machine: &Machine<'_>,
@@ -262,7 +262,7 @@ fn run_inner<'p, H: Host, D: Disk, L: Launcher, T: Trail>(
     }
 }
 
-// Tries the sequences in order.
+// Runs a try each: tries its sequences in order.
 #[cycle(running)]
 fn try_each<'p, H: Host, D: Disk, L: Launcher, T: Trail>(
     machine: &Machine<'_>,

@@ -1,4 +1,4 @@
-//! The sizes of two contents that are changed in place.
+//! Lengths of two contents that are exchanged in place.
 
 ghost use Rattle.flash_slots.specs.Contents.{ResultCounts};
 ghost use Rattle.std.specs.Prelude.{◌≡◌, ◌≤◌, IsTrue, OnOk, take};
@@ -25,7 +25,7 @@ fn sync<D: Disk>(disk: &mut D) -> Result<(), FlashFault>
     }
 }
 
-// Syncs all that was written, where one of the two is a slot.
+// Syncs all pending writes, if one of the two is a slot.
 pub(crate) fn sync_slots<D: Disk>(disk: &mut D, one: Spot, other: Spot) -> Result<(), FlashFault>
     ensures read { ⟦<D as Steps>⟧.only_reads (ResultCounts result) disk.old disk.new }
     ensures settled { IsTrue D.told → OnOk result (IsSettledAt one (D.flash disk.new)) }
@@ -70,7 +70,7 @@ pub(crate) fn empty_slots<D: Disk>(disk: &mut D, one: Spot, other: Spot) -> Resu
     sync_slots(disk, one, other)
 }
 
-// Makes the first bytes of a room its content.
+// Makes the first bytes in the room of a content that content.
 fn set_size<D: Disk>(disk: &mut D, ram: &mut Ram, spot: Spot, size: u64) -> Result<(), FlashFault>
     requires spot { IsSpot (D.extent disk.old) ram.old spot }
     requires within { size ≤ size_at spot ram.old }
@@ -92,7 +92,7 @@ fn set_size<D: Disk>(disk: &mut D, ram: &mut Ram, spot: Spot, size: u64) -> Resu
     }
 }
 
-// Makes the first bytes of two rooms their contents, and syncs their lengths.
+// Makes the first bytes in the rooms of two contents these contents, and syncs their lengths.
 pub(crate) fn set_sizes<D: Disk>(
     disk: &mut D,
     ram: &mut Ram,

@@ -3,7 +3,7 @@
 use crate::Uris;
 use suit_envelope::Envelope;
 
-/// The payloads of an envelope, if it is given one, and files by their URIs.
+/// An envelope with payloads, if there is one, and files by their URIs.
 #[derive(Clone, Copy)]
 pub struct Sources<'s> {
     pub envelope: Option<&'s Envelope<'s>>,

@@ -12,7 +12,7 @@ pub enum Spot {
     Ram(u32),
 }
 
-/// A component in a procedure: its index in the manifest, what it is, how many bytes it has room for, and where its
+/// A component in a procedure: its index in the manifest, its identity, how many bytes it has room for, and where its
 /// content stands.
 #[derive(Clone, Copy, Debug, PartialEq, Eq)]
 pub struct Standing {
@@ -23,7 +23,7 @@ pub struct Standing {
 }
 
 impl Default for Standing {
-    /// A component of no room, with no identifiers.
+    /// A component without room and without identifiers.
     fn default() -> Standing {
         Standing {
             component: 0,

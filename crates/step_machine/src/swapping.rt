@@ -1,4 +1,4 @@
-//! Swap: the contents of two components are exchanged.
+//! Swap: exchanges the contents of two components.
 
 ghost use Rattle.std.specs.Prelude.{◌≡◌, ◌<◌, IsTrue, length};
 ghost use Rattle.step_machine.specs.Copying.{AreApart, IsRamButBoth, OutsideBoth, SwapsAs, side_of};
@@ -15,10 +15,12 @@ use flash_slots::Ram;
 use path_model::Cause;
 use suit_edge::Disk;
 
-/// Swap: the contents of the component and of the source are exchanged in place, through two rooms
-/// (draft-ietf-suit-manifest-25, section 8.4.10). Where it is refused nothing changes, and after a fault of the flash both
-/// hold any content. A power loss on the way leaves each slot empty, or its room as it was or whole: no slot has a length
-/// and some bytes of each content.
+/// Swap: exchanges the contents of a component and of the source in place, through two buffers
+/// (draft-ietf-suit-manifest-25, section 8.4.10).
+///
+/// If the swap is refused, nothing changes. After a fault of the flash both may have any content. A power loss on the
+/// way leaves each slot empty, or its bytes as they were, or its whole new content: no slot has a length and some bytes
+/// of each content.
 pub fn swap<D: Disk>(
     disk: &mut D,
     ram: &mut Ram,

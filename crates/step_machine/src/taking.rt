@@ -1,4 +1,4 @@
-//! Reading a started file into a content.
+//! Reads a started file into a content.
 
 ghost use Rattle.flash_layout.specs.Slots.{LiesWithin, extent_of, slot_content};
 ghost use Rattle.flash_slots.specs.Contents.{IsEmptyInEach, IsEmptySlot, pieces_of};
@@ -64,7 +64,8 @@ fn append_file<H: Host, D: Disk>(
     }
 }
 
-// Makes the file a slot's content. If it stops, the slot is empty, or holds any content after a fault of the flash.
+// Replaces a slot's content with the file. If that stops, the slot is empty, or has any content after a fault of the
+// flash.
 fn take_into_slot<H: Host, D: Disk>(
     host: &mut H,
     disk: &mut D,
@@ -133,7 +134,7 @@ fn append_file_in_ram<H: Host>(
     }
 }
 
-// Makes the file the content of a component in working memory, which is emptied if it stops.
+// Replaces a content in working memory with the file. If that stops, the content is empty.
 fn take_into_ram<H: Host>(
     host: &mut H,
     ram: &mut Ram,
@@ -164,7 +165,7 @@ fn take_into_ram<H: Host>(
 
 // ---- either
 
-// Makes the file the content, piece by piece. At most one byte more is pulled than there is room for.
+// Replaces a content with the file, piece by piece. Pulls at most one byte more than there is room for.
 pub(crate) fn take_into<H: Host, D: Disk>(
     host: &mut H,
     disk: &mut D,

@@ -43,7 +43,7 @@ fn entry(entry: &Entry)
     is_identifier(&entry.device);
 }
 
-/// The components of a layout have identifiers of sixteen bytes.
+/// Changes nothing. Its contract says that the components of a layout have identifiers of sixteen bytes.
 pub fn has_identifiers(layout: &Layout)
     ensures { All HasIdentifiers layout.now }
 {

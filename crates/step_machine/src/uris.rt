@@ -8,7 +8,7 @@ use det_cbor::{List, Text};
 /// The files that answer URIs: each URI with the name of its file. If a URI is listed twice, the first counts.
 pub type Uris = List<(Text, Text)>;
 
-/// The name of the file that answers the URI of these bytes.
+/// The name of the file that answers the URI with these bytes.
 pub(crate) fn name_of<'a>(uris: &'a Uris, uri: &[u8]) -> Option<&'a str>
     ensures { option_map (λ name. name.now) result ≡ found_under uris.now uri.now }
 {

@@ -14,14 +14,15 @@ use path_model::Identity;
 use std::alloc::{AllocError, Global};
 use suit_envelope::Envelope;
 
-/// The number of the slot that each component of the layout stands for, 0 or 1; 0 in working memory and behind the last.
+/// The number of the slot that each component of the layout stands for: 0 or 1, 0 for working memory, and 0 after the
+/// last.
 #[derive(Clone, Copy, Debug, PartialEq, Eq)]
 pub struct SlotChoice {
     pub number: [u8; MOST_ENTRIES],
 }
 
-/// The frame of the flash, the components of a procedure and where their contents stand, the contents in working memory,
-/// and where payloads come from: those of an envelope, if there is one, and files by their URIs.
+/// The frame of the flash, the components of a procedure and where their contents stand, the contents in working
+/// memory, and where payloads come from: an envelope, if there is one, and files by their URIs.
 #[derive(Drop)]
 pub struct World<'a> {
     pub(crate) frame: Frame,
@@ -31,7 +32,7 @@ pub struct World<'a> {
     pub(crate) envelope: Option<&'a Envelope<'a>>,
 }
 
-// The list of a component's starts has room for two.
+// Does nothing. Its contract says that the list of a component's starts has two entries.
 fn has_two(entry: &Entry)
     ensures { length entry.now.starts ≡ 2 }
 {
@@ -70,7 +71,7 @@ fn standing_of(entry: &Entry, component: u32, index: u32, number: u8) -> Standin
     }
 }
 
-// Where the components stand, in the manifest's order.
+// The components and where their contents stand, in the manifest's order.
 fn stand(layout: &Layout, places: &Places, slots: &SlotChoice) -> ArrayVec<Standing, MAX_COMPONENTS>
     requires places { AreDistinct layout.now places.now }
     requires slots { IsChoice layout.now slots.now }
@@ -89,9 +90,9 @@ fn stand(layout: &Layout, places: &Places, slots: &SlotChoice) -> ArrayVec<Stand
 }
 
 impl<'a> World<'a> {
-    /// The components of a manifest that have these places in the layout, each standing for the chosen slot. Contents in
-    /// working memory are empty. Payloads are those of the envelope; without one there are none. All memory that a procedure
-    /// needs is taken here.
+    /// The world of a procedure whose components have these places in the layout and stand for the chosen slots.
+    /// Contents in working memory are empty. Payloads are those of the envelope; without one there are none. Allocates
+    /// all memory that the procedure needs.
     pub fn new(
         alloc: Global,
         layout: &Layout,
@@ -120,8 +121,8 @@ impl<'a> World<'a> {
         Ok(World::with_ram(ram, layout, frame, places, slots, uris, envelope))
     }
 
-    /// The same, where the contents in working memory stand in memory that was made for the layout before (`Ram::new`). They
-    /// stay as they are. Takes no memory.
+    /// Like `new`, with contents in memory that was made for the layout before (`Ram::new`). They stay as they are.
+    /// Does not allocate.
     pub fn with_ram(
         ram: Ram,
         layout: &Layout,

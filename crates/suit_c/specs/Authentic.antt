@@ -4,13 +4,13 @@ use Rattle.suit_envelope.specs.Authentic.{IsAuthentic}
 use Rattle.suit_envelope.specs.Envelopes.{EnvelopeSays}
 use Rattle.suit_envelope.specs.Said.{EnvelopeOf}
 
--- the bytes spell an envelope that is authentic
+-- the bytes spell an envelope that is authentic under the key
 pub record IsAuthenticFile (bytes key : List ℕ) : Type 0 where
   pub said : EnvelopeSays
   pub envelope : EnvelopeOf bytes said
   pub authentic : IsAuthentic said.wrapper said.manifest key
 
--- they spell one that is not
+-- the bytes spell an envelope that is not authentic under the key
 pub record IsNoAuthenticFile (bytes key : List ℕ) : Type 0 where
   pub said : EnvelopeSays
   pub envelope : EnvelopeOf bytes said

@@ -14,12 +14,12 @@ use Rattle.suit_manifest.specs.declared.manifest.Manifest.{Manifest}
 use Rattle.suit_params.specs.Refusing.{RefusesWhole, SaysWhole}
 use Rattle.suit_params.specs.declared.refusal.Refusal.{Refusal}
 
--- the bytes spell an envelope, and its manifest's bytes this manifest
+-- the bytes spell an envelope, whose manifest is this one
 pub record IsFile (bytes : List ℕ) (said : EnvelopeSays) (manifest : Manifest) : Type 0 where
   pub envelope : EnvelopeOf bytes said
   pub says : SaysWhole IsManifest said.manifest_place said.manifest manifest
 
--- the numbers of what they spell
+-- these are the numbers of the envelope that the bytes spell
 pub record IsReadAs (bytes : List ℕ) (numbers : SuitEnvelope) : Type 0 where
   pub said : EnvelopeSays
   pub manifest : Manifest
@@ -34,17 +34,17 @@ pub record IsReadAs (bytes : List ℕ) (numbers : SuitEnvelope) : Type 0 where
       × (numbers.digest_length ≡ size_of (digest_kind stated))
   pub components : numbers.components ≡ length manifest.components
 
--- the manifest lies in the bytes
+-- the manifest is within the bytes
 abbrev pub ManifestLiesIn : List ℕ → SuitEnvelope → Type 0
 ManifestLiesIn bytes numbers = numbers.manifest_place + numbers.manifest_length ≤ length bytes
 
--- the envelope's grammar refuses the bytes, or the manifest's those of the manifest
+-- the bytes are refused as an envelope, or its manifest is refused
 abbrev pub IsRefusedFor : List ℕ → Refusal → Type 0
 IsRefusedFor bytes r =
     RefusesBytes bytes r
     ⊎ (said : EnvelopeSays) × EnvelopeOf bytes said
     × RefusesWhole RefusesManifest said.manifest_place said.manifest r
 
--- they are refused at this place
+-- the bytes are refused at this place
 abbrev pub IsRefusedAt : List ℕ → ℕ → Type 0
 IsRefusedAt bytes place = (r : Refusal) × IsRefusedFor bytes r × (place ≡ r.place)

@@ -1,4 +1,4 @@
--- The record of a flash, as it is told in C.
+-- The record of a flash, as it is told to C.
 use Rattle.std.specs.Prelude.{◌≡◌, ℕ, List, Option, Some, None, length}
 use Rattle.flash_layout.specs.ConfigPage.{padded}
 use Rattle.flash_layout.specs.Configs.{FrameOf}
@@ -10,7 +10,7 @@ use Rattle.suit_params.specs.DigestKinds.{size_of}
 use Rattle.rollback_record.specs.HeadRecord.{HoldsNone, HoldsRecord}
 use Rattle.suit_c.specs.declared.status.SuitRecord.{SuitRecord}
 
--- a record is told so
+-- this is what C is told of a record
 pub record IsRecordAs (r : Record) (out : SuitRecord) : Type 0 where
   pub sequence : out.sequence ≡ r.sequence
   pub generation : out.generation ≡ r.generation
@@ -20,17 +20,17 @@ pub record IsRecordAs (r : Record) (out : SuitRecord) : Type 0 where
   pub digest_length : out.digest_length ≡ size_of (digest_kind r.digest)
   pub active : out.active ≡ r.active
 
--- a flash has the frame
+-- the flash has this frame
 abbrev pub HasFrame : List ℕ → Frame → Type 0
 HasFrame flash frame = FrameOf (length flash) flash (Some frame)
 
--- its head holds the record
+-- the head of the flash holds this record
 pub record HasRecord (flash : List ℕ) (r : Record) : Type 0 where
   pub frame : Frame
   pub has : HasFrame flash frame
   pub holds : HoldsRecord frame (head_of frame flash) r
 
--- it has no frame, or its head holds no record
+-- the flash has no frame, or its head holds no record
 abbrev pub HasNoRecord : List ℕ → Type 0
 HasNoRecord flash = (frame : Frame) → HasFrame flash frame → HoldsNone frame (head_of frame flash)
 
@@ -38,6 +38,6 @@ abbrev pub HasRecorded : List ℕ → Option Record → Type 0
 HasRecorded flash None = HasNoRecord flash
 HasRecorded flash (Some r) = HasRecord flash r
 
--- the record of a flash is told so
+-- this is what C is told of the record of the flash
 abbrev pub IsRecordedAs : List ℕ → SuitRecord → Type 0
 IsRecordedAs flash out = (r : Record) × HasRecord flash r × IsRecordAs r out

@@ -10,7 +10,7 @@ ghost use Rattle.suit_envelope.specs.Said.{RefusesBytes};
 use suit_answers::Answer;
 use suit_envelope::{Authenticity, authentic, decode_envelope};
 
-// See `suit_authentic`.
+// Does the work of `suit_authentic`.
 fn judge(file: &[u8], key: &[u8]) -> Answer
     ensures answers { (result ≡ answers.Done) ⊎ (result ≡ answers.NotAuthentic)
         ⊎ (result ≡ answers.Refused) }
@@ -28,8 +28,10 @@ fn judge(file: &[u8], key: &[u8]) -> Answer
     }
 }
 
-/// Whether an envelope is authentic under a key: 0 exactly where its wrapper states the digest of its manifest, and some
-/// block of the wrapper verifies; 3 where the bytes spell no envelope, and 4 otherwise.
+/// Judges whether an envelope is authentic under a key.
+///
+/// Returns 0 exactly if its wrapper states the digest of its manifest and some block of the wrapper verifies, 3 if the
+/// bytes do not spell an envelope, and 4 otherwise.
 #[unsafe(no_mangle)]
 pub extern "C" fn suit_authentic(file: &[u8], key: &[u8]) -> i32
     ensures answers { (result ≡ code_of answers.Done) ⊎ (result ≡ code_of answers.NotAuthentic)

@@ -1,5 +1,5 @@
-//! Calls for programs in C, over bytes that they pass. None of them takes memory, keeps what it was passed, or writes more
-//! than what it answers.
+//! Calls for programs in C, over bytes that they pass. None of them allocates, keeps a pointer that it was passed, or
+//! writes anything but its answer.
 #![tactic(auto)]
 
 mod authentic;

@@ -1,4 +1,4 @@
-//! An envelope's numbers.
+//! The numbers of an envelope.
 
 ghost use Rattle.std.specs.Prelude.{◌≡◌, ◌⊎◌, IfErr, IfOk, IsOk};
 ghost use Rattle.suit_answers.specs.Answers.{code_of};
@@ -18,21 +18,21 @@ use suit_params::Refusal;
 pub struct SuitEnvelope {
     /// The manifest's sequence number.
     pub sequence: u64,
-    /// Where the manifest begins, in bytes from the envelope's first.
+    /// The byte offset of the manifest in the envelope.
     pub manifest_place: u64,
-    /// How many bytes it has.
+    /// The length of the manifest in bytes.
     pub manifest_length: u64,
-    /// How many bytes the envelope has with its wrapper and manifest alone. Saturates at 64 bits.
+    /// The length in bytes of the envelope with only its wrapper and manifest. Saturates at 64 bits.
     pub trimmed_length: u64,
-    /// The digest that the wrapper states, with zeros behind it.
+    /// The digest that the wrapper states, padded with zeros.
     pub digest: [u8; 64],
     /// How many components the manifest has.
     pub components: u32,
-    /// How many bytes the digest has: 32, 48 or 64.
+    /// The length of the digest in bytes: 32, 48 or 64.
     pub digest_length: u32,
 }
 
-// The numbers of the envelope that the bytes spell.
+// Reads the numbers of the envelope that the bytes spell.
 fn read(file: &[u8]) -> Result<SuitEnvelope, Refusal>
     ensures ok { IfOk result (IsReadAs file.now) }
     ensures within { IfOk result (ManifestLiesIn file.now) }
@@ -55,8 +55,10 @@ fn read(file: &[u8]) -> Result<SuitEnvelope, Refusal>
     })
 }
 
-/// Reads an envelope's numbers: 0, and 3 where the bytes spell none or its manifest is refused. Then `out` stays as it was,
-/// and `place` is that of the fault, in bytes from the first. Whether the envelope is authentic is not asked.
+/// Reads the numbers of an envelope.
+///
+/// Returns 0, or 3 if the bytes do not spell an envelope or its manifest is refused. In that case `out` is left as it
+/// was, and `place` is the byte offset of the fault. Does not judge whether the envelope is authentic.
 #[unsafe(no_mangle)]
 pub extern "C" fn suit_read(file: &[u8], out: &mut SuitEnvelope, place: &mut u64) -> i32
     ensures answers { (result ≡ code_of answers.Done) ⊎ (result ≡ code_of answers.Refused) }

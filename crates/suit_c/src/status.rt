@@ -10,27 +10,27 @@ use flash_view::ViewDisk;
 use rollback_record::load_record;
 use suit_answers::Answer;
 
-/// The manifest that is installed.
+/// The installed manifest.
 #[repr(C)]
 #[derive(Clone, Copy)]
 pub struct SuitRecord {
-    /// Its sequence number.
+    /// The manifest's sequence number.
     pub sequence: u64,
-    /// How many records were committed before, and one.
+    /// The number of this record: 1 for the first, and one more for each record that was committed.
     pub generation: u64,
-    /// How many bytes its envelope has.
+    /// The length of the envelope in bytes.
     pub length: u64,
     /// The bank that holds the envelope, 0 or 1.
     pub bank: u32,
-    /// How many bytes the manifest's digest has: 32, 48 or 64.
+    /// The length of the manifest's digest in bytes: 32, 48 or 64.
     pub digest_length: u32,
-    /// The digest of the manifest, with zeros behind it.
+    /// The digest of the manifest, padded with zeros.
     pub digest: [u8; 64],
-    /// The slot in use of each component of the layout, 0 or 1; 0 behind the last.
+    /// The slot in use of each component of the layout, 0 or 1. It is 0 after the last component.
     pub active: [u8; MOST_ENTRIES],
 }
 
-// A record for a caller in C.
+// Converts a record for a caller in C.
 fn record_of(held: Record) -> SuitRecord
     ensures { IsRecordAs held result }
 {
@@ -46,7 +46,7 @@ fn record_of(held: Record) -> SuitRecord
     }
 }
 
-// The record of a flash, by the frame that its root tells.
+// Reads the record of a flash, by the frame that the flash tells.
 fn recorded(flash: &[u8]) -> Result<Option<Record>, FlashFault>
     ensures { IfOk result (HasRecorded flash.now) }
 {
@@ -57,8 +57,9 @@ fn recorded(flash: &[u8]) -> Result<Option<Record>, FlashFault>
     }
 }
 
-/// Reads the record of a flash of either layout version: 0, 15 where it has none, and 8 where the flash failed. Unless it
-/// answers 0, `out` stays as it was.
+/// Reads the record of a flash of either layout version.
+///
+/// Returns 0, 15 if the flash has no record, and 8 if it failed. `out` is left as it was unless 0 is returned.
 #[unsafe(no_mangle)]
 pub extern "C" fn suit_status(flash: &[u8], out: &mut SuitRecord) -> i32
     ensures answers { (result ≡ code_of answers.Done) ⊎ (result ≡ code_of answers.FlashFault)

@@ -1,5 +1,5 @@
--- Each image since an update began has the old record and the old contents of slots that are not written, or the new record
--- and the contents that the procedure made.
+-- Each image since an update began has the old record and the old contents of slots that are not written, or the new
+-- record and the contents that the procedure made.
 use Rattle.std.proofs.Common.{◌≡◌, ◌⊎◌, inl, inr, ⊎_elim, ◌<◌, ◌≤◌, ℕ, zero, suc, ◌+◌, List, [], ◌∷◌, length, get_or, Option, Some, IfSome, sym, ◌∙◌, ap, subst, arith}
 use Rattle.std.specs.List.{All, Contains}
 use Rattle.std.proofs.lemmas.List.{get_or-map, length-map}

@@ -11,32 +11,32 @@ use Rattle.flash_layout.specs.declared.slot.Record.{Record}
 use Rattle.flash_layout.specs.declared.slot.Slot.{Slot}
 use Rattle.flash_layout.specs.Slots.{slot_at}
 
--- the slot of each component of the layout that is in use; without a record the first one
+-- the slot of each component of the layout that is in use, or the first ones if there is no record
 abbrev pub active_slots : Option Record → List ℕ
 active_slots None = replicate MOST_ENTRIES 0
 active_slots (Some r) = r.active
 
 -- ---- components of the layout
 
--- some component that the procedure may write stands there
+-- some component that the procedure may write has this index in the layout
 pub record IsWritten (tree : PlanTree) (places : Places) (i : ℕ) : Type 0 where
   pub component : ℕ
   pub few : component < places.count
   pub target : IsTarget tree component
   pub there : slice_index places.layout_index component ≡ i
 
--- the same, of a set of components
+-- some component of the set has this index in the layout
 pub record HasWritten (places : Places) (bits i : ℕ) : Type 0 where
   pub component : ℕ
   pub few : component < places.count
   pub member : HasBit bits component
   pub there : slice_index places.layout_index component ≡ i
 
--- it has another slot beside the one in use
+-- the component has another slot beside the one in use
 abbrev pub HasOther : List Entry → ℕ → Type 0
 HasOther layout i = (i < length layout) × ((e : Entry) → (get_or layout i e).slots ≡ 2)
 
--- A component that may be written stands for its other slot, where it has one. All others stand for the one in use.
+-- A component that may be written stands for its other slot, if it has one. All others stand for the slot in use.
 pub record AreChosen (layout : List Entry) (places : Places) (tree : PlanTree)
     (active numbers : List ℕ) : Type 0 where
   pub size : length numbers ≡ MOST_ENTRIES
@@ -50,7 +50,7 @@ pub record AreChosen (layout : List Entry) (places : Places) (tree : PlanTree)
 
 -- ---- slots
 
--- the slot of that number of a component of the flash
+-- this is the slot with that number, of a component on the flash
 pub record IsSlotOf (layout : List Entry) (i n : ℕ) (slot : Slot) : Type 0 where
   pub inside : i < length layout
   pub flash : (e : Entry) → (get_or layout i e).memory ≡ memory.Flash
@@ -65,12 +65,12 @@ pub record IsTouched (layout : List Entry) (places : Places) (tree : PlanTree) (
   pub written : IsWritten tree places index
   pub stands : IsSlotOf layout index (slice_index numbers index) slot
 
--- the slot is in use
+-- this slot is in use
 pub record IsInUse (layout : List Entry) (active : List ℕ) (slot : Slot) : Type 0 where
   pub index : ℕ
   pub stands : IsSlotOf layout index (slice_index active index) slot
 
--- each component of the flash that may be written has two slots
+-- each component on the flash that may be written has two slots
 abbrev pub HaveTwoSlots : List Entry → Places → PlanTree → Type 0
 HaveTwoSlots layout places tree =
     (i : ℕ) (e : Entry) → IsWritten tree places i → (get_or layout i e).memory ≡ memory.Flash

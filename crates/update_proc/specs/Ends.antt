@@ -1,4 +1,4 @@
--- How an update ends, by how its procedure did.
+-- How an update ends, by how its procedure ended.
 use Rattle.std.specs.Prelude.{◌≡◌, ◌⊎◌, ℕ, List, Option}
 use Rattle.suit_edge.specs.Faults.{Faulted}
 use Rattle.suit_edge.specs.Flash.{Flash, Now}
@@ -16,7 +16,7 @@ use Rattle.update_proc.specs.declared.update_end.UpdateEnd.TheVariants as ends
 
 -- ---- judged
 
--- the judgement of the number and the digest beside the held record, unless a fault came before
+-- the end fits the judgement of the number and the digest against the held record, unless the flash failed
 abbrev pub JudgedSo : ℕ → Digest → Option Record → UpdateEnd → Type 0
 JudgedSo sequence digest held (ends.Lower recorded offered) =
     IsJudged sequence digest held (judged.Lower recorded offered)
@@ -26,63 +26,64 @@ JudgedSo sequence digest held ends.Worn = IsJudged sequence digest held judged.W
 JudgedSo sequence digest held ends.FlashFault = Unit {0}
 JudgedSo sequence digest held _ = IsAcceptable sequence digest held
 
--- the answer to a manifest that may not be recorded
+-- the manifest may not be recorded
 abbrev pub IsRefusal : UpdateEnd → Type 0
 IsRefusal (ends.Lower recorded offered) = Unit {0}
 IsRefusal (ends.OtherDigest recorded offered) = Unit {0}
 IsRefusal ends.Worn = Unit {0}
 IsRefusal _ = ⊥
 
--- an end before anything was launched or written
+-- the update ended before anything was launched or written
 abbrev pub IsUnbegun : UpdateEnd → Type 0
 IsUnbegun ends.NoMemory = Unit {0}
 IsUnbegun answer = IsRefusal answer
 
--- ---- once it was accepted
+-- ---- once the manifest is accepted
 
--- the procedure ended so, and what came behind it did not fail
+-- the end that tells how the procedure ended
 abbrev pub IsEnd : PlanEnd → UpdateEnd → Type 0
 IsEnd plays.Done answer = (r : Record) × (answer ≡ ends.Installed r)
 IsEnd (plays.ConditionFailed place) answer = answer ≡ ends.Condition place
 IsEnd (plays.DirectiveFailed place cause) answer = answer ≡ ends.Stopped place cause
 
--- or the flash failed behind it, and not in it
+-- the end tells how the procedure ended, or the flash failed after it
 abbrev pub FinishedSo : PlanEnd → UpdateEnd → ℕ → ℕ → Type 0
 FinishedSo end answer before now =
     (IsEnd end answer × (now ≡ before))
     ⊎ (IsUnfaulted end × (answer ≡ ends.FlashFault) × Faulted before now)
 
--- all was made sure of with this answer, or the flash failed
+-- all pending writes were synced and this is the end, or the flash failed
 abbrev pub SettledSo : UpdateEnd → UpdateEnd → ℕ → ℕ → Type 0
 SettledSo end answer before now =
     ((answer ≡ end) × (now ≡ before)) ⊎ ((answer ≡ ends.FlashFault) × Faulted before now)
 
--- the same of a failed directive; where the flash failed there, that is the answer
+-- the end after a failed directive: the writes were synced, unless the flash failed in it
 abbrev pub StoppedSo : ℕ → Cause → UpdateEnd → ℕ → ℕ → Type 0
 StoppedSo place causes.FlashFault answer before now =
     (answer ≡ ends.Stopped place causes.FlashFault) × (now ≡ before)
 StoppedSo place cause answer before now = SettledSo (ends.Stopped place cause) answer before now
 
--- an image that a power loss then may have left, or one with P
+-- the image is one that a power loss may have left at the start, or it has P
 abbrev pub NowOr : (List ℕ → Type 0) → Flash → List ℕ → Type 0
 NowOr P start image = Now start image ⊎ P image
 
--- a property where the procedure was stopped
+-- the property holds if the procedure was stopped
 abbrev pub IfStopped : PlanEnd → Type 0 → Type 0
 IfStopped plays.Done P = Unit {0}
 IfStopped _ P = P
 
--- where it is answered that it was
+-- the property holds if the end tells that the procedure was stopped
 abbrev pub IfTold : UpdateEnd → Type 0 → Type 0
 IfTold (ends.Condition place) P = P
 IfTold (ends.Stopped place cause) P = P
 IfTold _ P = Unit {0}
 
+-- the property holds of the record, if the envelope was installed
 abbrev pub IfInstalled : UpdateEnd → (Record → Type 0) → Type 0
 IfInstalled (ends.Installed r) P = P r
 IfInstalled _ P = Unit {0}
 
--- no fault of the flash
+-- the property holds, unless the flash failed
 abbrev pub IfUnfaulted : UpdateEnd → Type 0 → Type 0
 IfUnfaulted ends.FlashFault P = Unit {0}
 IfUnfaulted (ends.Stopped place causes.FlashFault) P = Unit {0}
@@ -90,7 +91,7 @@ IfUnfaulted _ P = P
 
 -- ---- counts of faults
 
--- the count rose of the object whose fault it was
+-- the count of faults rose of the object that failed
 abbrev pub UpdateCounts : UpdateEnd → Counts → Counts → Type 0
 UpdateCounts (ends.Stopped place cause) before now = CountsFor cause before now
 UpdateCounts ends.FlashFault before now = FlashFailed before now

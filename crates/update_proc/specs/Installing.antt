@@ -15,22 +15,22 @@ use Rattle.rollback_record.specs.RecordPage.{IsActiveSlot, record_length}
 use Rattle.rollback_record.specs.SoundFlash.{IsInstalled, recorded_bank}
 use Rattle.update_proc.specs.Banks.{BesideBank}
 
--- the envelope stands in the bank of the new record, and nothing else changed
+-- the envelope is in the bank of the new record, and nothing changed outside its range in the other bank
 pub record IsFilled (frame : Frame) (held : Option Record) (new : Record)
     (bytes before made : List ℕ) : Type 0 where
   pub beside : SameOn (BesideBank frame held bytes) before made
   pub holds : recorded_bank frame (head_of frame made) new ≡ bytes
 
--- a flash of this size that reads so has the layout by the frame, under some key
+-- a flash of this size that reads like this has the layout and the frame, under some key
 abbrev pub HasLayout : Frame → ℕ → List ℕ → List Entry → Type 0
 HasLayout frame size image layout =
     (key : Key) × ConfigOf size image (Configured layout key frame)
 
--- all places but those of the head
+-- the place is outside the head
 abbrev pub BesideHead : Frame → ℕ → Type 0
 BesideHead frame = Outside frame.base (head_size frame)
 
--- one record page is being written, and the record is still the held one, or it is the new one
+-- at most one record page was changed, and the record is the held one or the new one
 pub record IsRecording (frame : Frame) (held : Option Record) (new : Record)
     (made image : List ℕ) : Type 0 where
   pub which : ℕ
@@ -38,7 +38,7 @@ pub record IsRecording (frame : Frame) (held : Option Record) (new : Record)
   pub beside : SameOn (Outside (record_place frame which) (record_length frame)) made image
   pub record_is : HasHeldOrNew frame held new image
 
--- the bank is being written, or it is whole and the new record is being committed
+-- the bank is being written; or it is complete, and the new record is being committed
 pub data IsInstalling (frame : Frame) (held : Option Record) (new : Record) (bytes : List ℕ)
     (start : Flash) (image : List ℕ) : Type 0 where
   Filling : ImageOn (BesideBank frame held bytes) start image
@@ -47,17 +47,17 @@ pub data IsInstalling (frame : Frame) (held : Option Record) (new : Record) (byt
       → IsRecording frame held new made image
       → IsInstalling frame held new bytes start image
 
--- each component of a layout has the slot that is to be in use, and behind the last there are zeros
+-- each component of the layout has the slot that is to be in use, and there are zeros after the last
 abbrev pub HasActiveSlots : Frame → List ℕ → List ℕ → Type 0
 HasActiveSlots frame image active =
     (i : ℕ) → i < MOST_ENTRIES
     → IsActiveSlot frame (config_page_of frame (head_of frame image)) i (slice_index active i)
 
--- a record after which another one may come
+-- another record may follow this one
 abbrev pub IsNotWorn : Record → Type 0
 IsNotWorn r = r.generation < 2 ^ 64 - 1
 
--- a flash of this size may take bytes of that length beside the record
+-- a flash of this size may take bytes of that length after the record
 pub record MayInstall (frame : Frame) (size : ℕ) (held : Option Record) (bytes : List ℕ)
     : Type 0 where
   pub frame_is : IsFrame size frame
@@ -65,7 +65,7 @@ pub record MayInstall (frame : Frame) (size : ℕ) (held : Option Record) (bytes
   pub worn : IfSome held IsNotWorn
   pub fits : length bytes ≤ bank_size frame
 
--- under the layout and the key of this image, the bytes may be installed under the record
+-- under the layout and the key of this image, the bytes may be installed with this record
 abbrev pub MayBeInstalled : Frame → List ℕ → List ℕ → Record → Type 0
 MayBeInstalled frame image bytes new =
     (layout : List Entry) (key : Key)

@@ -1,4 +1,4 @@
--- Laws of what stands on the flash at each moment of an update.
+-- Laws of what the flash holds at each moment of an update.
 use Rattle.std.specs.Prelude.{◌≡◌, ◌≤◌, ℕ, List, All, length, Option}
 use Rattle.suit_commands.specs.Tree.{PlanTree}
 use Rattle.suit_edge.specs.Ranges.{SameOn}
@@ -20,29 +20,30 @@ use Rattle.update_proc.specs.Installing.{IsRecording}
 use Rattle.update_proc.specs.Moments.{HasContentsOf, HasInUse, HasPlayed, IsNew, IsOld, KeepsContents, OutsideTouched}
 use Rattle.update_proc.specs.Updates.{PlaysUpdate, Sources}
 
--- on a flash of that size with that frame and layout
+-- these hold of a flash of that size with that frame and layout
 pub record MomentLaws (frame : Frame) (size : ℕ) (layout : List Entry) : Type 0 where
-  -- while no place changes but in slots that may be written, all other contents stay
+  -- while nothing changes but slots that may be written, the contents of all others stay
   pub procedure : (places : Places) (tree : PlanTree) (numbers before image : List ℕ)
       → length before ≡ size
       → SameOn (OutsideTouched layout places tree numbers) before image → KeepsContents layout places tree numbers before image
-  -- while a bank is written, each content stays
+  -- while a bank is written, the contents of all slots stay
   pub filling : (held : Option Record) (bytes before image : List ℕ) → length before ≡ size
       → length bytes ≤ bank_size frame
       → SameOn (BesideBank frame held bytes) before image → HasContentsOf layout before image
-  -- and while the record is committed
+  -- while the record is committed, the contents of all slots stay
   pub recording : (held : Option Record) (new : Record) (made image : List ℕ) → length made ≡ size
       → IsRecording frame held new made image → HasContentsOf layout made image
-  -- Where each component that may be written has two slots, the old record has the old contents of the slots in use by it,
+  -- if each component that may be written has two slots, then with the old record the slots in use have their old
+  -- contents
   pub old :
       (places : Places) (tree : PlanTree) (numbers : List ℕ) (held : Option Record)
       (first image : List ℕ)
       → HaveTwoSlots layout places tree → AreChosen layout places tree (active_slots held) numbers
       → IsOld frame layout places tree numbers held first image → HasInUse layout (active_slots held) first image
-  -- and the new record those that were made:
+  -- with the new record the slots in use have the contents that were made
   pub new : (r : Record) (made image : List ℕ) → IsNew frame layout r made image
       → HasInUse layout r.active made image
-  -- of each component of the procedure, the content that its play to the end leaves there.
+  -- with the new record, each component of the procedure has the content that its play to the end leaves
   pub played :
       (places : Places) (tree : PlanTree) (held : Option Record)
       (from : Sources)

@@ -1,4 +1,4 @@
--- The record that the flash holds beside an update, and the digest that the envelope states of its manifest
+-- The record that the flash has when an update comes, and the digest that the envelope states of its manifest
 -- (draft-ietf-suit-manifest-25, section 8.3).
 use Rattle.std.specs.Prelude.{ℕ, List, Option}
 use Rattle.suit_envelope.specs.WrapperParts.{WrapperSays}

@@ -5,13 +5,13 @@ use Rattle.flash_layout.specs.declared.frame.Frame.{Frame}
 use Rattle.flash_layout.specs.declared.slot.Record.{Record}
 use Rattle.update_proc.specs.Banks.{bank_for}
 
--- one more than the held one, and 1 without a record
+-- the generation after that of the held record, or 1 if there is no record
 abbrev pub next_generation : Option Record → ℕ
 next_generation None = 1
 next_generation (Some r) = r.generation + 1
 
--- the new record: the envelope of these bytes, whose manifest has this number and digest, with these slots in use. The
--- image is that of the flash before, where this was held.
+-- the record of an update: the envelope has these bytes, its manifest this number and digest, and these slots are in
+-- use; the image is that of the flash before
 abbrev pub new_record : Frame → Option Record → List ℕ → List ℕ → ℕ → Digest → List ℕ → Record
 new_record frame held image bytes sequence digest active = record {
   generation = next_generation held;

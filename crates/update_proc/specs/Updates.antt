@@ -1,4 +1,4 @@
--- An update: its procedure, the flash that it leaves, and the flash at each moment.
+-- An update: its procedure, what it leaves on the flash, and the flash at each moment.
 use Rattle.std.specs.Prelude.{◌≡◌, ◌⊎◌, ◌++◌, ℕ, Bool, true, IsTrue, List, Option, Some}
 use Rattle.suit_commands.specs.Tree.{PlanTree}
 use Rattle.suit_edge.specs.Flash.{Flash, Passes}
@@ -25,7 +25,8 @@ use Rattle.update_proc.specs.Moments.{HasContentsOf, IsNew, IsOld, KeepsContents
 
 -- ---- the play
 
--- whether a host tells what it holds, its files by their names, and the names that it was asked for before and since
+-- whether the host is one that tells, its files by their names, and the names that it was asked for before and up to
+-- now
 pub record Hosted : Type 0 where
   pub told : Bool
   pub files : List ℕ → Option (List ℕ)
@@ -36,7 +37,7 @@ abbrev pub hosted : Bool → (List ℕ → Option (List ℕ)) → List (List ℕ
 hosted told files before now =
     record { told = told; files = files; before = before; now = now }
 
--- what a procedure fetches from: payloads, names of files for URIs, and a host
+-- what a procedure fetches from: payloads, the names of files for URIs, and a host
 pub record Sources : Type 0 where
   pub payloads : List (List ℕ × List ℕ)
   pub words : List (List ℕ × List ℕ)
@@ -45,9 +46,9 @@ pub record Sources : Type 0 where
 abbrev pub sources : List (List ℕ × List ℕ) → List (List ℕ × List ℕ) → Hosted → Sources
 sources payloads words host = record { payloads = payloads; words = words; host = host }
 
--- The procedure is played on the chosen slots, with working memory empty, from these sources. It ends so, and leaves these
--- contents and launches. A host that tells was asked for the files of the play's fetches, in order, and gave them each time;
--- any other gave each request some file, or none.
+-- The procedure is played on the chosen slots, with empty working memory, from these sources. It ends like this, and
+-- leaves these contents and launches. A host that tells was asked for the files of the play's fetches, in order, and
+-- gave them each time; any other host gave some file or none for each request.
 pub record PlaysUpdate (layout : List Entry) (places : Places) (tree : PlanTree)
     (held : Option Record) (from : Sources) (before made : List ℕ) (launched now : List Launch)
     (end : PlanEnd) : Type 0 where
@@ -64,15 +65,16 @@ pub record PlaysUpdate (layout : List Entry) (places : Places) (tree : PlanTree)
       now
   pub asks : IsTrue from.host.told → from.host.now ≡ from.host.before ++ plays.asks
 
--- and those contents are left
+-- the procedure was played like this, and the slots have the contents that it made
 pub record PlaysAndLeaves (Plays : List ℕ → PlanEnd → Type 0) (layout : List Entry) (after : List ℕ)
     (end : PlanEnd) : Type 0 where
   pub made : List ℕ
   pub plays : Plays made end
   pub left : HasContentsOf layout made after
 
--- The procedure was played and ended so; or nothing was launched. A fault of the flash that no command met came before
--- the procedure, and then the flash reads the same, or behind it: one that a directive met is told with its place.
+-- If the update tells how the procedure ended, the procedure was played and ended like that; if not, nothing was
+-- launched. A fault that is told as one of the flash came before the procedure, and then the flash reads the same, or
+-- after it: one in a directive is told with the directive's place.
 abbrev pub PlayedSo : (List ℕ → PlanEnd → Type 0) → Type 0 → List Entry → List ℕ → List Launch
     → List Launch → UpdateEnd → Type 0
 PlayedSo Plays Same layout after launched now (ends.Installed r) =
@@ -86,7 +88,7 @@ PlayedSo Plays Same layout after launched now ends.FlashFault =
     ⊎ ((made : List ℕ) × (end : PlanEnd) × Plays made end × IsUnfaulted end)
 PlayedSo Plays Same layout after launched now _ = now ≡ launched
 
--- Whatever was answered, nothing was launched, or the procedure was played beside the record that this image has.
+-- However the update ended, nothing was launched, or the procedure was played after the record that this image has.
 abbrev pub LaunchesBy : Frame → (Option Record → List ℕ → PlanEnd → Type 0) → List ℕ
     → List Launch → List Launch → Type 0
 LaunchesBy frame Plays image launched now =
@@ -95,8 +97,8 @@ LaunchesBy frame Plays image launched now =
     ((held : Option Record) × RecordOf frame (head_of frame image) held
     × (made : List ℕ) × (end : PlanEnd) × Plays held made end)
 
--- The procedure of an envelope of these bytes is played to its end over a host that has these files, with these launches, and
--- makes those contents.
+-- Over a host with these files, the procedure of the envelope of these bytes is played to its end, with these launches,
+-- and makes these contents.
 abbrev pub PlaysToEnd : List Entry → Places → PlanTree → Option Record → List ℕ
     → List (List ℕ × List ℕ)
     → (List ℕ → Option (List ℕ)) → List ℕ → List Launch → List Launch → List ℕ → Type 0
@@ -108,15 +110,15 @@ PlaysToEnd layout places tree held bytes uris files before launched now made =
 
 -- ---- what is left
 
--- the new record and contents after Installed, the old record otherwise, and one of them after a fault of the flash behind
--- the procedure
+-- what is left: the new record and contents if the envelope was installed, the old record if not, and one of them if
+-- the flash failed
 abbrev pub LeftSo : (Record → Type 0) → Type 0 → Type 0 → UpdateEnd → Type 0
 LeftSo Is Old New (ends.Installed r) = Is r × New
 LeftSo Is Old New ends.FlashFault = Old ⊎ New
 LeftSo Is Old New _ = Old
 
--- As the flash reads in the end: no content changed but those of slots that may be written, and this is recorded. A new
--- record is acceptable beside the old one.
+-- When the update has ended, no contents have changed but those of slots that may be written, and the record is the new
+-- one if it was installed. The new record may follow the old one.
 pub record LeavesUpdate (frame : Frame) (layout : List Entry) (places : Places) (tree : PlanTree)
     (held : Option Record) (new : List ℕ → Record) (before after : List ℕ) (answer : UpdateEnd)
     : Type 0 where
@@ -128,16 +130,16 @@ pub record LeavesUpdate (frame : Frame) (layout : List Entry) (places : Places) 
       LeftSo (λ r. r ≡ new numbers) (RecordOf frame (head_of frame after) held)
       (RecordOf frame (head_of frame after) (Some (new numbers))) answer
 
--- Only a procedure that is done leaves the old record: it is done where it was installed, and where it stopped the old
--- record stays. After a fault of the flash it is one of the two.
+-- The procedure was done if the envelope was installed, and if the procedure was stopped the old record stays. If the
+-- flash failed, it is one of the two.
 abbrev pub WholeSo : Type 0 → Type 0 → UpdateEnd → Type 0
 WholeSo Stays Done (ends.Installed r) = Done
 WholeSo Stays Done ends.FlashFault = Stays ⊎ Done
 WholeSo Stays Done _ = Stays
 
--- At each moment the flash has the old record, and no content changed but those of slots that may be written; or it has
--- the new record, and the contents that the procedure made, which is done. Where it is not done, the old record stands at
--- each moment.
+-- At each moment the flash has the old record, and no contents changed but those of slots that may be written; or it
+-- has the new record, and the contents that the procedure made. If the procedure was not done, the flash has the old
+-- record at each moment.
 pub record KeepsUpdate (frame : Frame) (layout : List Entry) (places : Places) (tree : PlanTree)
     (Done : List ℕ → Type 0) (held : Option Record)
     (new : List ℕ → Record) (old now : Flash) (answer : UpdateEnd) : Type 0 where
@@ -158,7 +160,7 @@ pub record KeepsUpdate (frame : Frame) (layout : List Entry) (places : Places) (
       (IsOld frame layout places tree numbers held old.reads now.reads)
       (IsNew frame layout (new numbers) made now.reads) answer
 
--- where the procedure was run, that was kept, and otherwise nothing changed
+-- what is kept holds if the procedure was run, and otherwise nothing changed
 abbrev pub KeptSo : Type 0 → Type 0 → UpdateEnd → Type 0
 KeptSo Kept Same (ends.Installed r) = Kept
 KeptSo Kept Same (ends.Condition place) = Kept

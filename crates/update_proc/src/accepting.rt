@@ -1,4 +1,4 @@
-//! An offered update is judged beside the record, and its envelope is trimmed.
+//! Judges an offered update against the record, and trims its envelope.
 
 ghost use Rattle.rollback_record.specs.Judging.{IsAcceptable};
 ghost use Rattle.std.specs.Prelude.{◌≡◌, IfErr, IfOk, OnOk, option_map};
@@ -13,7 +13,7 @@ use std::alloc::{AllocError, Global};
 use suit_envelope::{Envelope, trim};
 use suit_params::Digest;
 
-// A manifest that may not be recorded is refused.
+// Returns an error if a manifest with this number and digest may not be recorded after the held record.
 fn accept(held: Option<&Record>, sequence: u64, digest: &Digest) -> Result<(), UpdateEnd>
     ensures refused { IfErr result (λ end. IsRefusal end) }
     ensures judged { IfErr result
@@ -31,7 +31,7 @@ fn accept(held: Option<&Record>, sequence: u64, digest: &Digest) -> Result<(), U
     }
 }
 
-// The bytes that are installed, where a manifest with this number and digest may be recorded beside the record.
+// The bytes to be installed, which are the trimmed envelope, if its manifest may be recorded after the held record.
 pub(crate) fn installable(
     alloc: Global,
     envelope: &Envelope<'_>,

@@ -12,7 +12,7 @@ use crate::bank_reading::is_recorded;
 use flash_layout::{FlashFault, Frame, Record, bank};
 use suit_edge::{Disk, Edge, write_and_sync};
 
-// Writes the envelope to that bank, and syncs all pending writes.
+// Writes the envelope to a bank, and syncs all pending writes.
 fn fill_bank<D: Disk>(disk: &mut D, frame: Frame, which: u8, bytes: &[u8]) -> Result<(), FlashFault>
     requires frame { IsFrame (D.extent disk.old) frame }
     requires which { which < 2 }
@@ -34,7 +34,7 @@ fn fill_bank<D: Disk>(disk: &mut D, frame: Frame, which: u8, bytes: &[u8]) -> Re
     }
 }
 
-// Syncs all pending writes, and leaves the bank as it is.
+// Syncs all pending writes, and leaves the banks as they are.
 fn keep_bank<D: Disk>(disk: &mut D) -> Result<(), FlashFault>
     ensures size { D.extent disk.new ≡ D.extent disk.old }
     ensures counts { ResultCounts result (D.faults disk.old) (D.faults disk.new) }
@@ -48,10 +48,11 @@ fn keep_bank<D: Disk>(disk: &mut D) -> Result<(), FlashFault>
     }
 }
 
-/// Writes an envelope to a bank of a flash with this frame: the one that the record does not name, or the first one
-/// without a record. Where the record's bank holds the same bytes already, it is kept and nothing is written. Answers the
-/// bank. Then all pending writes are synced, the envelope's among them. At each moment nothing has changed but that range
-/// of the other bank.
+/// Writes an envelope to the bank that the record does not name, or to the first one if there is no record, and syncs
+/// all pending writes. Returns the bank.
+///
+/// If the record's bank holds these bytes already, nothing is written, and that bank is returned. At each moment,
+/// nothing has changed but the range of the other bank that the envelope takes.
 pub fn write_bank<D: Disk>(
     disk: &mut D,
     frame: Frame,
@@ -91,7 +92,7 @@ pub fn write_bank<D: Disk>(
     }
 }
 
-// The same, beside a record.
+// Does the work of `write_bank` if there is a record.
 fn write_beside<D: Disk>(
     disk: &mut D,
     frame: Frame,

@@ -1,4 +1,4 @@
-//! Whether a bank holds an envelope already.
+//! Whether a bank already holds an envelope.
 
 ghost use Rattle.flash_layout.specs.FaultCounts.{ResultCounts};
 ghost use Rattle.flash_layout.specs.Frames.{IsFrame, head_of};
@@ -11,7 +11,7 @@ use lane_bytes::same;
 use step_machine::Steps;
 use suit_edge::{Disk, Edge};
 
-// Whether a piece stands at the place.
+// Whether the disk has a piece at a place.
 fn has_piece<D: Disk>(
     disk: &mut D,
     piece: &[u8],
@@ -31,7 +31,7 @@ fn has_piece<D: Disk>(
     }
 }
 
-// Whether the bytes stand at the place. They are read through the room.
+// Whether the disk has the bytes at a place. They are read in pieces, through the room.
 fn has_bytes<D: Disk>(
     disk: &mut D,
     place: u64,
@@ -59,7 +59,7 @@ fn has_bytes<D: Disk>(
     Ok(true)
 }
 
-/// Whether the bank of the record holds these bytes, and no more of them are recorded.
+/// Whether the record's bank holds these bytes, and its length is theirs.
 pub(crate) fn is_recorded<D: Disk>(
     disk: &mut D,
     frame: Frame,

@@ -10,7 +10,7 @@ ghost use Rattle.update_proc.specs.Choices.{AreChosen, HasWritten};
 use flash_layout::{Layout, MOST_ENTRIES, Places};
 use suit_commands::{Plan, targets};
 
-// Whether a set has the component.
+// Whether a component is in the set.
 fn has_bit(bits: u32, component: u32) -> bool
     requires { component < 32 }
     ensures { IsTrue result ↔ HasBit bits component }
@@ -18,7 +18,7 @@ fn has_bit(bits: u32, component: u32) -> bool
     (bits >> component) % 2 == 1
 }
 
-// Whether a component of the set stands at that index of the layout.
+// Whether a component of the set has this index in the layout.
 fn has_written(places: &Places, bits: u32, index: u32) -> bool
     requires { places.now.count ≤ 8 }
     ensures { IsTrue result ↔ HasWritten places.now bits index }
@@ -31,7 +31,7 @@ fn has_written(places: &Places, bits: u32, index: u32) -> bool
     false
 }
 
-// The slot that a component with so many stands for: its other one where it may be written.
+// The slot that a component stands for: the other one if it may be written and has two, and otherwise the active one.
 fn number_of(slots: u8, written: bool, active: u8) -> u8
     requires { active ≤ 1 }
     ensures other { IsTrue written → slots ≡ 2 → result ≡ 1 - active }
@@ -45,8 +45,8 @@ fn number_of(slots: u8, written: bool, active: u8) -> u8
     }
 }
 
-/// The slots that the components of the layout stand for: a component that the procedure may write for its other slot,
-/// where it has one, and all others for the slot that is in use.
+/// The slot that each component of the layout stands for in an update. A component that the procedure may write stands
+/// for its other slot, if it has one; all others stand for the slot in use.
 pub fn choose(
     layout: &Layout,
     places: &Places,
@@ -70,7 +70,7 @@ pub fn choose(
     numbers
 }
 
-/// Slots that are chosen for an update may be recorded as those in use. Does nothing: its contract is the law.
+/// Does nothing. Its contract is the law: slots that are chosen for an update may be recorded as those in use.
 pub fn choice_laws()
     ensures { ChoiceLaw }
 {}

@@ -1,4 +1,5 @@
-//! The end of a procedure: the envelope is installed where it is done, and otherwise all pending writes are synced.
+//! What comes after the procedure: the envelope is installed if the procedure is done, and otherwise all pending writes
+//! are synced.
 
 ghost use Rattle.flash_layout.specs.Frames.{IsFrame, head_of};
 ghost use Rattle.flash_layout.specs.Roots.{frame_told};
@@ -19,7 +20,7 @@ use rollback_record::Spare;
 use step_machine::{PlanEnd, Steps};
 use suit_edge::{Disk, Edge};
 
-// Syncs all pending writes, and answers so.
+// Syncs all pending writes, and then returns `end`.
 fn settle<D: Disk>(disk: &mut D, end: UpdateEnd) -> UpdateEnd
     ensures read { ⟦<D as Steps>⟧.only_reads (SettledSo end result) disk.old disk.new }
     ensures settled { IsTrue D.told → IfUnfaulted result (IsSettled (D.flash disk.new)) }
@@ -30,7 +31,7 @@ fn settle<D: Disk>(disk: &mut D, end: UpdateEnd) -> UpdateEnd
     }
 }
 
-// Syncs what a failed directive left, unless the flash failed there.
+// Syncs what was written before a directive failed, unless the flash failed in it.
 fn stop<D: Disk>(disk: &mut D, place: u64, cause: Cause) -> UpdateEnd
     ensures settled { IsTrue D.told → IfUnfaulted result (IsSettled (D.flash disk.new)) }
     ensures read { ⟦<D as Steps>⟧.only_reads (StoppedSo place cause result) disk.old disk.new }
@@ -41,8 +42,7 @@ fn stop<D: Disk>(disk: &mut D, place: u64, cause: Cause) -> UpdateEnd
     }
 }
 
-/// Installs the envelope where the procedure is done, and otherwise syncs what it left, unless a fault of the flash
-/// ended it.
+/// Installs the envelope if the procedure is done. Otherwise syncs what it wrote, unless the flash failed in it.
 pub(crate) fn finish<D: Disk>(
     disk: &mut D,
     frame: Frame,

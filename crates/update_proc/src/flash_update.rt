@@ -1,4 +1,5 @@
-//! An update of a flash: the record is read, and then the envelope is judged, played and installed beside it.
+//! An update of a flash: reads the record, judges the envelope against it, runs the procedure, and installs the
+//! envelope.
 
 ghost use Rattle.suit_envelope.specs.Places.{PartsEndBelow};
 ghost use Rattle.suit_envelope.specs.Said.{said_by};
@@ -39,10 +40,12 @@ use suit_edge::{Disk, Host, Launcher};
 use suit_envelope::{Envelope, stated_digest};
 use suit_manifest::{Manifest, Members, update_plan};
 
-/// Updates a flash with this layout and frame (draft-ietf-suit-manifest-25, section 6): the manifest is judged beside the
-/// record that the flash holds, its update procedure is run on the chosen slots, and where that is done the trimmed
-/// envelope is written to a bank and recorded. All memory is taken before anything is launched or written. The host is
-/// asked only for files that URIs name, and for none where the procedure is not begun.
+/// Updates a flash with this layout and frame (draft-ietf-suit-manifest-25, section 6): judges the manifest against the
+/// record that the flash has, runs its update procedure on the chosen slots, and if that is done writes the trimmed
+/// envelope to a bank and records it.
+///
+/// All memory is taken before anything is launched or written. The host is asked only for files that URIs name, and for
+/// none if the procedure does not begin.
 pub fn update<H: Host, D: Disk, L: Launcher>(
     alloc: Global,
     host: &mut H,

@@ -14,7 +14,7 @@ use flash_layout::{Layout, MOST_ENTRIES, Places, Record};
 use step_machine::{SlotChoice, slots_in_use};
 use suit_commands::Plan;
 
-// The slots that the record has in use; the first ones without a record.
+// The slots that the record has in use, or the first ones if there is no record.
 fn slots_held(layout: &Layout, held: Option<&Record>) -> [u8; MOST_ENTRIES]
     requires { length layout.now ≤ MOST_ENTRIES }
     ensures { AreInUse layout.now (active_slots (option_map (λ r. r.now) held.entry)) result }
@@ -25,7 +25,8 @@ fn slots_held(layout: &Layout, held: Option<&Record>) -> [u8; MOST_ENTRIES]
     }
 }
 
-/// The slots that components stand for in an update beside this record. Each is one that its component has.
+/// The slots that components stand for in an update after this record. Each component has the slot that is chosen for
+/// it.
 pub(crate) fn choose_slots(
     layout: &Layout,
     places: &Places,

@@ -29,9 +29,11 @@ fn generation_after(held: Option<&Record>) -> u64
     }
 }
 
-/// Writes the envelope to the bank that the record does not name, unless the record's bank holds it already, and records
-/// it on the spare page. Up to the last moment the flash holds the record that it held, with its envelope, where a power
-/// loss at the start leaves the head as it reads.
+/// Writes the envelope to the bank that the record does not name, unless the record's bank already holds it, and
+/// records it on the spare page.
+///
+/// Until the new record is complete, the flash has the old one with its envelope at each moment, provided that a power
+/// loss at the start would have left the head as it reads.
 pub fn install<D: Disk>(
     disk: &mut D,
     frame: Frame,

@@ -1,4 +1,4 @@
-//! Updates: a procedure that runs, the bank that the envelope is written to, and the record that is committed.
+//! Updates: the procedure that is run, the bank that the envelope is written to, and the record that is committed.
 #![tactic(auto)]
 
 mod accepting;

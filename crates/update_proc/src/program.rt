@@ -1,4 +1,4 @@
-//! The procedure of an update, lent by the bytes of its envelope.
+//! The procedure of an update, which the bytes of its envelope lend.
 
 ghost use Rattle.std.specs.Prelude.{◌≡◌, ◌^◌};
 ghost use Rattle.step_machine.specs.Programs.{program_tree};

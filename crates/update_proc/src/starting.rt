@@ -42,8 +42,9 @@ use suit_edge::{Disk, Host, Launcher};
 use suit_envelope::Envelope;
 use suit_params::Digest;
 
-/// An accepted update of a flash with this frame: the bytes to be installed beside the record, which is written to the
-/// spare page, with the number and the digest of their manifest, its procedure, and where its payloads come from.
+/// An accepted update of a flash with this frame: the bytes to be installed after the record, the spare page that the
+/// new record is written to, the number and the digest of the manifest, its procedure, and where its payloads come
+/// from.
 #[derive(Clone, Copy)]
 pub(crate) struct Accepted<'a> {
     pub frame: Frame,
@@ -57,8 +58,8 @@ pub(crate) struct Accepted<'a> {
     pub uris: &'a Uris,
 }
 
-/// Runs the procedure of an accepted update on the chosen slots, with working memory empty, and installs the envelope where
-/// the procedure is done. All memory is taken before anything is launched or written.
+/// Runs the procedure of an accepted update on the chosen slots, with empty working memory, and installs the envelope
+/// if the procedure is done. All memory is taken before anything is launched or written.
 pub(crate) fn start<H: Host, D: Disk, L: Launcher>(
     alloc: Global,
     host: &mut H,

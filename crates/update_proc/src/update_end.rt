@@ -4,23 +4,23 @@ use flash_layout::Record;
 use path_model::Cause;
 use suit_params::Digest;
 
-/// How an update ended. A place is one in the envelope.
+/// How an update ended. Places are byte offsets in the envelope.
 #[derive(Clone, Copy, Debug, PartialEq, Eq)]
 pub enum UpdateEnd {
-    /// The procedure is done, and this is recorded.
+    /// The procedure is done, and this record is committed.
     Installed(Record),
-    /// Its number is below the recorded one.
+    /// The sequence number of the manifest is below the recorded one.
     Lower { recorded: u64, offered: u64 },
-    /// Its number is the recorded one, and its digest is another.
+    /// The sequence number of the manifest is the recorded one, but its digest is another.
     OtherDigest { recorded: Digest, offered: Digest },
-    /// The held record's generation is the last one.
+    /// The generation of the held record is the last one, so no record can follow.
     Worn,
     /// A condition failed.
     Condition { place: u64 },
-    /// A directive failed, or a fault came in the procedure.
+    /// A directive failed, or a fault of the outside stopped the procedure there.
     Stopped { place: u64, cause: Cause },
-    /// The flash failed outside the procedure.
+    /// The flash failed before or after the procedure.
     FlashFault,
-    /// Memory ran out, and the flash is as it was.
+    /// Memory ran out. The flash is as it was.
     NoMemory,
 }

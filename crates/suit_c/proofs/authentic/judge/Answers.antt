@@ -5,12 +5,10 @@ use Rattle.suit_envelope.specs.Envelopes.{EnvelopeSays}
 use Rattle.suit_envelope.specs.Said.{said_by}
 use Rattle.suit_c.proofs.authentic.judge.Goals as goal
 
--- src/authentic.rt:22:9
 pub returns-in_default-clause-every_yes : goal.returns-in_default-clause-every_yes
 returns-in_default-clause-every_yes c file =
     let no = c.in_default.ensures.every_envelope file.said file.envelope in absurd cc
 
--- src/authentic.rt:14:1
 pub returns-in_default-authentic : goal.returns-in_default-authentic
 returns-in_default-authentic c = record {
   answers = inr (inl refl);
