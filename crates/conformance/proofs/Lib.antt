@@ -1,3 +1,4 @@
+pub mod ShapeValues
 pub mod ShapesRead
 pub mod States
 pub mod FilesNamed

@@ -7,8 +7,8 @@ use Rattle.serde_json.specs.Data.{Data}
 use Rattle.author.specs.Descriptions.{described}
 use Rattle.author.specs.Faults.{AreFewAndApart, IsDescription}
 use Rattle.conformance.specs.declared.shape.Shape.TheVariants.{Fetched, Integrated, Loaded, FetchedIfOther}
-use Rattle.conformance.specs.Shapes.{fetched, integrated, loaded, fetched_if_other}
 use Rattle.conformance.specs.ShapeLaws.{ShapeLaws}
+use Rattle.conformance.proofs.ShapeValues.{fetched, fetched_is, integrated, integrated_is, loaded, loaded_is, fetched_if_other, fetched_if_other_is}
 
 -- ---- the components
 
@@ -78,7 +78,7 @@ is_description value ids reads fit n lt =
     record { said = read.0; reads = read.1; components = subst AreFewAndApart (sym read.2) fit }
 
 pub laws : ShapeLaws
-laws Fetched n lt = is_description fetched one_id fetched_reads one_is_fit n lt
-laws Integrated n lt = is_description integrated one_id integrated_reads one_is_fit n lt
-laws Loaded n lt = is_description loaded two_ids loaded_reads two_are_fit n lt
-laws FetchedIfOther n lt = is_description fetched_if_other one_id fetched_if_other_reads one_is_fit n lt
+laws Fetched n lt = subst IsDescription (sym (fetched_is n)) (is_description fetched one_id fetched_reads one_is_fit n lt)
+laws Integrated n lt = subst IsDescription (sym (integrated_is n)) (is_description integrated one_id integrated_reads one_is_fit n lt)
+laws Loaded n lt = subst IsDescription (sym (loaded_is n)) (is_description loaded two_ids loaded_reads two_are_fit n lt)
+laws FetchedIfOther n lt = subst IsDescription (sym (fetched_if_other_is n)) (is_description fetched_if_other one_id fetched_if_other_reads one_is_fit n lt)

@@ -1,4 +1,4 @@
--- Rounds: what is made of their draws.
+-- Rounds: what is made from their draws.
 use Rattle.std.specs.Prelude.{ℕ, Bool, if◌then◌else◌, List, [], ◌∷◌, bit_xor, Option, Some, None}
 use Rattle.serde_json.specs.Data.{Data}
 use Rattle.author.specs.Held.{value_of}
@@ -7,16 +7,16 @@ use Rattle.conformance.specs.declared.rounds.Round.{Round}
 use Rattle.conformance.specs.Drawing.{drawn_from, state_behind}
 use Rattle.conformance.specs.Shapes.{image_name, got_name, shape_data, words_of}
 
--- another payload: the first byte's lowest bit is turned, or a zero byte stands for no byte
+-- a payload with another first byte, or a zero byte in place of none
 abbrev pub spoiled : List ℕ → List ℕ
 spoiled [] = 0 ∷ []
 spoiled (byte ∷ bytes) = bit_xor byte 1 ∷ bytes
 
--- the payload that comes
+-- the payload as it is fetched
 abbrev pub payload_got : Bool → List ℕ → List ℕ
 payload_got wrong payload = if wrong then spoiled payload else payload
 
--- what a contract sees of a round: the value of its description instead of the description
+-- a round as contracts see it: with the value of its description in place of the description
 pub record RoundSaid : Type 0 where
   pub description : Data
   pub files : List (List ℕ × List ℕ)
@@ -49,6 +49,6 @@ said_of d sequence = record {
   choice = d.choice;
 }
 
--- the round that is drawn from a state for this sequence number, and the state behind its draws
+-- the round that is drawn from a state for this sequence number, and the state after its draws
 unfoldable pub round_of : ℕ → ℕ → RoundSaid × ℕ
 round_of state sequence = (said_of (drawn_from state) sequence, state_behind state)

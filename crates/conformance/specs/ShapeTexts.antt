@@ -1,17 +1,11 @@
--- Texts of the descriptions of the shapes.
-use Rattle.std.specs.Prelude.{◌≡◌, ℕ, List, codes, Some}
-use Rattle.serde_json.specs.Data.{Data, number, object, unsigned, put}
+-- The texts of the descriptions of shapes.
+use Rattle.std.specs.Prelude.{◌≡◌, ℕ, List, Some}
+use Rattle.serde_json.specs.Data.{Data}
 use Rattle.serde_json.specs.Read.{read}
 use Rattle.conformance.specs.declared.shape.Shape.{Shape}
-use Rattle.conformance.specs.Shapes.{shape_data}
+use Rattle.conformance.specs.Shapes.{shape_data, with_sequence}
 
--- an object with this sequence number in it
-abbrev pub with_sequence : ℕ → Data → Data
-with_sequence sequence (object members) =
-    object (put (codes "sequence") (number (unsigned sequence)) members)
-with_sequence sequence value = value
-
--- the text spells the shape's description but for the sequence number
+-- the text spells the shape's description, but for the sequence number
 pub record IsTextOf (shape : Shape) (text : List ℕ) : Type 0 where
   pub value : Data
   pub spells : read text ≡ Some value

@@ -11,11 +11,11 @@ bytes_in (Err error) = []
 abbrev pub hex : List ℕ → List ℕ
 hex text = bytes_in (decode_of text)
 
--- of `abc` (FIPS 180-4, its example of one block)
+-- the SHA-256 of `abc` (FIPS 180-4, its example of one block)
 abbrev pub abc_digest : List ℕ
 abc_digest = hex (codes "ba7816bf8f01cfea414140de5dae2223b00361a396177a9cb410ff61f20015ad")
 
--- of no bytes
+-- the SHA-256 of no bytes
 abbrev pub empty_digest : List ℕ
 empty_digest = hex (codes "e3b0c44298fc1c149afbf4c8996fb92427ae41e4649b934ca495991b7852b855")
 
@@ -29,12 +29,12 @@ manifest =
     hex (codes "a501010201035835a2028181410004582c") ++ shared_sequence
     ++ hex (codes "074382030f094382170f")
 
--- it in a tagged envelope, whose wrapper has a digest of 32 zero bytes and no block
+-- that manifest in a tagged envelope, whose wrapper has a digest of 32 zero bytes and no block
 abbrev pub of_zero_digest : List ℕ
 of_zero_digest =
     hex (codes "d86ba2025827815824822f5820") ++ replicate 32 0 ++ hex (codes "035847") ++ manifest
 
--- it with one pair more, 20: [20, {21: "img"}, 21, 15]
+-- that manifest with one more pair, 20: [20, {21: "img"}, 21, 15]
 abbrev pub installing : List ℕ
 installing = hex (codes "a6") ++ drop 1 manifest ++ hex (codes "144a8414a11563696d67150f")
 

@@ -6,7 +6,7 @@ ghost use Rattle.conformance.specs.Vectors.{byte_vectors, installing, of_zero_di
 use det_cbor::{Bytes, List};
 use std::alloc::{AllocError, Global};
 
-/// Byte vectors.
+/// A list of byte vectors.
 pub type VectorList = List<Bytes>;
 
 /// The SHA-256 of `abc`.
@@ -21,7 +21,7 @@ const EMPTY_DIGEST: [u8; 32] = [
     0x27, 0xae, 0x41, 0xe4, 0x64, 0x9b, 0x93, 0x4c, 0xa4, 0x95, 0x99, 0x1b, 0x78, 0x52, 0xb8, 0x55,
 ];
 
-/// A shared sequence, which sets the digest and the size of `abc`.
+/// A shared sequence that sets the digest and the size of `abc`.
 const SHARED: [u8; 44] = [
     0x82, 0x14, 0xa2, 0x03, 0x58, 0x24, 0x82, 0x2f, 0x58, 0x20, 0xba, 0x78, 0x16, 0xbf, 0x8f, 0x01,
     0xcf, 0xea, 0x41, 0x41, 0x40, 0xde, 0x5d, 0xae, 0x22, 0x23, 0xb0, 0x03, 0x61, 0xa3, 0x96, 0x17,
@@ -37,19 +37,19 @@ const MANIFEST: [u8; 71] = [
     0x03, 0x0f, 0x09, 0x43, 0x82, 0x17, 0x0f,
 ];
 
-/// What an envelope has before and behind the digest in its wrapper.
+/// The bytes of an envelope before and after the digest in its wrapper.
 const BEFORE_DIGEST: [u8; 13] = [
     0xd8, 0x6b, 0xa2, 0x02, 0x58, 0x27, 0x81, 0x58, 0x24, 0x82, 0x2f, 0x58, 0x20,
 ];
 
 const BEHIND_DIGEST: [u8; 3] = [0x03, 0x58, 0x47];
 
-/// What a manifest that fetches has behind its first byte and the other manifest's later ones.
+/// The bytes of the manifest that fetches, after its first byte and those that it shares with the other manifest.
 const INSTALL: [u8; 12] = [
     0x14, 0x4a, 0x84, 0x14, 0xa1, 0x15, 0x63, 0x69, 0x6d, 0x67, 0x15, 0x0f,
 ];
 
-// The manifest in an envelope that is not authentic: its digest is zero.
+// The manifest in an envelope that is not authentic, since its digest is zero.
 fn of_zero_digest(alloc: Global) -> Result<Bytes, AllocError>
     ensures { IfOk result (λ bytes. bytes ≡ of_zero_digest) }
 {
@@ -60,7 +60,7 @@ fn of_zero_digest(alloc: Global) -> Result<Bytes, AllocError>
     Ok(bytes)
 }
 
-// The manifest with one pair more, an install sequence that fetches `img`.
+// The manifest with one more pair, an install sequence that fetches `img`.
 fn installing(alloc: Global) -> Result<Bytes, AllocError>
     ensures { IfOk result (λ bytes. bytes ≡ installing) }
 {
@@ -70,8 +70,8 @@ fn installing(alloc: Global) -> Result<Bytes, AllocError>
     Ok(bytes)
 }
 
-/// The SHA-256 of `abc` and of no bytes; a shared sequence of 44 bytes; a manifest of 71 with it; an envelope of 119 around
-/// that; and a manifest of 83 that installs besides.
+/// Returns six vectors: the SHA-256 of `abc` and that of no bytes, a shared sequence of 44 bytes, a manifest of 71
+/// bytes that has it, an envelope of 119 bytes around that, and a manifest of 83 bytes that installs as well.
 pub fn vectors(alloc: Global) -> Result<VectorList, AllocError>
     ensures { IfOk result (λ list. list ≡ byte_vectors) }
 {

@@ -1,11 +1,11 @@
-//! Numbers that look as if they were drawn, and are the same whenever they are.
+//! Numbers that look random, and are the same whenever they are drawn.
 
 ghost use Rattle.std.specs.Prelude.{◌≡◌};
 ghost use Rattle.conformance.specs.Draws.{draw_of, next_state};
 
 use std::marker::Model;
 
-/// A source of numbers. It is no source for keys.
+/// A source of numbers. Not fit for making keys.
 #[derive(Debug, Drop)]
 pub struct Draw {
     state: u64,
@@ -20,14 +20,14 @@ impl Model for Draw {
 }
 
 impl Draw {
-    /// A source that starts at this number.
+    /// A source that starts with this state.
     pub fn new(number: u64) -> Draw
         ensures { result ≡ number }
     {
         Draw { state: number }
     }
 
-    /// The next number, of 31 bits.
+    /// Draws the next number, of 31 bits.
     pub fn next(&mut self) -> u64
         ensures state { self.new ≡ next_state self.old }
         ensures drawn { result ≡ draw_of self.new }

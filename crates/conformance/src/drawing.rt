@@ -16,19 +16,19 @@ const LONGEST_PAYLOAD: u64 = 60_000;
 pub struct Drawn {
     /// How the envelope installs and invokes its image.
     pub shape: Shape,
-    /// The described bytes.
+    /// The payload, as it is described.
     pub payload: Bytes,
-    /// Whether other bytes come when they are fetched.
+    /// Whether other bytes come when the payload is fetched.
     pub wrong_payload: bool,
-    /// Whether the power is to be lost during the update.
+    /// Whether the power is lost during the update.
     pub wants_cut: bool,
-    /// The calls of the flash before that.
+    /// How many calls of the flash pass before the loss.
     pub passes: u64,
-    /// Which of the pending writes the loss keeps.
+    /// Which of the pending writes survive the loss.
     pub choice: u64,
 }
 
-// So many bytes.
+// Draws `count` bytes.
 fn draw_bytes(alloc: Global, draw: &mut Draw, count: u64) -> Result<Bytes, AllocError>
     ensures bytes { IfOk result (λ bytes. bytes ≡ bytes_drawn count draw.old) }
     ensures state { OnOk result (draw.new ≡ state_after count draw.old) }
@@ -40,7 +40,7 @@ fn draw_bytes(alloc: Global, draw: &mut Draw, count: u64) -> Result<Bytes, Alloc
     Ok(bytes)
 }
 
-// A number of 62 bits: its upper half is drawn first.
+// Draws a number of 62 bits. Its upper half is drawn first.
 fn draw_long(draw: &mut Draw) -> u64
     ensures drawn { result ≡ nth_draw draw.old 0 * 2 ^ 31 + nth_draw draw.old 1 }
     ensures state { draw.new ≡ state_after 2 draw.old }
@@ -50,7 +50,8 @@ fn draw_long(draw: &mut Draw) -> u64
     (high << 31) + low
 }
 
-/// Draws a round. Each draw is made always, so that the next round's do not depend on what this one's decide.
+/// Draws a round. Each draw is made every time, so that the draws of the next round do not depend on what this one
+/// decides.
 pub fn draw_round(alloc: Global, draw: &mut Draw) -> Result<Drawn, AllocError>
     ensures drawn { IfOk result (λ drawn. drawn ≡ drawn_from draw.old) }
     ensures state { OnOk result (draw.new ≡ state_behind draw.old) }

@@ -8,13 +8,13 @@ use author::FileList;
 use det_cbor::{Bytes, Text};
 use std::alloc::{AllocError, Global};
 
-/// The file of the described bytes.
+/// The file with the payload as it is described.
 const IMAGE: &str = "img.bin";
 
-/// The file of the bytes that come when they are fetched.
+/// The file with the payload as it is fetched.
 const GOT: &str = "got.bin";
 
-// Other bytes than these.
+// Bytes that differ from the payload.
 fn spoiled(alloc: Global, payload: &[u8]) -> Result<Bytes, AllocError>
     ensures { IfOk result (λ bytes. bytes ≡ spoiled payload.now) }
 {
@@ -26,7 +26,7 @@ fn spoiled(alloc: Global, payload: &[u8]) -> Result<Bytes, AllocError>
     Ok(bytes)
 }
 
-// The bytes that come in place of a payload.
+// The bytes that are fetched as the payload.
 fn payload_got(alloc: Global, wrong: bool, payload: &[u8]) -> Result<Bytes, AllocError>
     ensures { IfOk result (λ bytes. bytes ≡ payload_got wrong payload.now) }
 {
@@ -37,7 +37,7 @@ fn payload_got(alloc: Global, wrong: bool, payload: &[u8]) -> Result<Bytes, Allo
     }
 }
 
-/// The files of a payload: as it is described, and as it comes.
+/// The two files of a payload: as it is described, and as it is fetched.
 pub(crate) fn files_of(alloc: Global, wrong: bool, payload: Bytes) -> Result<FileList, AllocError>
     ensures { IfOk result (λ files. files
         ≡ (image_name, payload) ∷ (got_name, payload_got wrong payload) ∷ []) }

@@ -1,4 +1,4 @@
-//! How a round is drawn.
+//! Makes rounds from what is drawn.
 
 ghost use Rattle.std.specs.Prelude.{◌≡◌, IfOk, IsTrue};
 ghost use Rattle.author.specs.FileNames.{file_names};
@@ -13,7 +13,7 @@ use crate::{Draw, Round, Shape, draw_round, shape_laws};
 use author::{Description, DescriptionFault, description};
 use std::alloc::{AllocError, Global};
 
-// The description of a shape.
+// Makes the description of a shape.
 fn describe(alloc: Global, shape: Shape, sequence: u64) -> Result<Description, AllocError>
     ensures { IfOk result (λ d. value_of d ≡ shape_data shape sequence) }
 {
@@ -26,8 +26,7 @@ fn describe(alloc: Global, shape: Shape, sequence: u64) -> Result<Description, A
     }
 }
 
-/// Draws the round with a manifest of this sequence number. Where memory runs out, nothing is known of what a further
-/// draw would give.
+/// Draws a round whose manifest has this sequence number. After an error, it is not known what `draw` gives next.
 pub fn round(alloc: Global, draw: &mut Draw, sequence: u64) -> Result<Round, AllocError>
     ensures says { IfOk result (λ r. (said_by r, draw.new) ≡ round_of draw.old sequence) }
     ensures files { IfOk result

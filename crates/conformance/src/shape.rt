@@ -1,4 +1,4 @@
-//! The shapes of the envelopes of rounds.
+//! Shapes of envelopes.
 
 ghost use Rattle.std.specs.Prelude.{◌≡◌, IfOk};
 ghost use Rattle.conformance.specs.Shapes.{shape_of, words_of};
@@ -6,21 +6,21 @@ ghost use Rattle.conformance.specs.Shapes.{shape_of, words_of};
 use det_cbor::{Names, Text};
 use std::alloc::{AllocError, Global};
 
-/// The way in which an envelope installs and invokes its image.
+/// How an envelope installs and invokes its image.
 #[derive(Clone, Copy, Debug, PartialEq, Eq)]
 pub enum Shape {
-    /// The image is fetched, and invoked where it stands.
+    /// The image is fetched, and invoked where it is.
     Fetched,
     /// The image is a payload of the envelope.
     Integrated,
-    /// The image is fetched; a boot copies it to working memory and invokes it there.
+    /// The image is fetched. Each boot copies it to working memory, and invokes it there.
     Loaded,
-    /// The image is fetched unless it is there already.
+    /// The image is fetched, unless it is there already.
     FetchedIfOther,
 }
 
 impl Shape {
-    /// The shape of a draw.
+    /// The shape that a number stands for.
     pub(crate) fn of(number: u64) -> Shape
         ensures { result ≡ shape_of number }
     {
@@ -32,7 +32,7 @@ impl Shape {
         }
     }
 
-    /// The words of `run update` that say which file answers the URI of the image.
+    /// The words `URI=NAME` of `run update` for the files that the shape fetches.
     pub(crate) fn words(self, alloc: Global) -> Result<Names, AllocError>
         ensures { IfOk result (λ words. words ≡ words_of self) }
     {

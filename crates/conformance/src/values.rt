@@ -1,10 +1,10 @@
-//! The descriptions of the shapes, as values of JSON.
+//! The descriptions of shapes, as JSON values.
 
 ghost use Rattle.std.specs.Prelude.{◌≡◌, Some, IfOk, IsSome};
 ghost use Rattle.serde_json.specs.Read.{read};
 ghost use Rattle.serde_json.specs.View.{view};
-ghost use Rattle.conformance.specs.Shapes.{shape_data};
-ghost use Rattle.conformance.specs.ShapeTexts.{with_sequence, IsTextOf};
+ghost use Rattle.conformance.specs.Shapes.{shape_data, with_sequence};
+ghost use Rattle.conformance.specs.ShapeTexts.{IsTextOf};
 
 use crate::Shape;
 use serde_json::Value;
@@ -47,7 +47,7 @@ const FETCHED_IF_OTHER: &str = r#"{
     "invoke": [["invoke", 15]]
 }"#;
 
-// The value that a text spells.
+// Reads the value that a text spells.
 fn spelled(alloc: Global, text: &str) -> Result<Value, AllocError>
     requires { IsSome (read text.now) }
     ensures { IfOk result (λ v. read text.now ≡ Some (view v)) }
@@ -59,7 +59,7 @@ fn spelled(alloc: Global, text: &str) -> Result<Value, AllocError>
     }
 }
 
-// The value with this sequence number, where it is an object.
+// Sets the sequence number of a value, if it is an object.
 fn with_sequence(alloc: Global, value: Value, sequence: u64) -> Result<Value, AllocError>
     ensures { IfOk result (λ v. view v ≡ with_sequence sequence (view value)) }
 {
@@ -73,7 +73,7 @@ fn with_sequence(alloc: Global, value: Value, sequence: u64) -> Result<Value, Al
     }
 }
 
-// The text of a shape's description, without its sequence number.
+// The text of a shape's description without its sequence number.
 fn text_of(shape: Shape) -> &'static str
     ensures { IsTextOf shape result.now }
 {
@@ -85,7 +85,7 @@ fn text_of(shape: Shape) -> &'static str
     }
 }
 
-/// The description of a shape with this sequence number.
+/// The description of a shape, with this sequence number.
 pub(crate) fn shape_value(alloc: Global, shape: Shape, sequence: u64) -> Result<Value, AllocError>
     ensures { IfOk result (λ v. view v ≡ shape_data shape sequence) }
 {

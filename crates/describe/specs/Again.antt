@@ -1,4 +1,4 @@
--- A described manifest is made again: a description stands for the manifest that it was written of.
+-- A described manifest is made again: the description stands for the manifest that it was written from.
 use Rattle.std.specs.Prelude.{◌≡◌, ℕ, false, List, [], Option, Some, None}
 use Rattle.det_cbor.specs.DataItem.{spell}
 use Rattle.serde_json.specs.Data.{Data}
@@ -20,7 +20,7 @@ use Rattle.author.specs.Faults.{IsDescription}
 use Rattle.author.specs.Making.{IsManifestOf}
 use Rattle.describe.specs.Describing.{described_by}
 
--- a member that is there, where it stands apart: the envelope holds it, with the digest that the manifest states
+-- if this severed member is given, the envelope holds it with the digest that the manifest states
 abbrev pub IsThere : ℕ → Option (List ℕ) → ℕ → Member → Option SequenceTree → Type 0
 IsThere count held place (Apart stated) (Some s) = IsTaken count held place stated s
 IsThere count held place (Apart stated) None = Unit {0}
@@ -33,8 +33,8 @@ pub record AreThere (said : EnvelopeSays) (m : Manifest) (apart : Members) : Typ
       apart.payload_fetch
   pub install : IsThere (count_said m) said.install said.install_place m.install apart.install
 
--- the value is a description; with whatever files, the manifest that it stands for is this one, places apart, and no other;
--- and that is spelled by these bytes
+-- the value is a description; with any files, it stands for this manifest, but for places, and for no other; and these
+-- bytes spell that manifest
 pub record StandsFor (d : Data) (files : List (List ℕ × List ℕ)) (m : Manifest) (bytes : List ℕ)
     : Type 0 where
   pub accepted : IsDescription d
@@ -51,13 +51,13 @@ MadeAgain =
     → SaysWhole IsManifest place said.manifest m → AreThere said m apart
     → StandsFor (described_by said payloads m apart) files m said.manifest
 
--- no value of a description is a number with a point, so its text is exact
+-- no number in a description has a fraction, so its text is exact
 abbrev pub HasNoFloat : Type 0
 HasNoFloat =
     (said : EnvelopeSays) (payloads : List (List ℕ × List ℕ)) (m : Manifest) (apart : Members)
     → has_float (described_by said payloads m apart) ≡ false
 
--- and it names no file
+-- a description names no file
 abbrev pub NamesNoFile : Type 0
 NamesNoFile =
     (said : EnvelopeSays) (payloads : List (List ℕ × List ℕ)) (m : Manifest) (apart : Members)
@@ -65,7 +65,7 @@ NamesNoFile =
 
 pub record DescribeLaws : Type 0 where
   pub made_again : MadeAgain
-  -- members of which each that stands apart is there
+  -- if all severed members are read, each of them is there
   pub taken : (said : EnvelopeSays) (m : Manifest) (apart : Members) → HasMembers said m apart
       → AreThere said m apart
   pub no_float : HasNoFloat

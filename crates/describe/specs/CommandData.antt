@@ -27,13 +27,13 @@ command_name (Override list) = codes "set"
 command_name (TryEach tries) = codes "try"
 command_name (RunSequence inner) = codes "run"
 
--- an index, all components, or a list of indices
+-- the index of a component, `true` for all of them, or an array of indices
 abbrev pub selection_data : Selection → Data
 selection_data (One i) = number_data i
 selection_data All = boolean true
 selection_data (Listed is) = array_data number_data is
 
--- a name and its argument
+-- an array of a name and an argument
 abbrev pub named : List ℕ → Data → Data
 named name argument = array (item (string name) (item argument no_items))
 
@@ -65,6 +65,6 @@ abbrev pub branch_said : Option SequenceTree → Data
 branch_said (Some s) = sequence_data s
 branch_said None = null
 
--- a member that may be absent
+-- a sequence that may be absent
 abbrev pub sequence_if : Option SequenceTree → Option Data
 sequence_if s = option_map sequence_data s

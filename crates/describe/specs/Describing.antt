@@ -1,4 +1,4 @@
--- The description of an envelope and its manifest, where these members stand apart and are there.
+-- The description of an envelope and its manifest, with those severed members that are given.
 use Rattle.std.specs.Prelude.{ℕ, List, [], ◌∷◌, codes, Option, Some, None, option_map, is_some}
 use Rattle.serde_json.specs.Data.{Data, string, object, Members, no_members, put}
 use Rattle.suit_envelope.specs.Envelopes.{EnvelopeSays}
@@ -11,7 +11,7 @@ use Rattle.describe.specs.MemberData.{member_data, is_severed, member_kind, apar
 use Rattle.describe.specs.SeverData.{severed_names, sever_data}
 use Rattle.describe.specs.PayloadData.{payloads_data}
 
--- ---- fields of an object, of which some are there. Its members ascend by their keys, whatever the order here.
+-- ---- fields of an object, of which some are there; its members ascend by their keys, whatever the order here
 
 abbrev pub Field : Type 0
 Field = List ℕ × Option Data
@@ -41,7 +41,7 @@ sequence_fields m =
     ∷ (codes "invoke", sequence_if m.invoke)
     ∷ []
 
--- the text that stands apart, as far as the envelope holds it
+-- the content of a severed text, if the envelope holds it
 abbrev pub text_there : EnvelopeSays → Manifest → Option (List ℕ)
 text_there said m = apart_text m.text said.text
 

@@ -1,4 +1,4 @@
--- Elements before others.
+-- Lists of elements, one before the other.
 use Rattle.serde_json.specs.Data.{Items, no_items, item}
 
 abbrev pub joined : Items → Items → Items

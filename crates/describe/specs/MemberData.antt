@@ -1,5 +1,4 @@
--- Members in a description that may stand apart from the manifest: with their content where it is known, and by their
--- digests where it is not.
+-- Members that may be severed, in a description: with their content if it is known, or else by their digests.
 use Rattle.std.specs.Prelude.{ℕ, Bool, false, ◌&&◌, if◌then◌else◌, List, codes, Option, Some, None, is_some}
 use Rattle.det_cbor.specs.DataItem.{ByteString, spell}
 use Rattle.serde_json.specs.Data.{Data}
@@ -17,51 +16,45 @@ use Rattle.author.specs.Members.{is_one_item}
 use Rattle.describe.specs.ValueData.{hex_data, one_member}
 use Rattle.describe.specs.CommandData.{sequence_data}
 
--- a member whose content is not known
+-- a member whose content is not known is written by its digest
 abbrev pub digest_data : Digest → Data
 digest_data digest = one_member (codes "digest") (hex_data (digest_bytes digest))
 
--- a member that stands apart is the second one, if it is there
+-- a severed member has the second content, if that is there
 abbrev pub member_data : Member → Option SequenceTree → Option Data
 member_data members.Empty apart = None
 member_data (members.Here s) apart = Some (sequence_data s)
 member_data (members.Apart digest) (Some s) = Some (sequence_data s)
 member_data (members.Apart digest) None = Some (digest_data digest)
 
--- it stands apart, and is there
+-- the member is severed, and there
 abbrev pub is_severed : Member → Option SequenceTree → Bool
-is_severed members.Empty apart = false
-is_severed (members.Here s) apart = false
 is_severed (members.Apart digest) apart = is_some apart
+is_severed _ apart = false
 
--- under the hash function of its digest
+-- the hash function of the member's digest, if it is severed and there
 abbrev pub member_kind : Member → Option SequenceTree → DigestKind
-member_kind members.Empty apart = Sha256
-member_kind (members.Here s) apart = Sha256
-member_kind (members.Apart digest) None = Sha256
 member_kind (members.Apart digest) (Some s) = digest_kind digest
+member_kind _ _ = Sha256
 
 -- ---- the text
 
--- the text in the envelope, where it has the digest and is one item
+-- the text that the envelope holds, if it has the digest and is one item
 abbrev pub held_text : Digest → Option (List ℕ) → Option (List ℕ)
 held_text digest None = None
 held_text digest (Some content) =
     if has_digest digest (spell (ByteString content)) && is_one_item content then Some content
     else None
 
--- under the hash function of its digest
+-- the hash function of the text's digest, if it is severed and its content is known
 abbrev pub text_kind : TextMember → Option (List ℕ) → DigestKind
-text_kind texts.Empty apart = Sha256
-text_kind (texts.Here content) apart = Sha256
-text_kind (texts.Apart digest) None = Sha256
 text_kind (texts.Apart digest) (Some content) = digest_kind digest
+text_kind _ _ = Sha256
 
--- a text that stands apart, as far as its content is known
+-- the content of a severed text, if it is known
 abbrev pub apart_text : TextMember → Option (List ℕ) → Option (List ℕ)
-apart_text texts.Empty held = None
-apart_text (texts.Here content) held = None
 apart_text (texts.Apart digest) held = held_text digest held
+apart_text _ held = None
 
 abbrev pub text_data : TextMember → Option (List ℕ) → Option Data
 text_data texts.Empty apart = None

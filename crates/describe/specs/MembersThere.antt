@@ -1,19 +1,17 @@
--- The members that stand apart, as far as the envelope holds them.
+-- The severed members that the envelope holds.
 use Rattle.std.specs.Prelude.{ℕ, List, Option, Some, None}
 use Rattle.suit_envelope.specs.Envelopes.{EnvelopeSays}
 use Rattle.suit_manifest.specs.declared.manifest.Manifest.{Manifest}
 use Rattle.suit_manifest.specs.declared.manifest.Member.{Member}
-use Rattle.suit_manifest.specs.declared.manifest.Member.TheVariants.{Empty, Here, Apart}
+use Rattle.suit_manifest.specs.declared.manifest.Member.TheVariants.{Empty, Apart}
 use Rattle.suit_manifest.specs.declared.manifest.TextMember.TheVariants as texts
 
--- a member that stands apart, where it is held
+-- a severed member, if it is held
 abbrev pub if_held : Option (List ℕ) → Member → Member
-if_held None member = Empty
-if_held (Some content) Empty = Empty
-if_held (Some content) (Here own) = Empty
 if_held (Some content) (Apart stated) = Apart stated
+if_held _ _ = Empty
 
--- the manifest with those members alone: of these `members_of` tells, and of no other
+-- the manifest with only those members: `members_of` tells of these, and of no others
 abbrev pub only_there : EnvelopeSays → Manifest → Manifest
 only_there said m =
     record m {

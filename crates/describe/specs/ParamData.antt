@@ -6,7 +6,7 @@ use Rattle.suit_params.specs.declared.param.Param.{Param}
 use Rattle.suit_params.specs.declared.param.Param.TheVariants as params
 use Rattle.describe.specs.ValueData.{hex_data, uuid_data, number_data}
 
--- the name and the value of each
+-- the name and the value of a parameter
 abbrev pub param_member : Param → List ℕ × Data
 param_member (params.Vendor id) = (codes "vendor", uuid_data id)
 param_member (params.Class id) = (codes "class", uuid_data id)
@@ -27,7 +27,7 @@ param_name p = (param_member p).0
 abbrev pub value_data : Param → Data
 value_data p = (param_member p).1
 
--- each under its name, beside those that are there
+-- the parameters are added, each under its name, to the members that are there
 abbrev pub with_params : List Param → Members → Members
 with_params [] ms = ms
 with_params (p ∷ ps) ms = with_params ps (put (param_name p) (value_data p) ms)

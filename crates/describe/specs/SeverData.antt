@@ -1,5 +1,5 @@
--- The members that stand apart and are there, in the order of their numbers in an envelope: by name for SHA-256, and elsewhere
--- by name and hash function.
+-- The severed members that are there, in the order of their numbers in an envelope: by name for SHA-256, or else by
+-- name and hash function.
 use Rattle.std.specs.Prelude.{ℕ, Bool, true, false, List, codes, Option, Some, None}
 use Rattle.serde_json.specs.Data.{Data, string, array, Items, no_items, item}
 use Rattle.suit_params.specs.declared.digest_kind.DigestKind.{DigestKind}
@@ -24,7 +24,7 @@ severed_names s =
     (entry_if s.install (codes "install") s.kinds.install
     (entry_if s.text (codes "text") s.kinds.text no_items))
 
--- left out where there are none
+-- the array is left out if it is empty
 abbrev pub sever_data : Items → Option Data
 sever_data no_items = None
 sever_data (item d ds) = Some (array (item d ds))

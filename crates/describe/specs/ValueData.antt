@@ -5,22 +5,22 @@ use Rattle.uuid.specs.Text.{hyphenated_text, lower}
 use Rattle.serde_json.specs.Data.{Data, number, string, array, object, unsigned, no_members, member}
 use Rattle.serde_json.specs.View.{items_of}
 
--- bytes, by two digits of lower case each
+-- bytes, by two lower-case hexadecimal digits each
 abbrev pub hex_data : List ℕ → Data
 hex_data bytes = string (encode_lower bytes)
 
--- a UUID, with hyphens and digits of lower case (RFC 9562)
+-- a UUID, with hyphens and lower-case digits (RFC 9562)
 abbrev pub uuid_data : List ℕ → Data
 uuid_data id = string (hyphenated_text lower id)
 
 abbrev pub number_data : ℕ → Data
 number_data n = number (unsigned n)
 
--- an array, each of its elements by the same form
+-- an array with an element for each value
 abbrev pub array_data : {A : Type 0} → (A → Data) → List A → Data
 array_data form xs = array (items_of (map form xs))
 
--- an object of one member
+-- an object with one member
 abbrev pub one_member : List ℕ → Data → Data
 one_member key d = object (member key d no_members)
 

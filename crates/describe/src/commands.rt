@@ -39,7 +39,7 @@ fn command_name(command: &Command) -> &'static str
     }
 }
 
-// An array of a name and an argument.
+// Writes an array of a name and an argument.
 fn named(alloc: Global, name: &str, argument: Value) -> Result<Value, AllocError>
     ensures { IfOk result (λ v. view v ≡ named name.now (view argument)) }
 {
@@ -49,7 +49,7 @@ fn named(alloc: Global, name: &str, argument: Value) -> Result<Value, AllocError
     Ok(Value::from(values))
 }
 
-/// An array of commands in their order, as deep as the sequences nest. Their places are not written.
+/// Writes an array of commands, in order, as deep as the sequences are nested. Does not write their places.
 #[cycle(describing)]
 pub(crate) fn sequence(alloc: Global, sequence: &Sequence) -> Result<Value, AllocError>
     ensures { IfOk result (λ v. view v ≡ sequence_data sequence.now) }

@@ -22,7 +22,7 @@ use suit_manifest::{Manifest, Members};
 
 type Object = Map<String, Value>;
 
-// Puts a field, if it is there.
+// Adds a field, if it is there.
 fn put_field(
     object: &mut Object,
     alloc: Global,
@@ -78,7 +78,7 @@ fn put_sequences(object: &mut Object, alloc: Global, manifest: &Manifest) -> Res
     put_field(object, alloc, "invoke", invoke)
 }
 
-// Puts the members that may stand apart, and the entries of those that do.
+// Adds the members that may be severed, and the entries of those that are.
 fn put_severable(
     object: &mut Object,
     alloc: Global,
@@ -125,15 +125,15 @@ fn put_payloads(
     put_field(object, alloc, "payloads", value)
 }
 
-/// The description of an envelope, of its manifest and of the members that stand apart and are there.
+/// Describes an envelope, its manifest, and those severed members that are given.
 ///
-/// Each member that the manifest holds, or that is among these, is written with its content; those that stand apart
-/// are listed under `sever`, with their hash functions where these are not SHA-256. A member that stands apart and is
-/// not among these is written by its digest, and so is a text that the envelope does not hold with that digest, or that
-/// is not one item. Digests and other bytes are in digits of lower case, sizes are numbers and identifiers hyphenated
-/// UUIDs. No file is named, and no key.
+/// A member that is in the manifest or among these is written with its content. The severed ones are listed under
+/// `sever`, with their hash function if that is not SHA-256. A severed member that is not among these is written by its
+/// digest, and so is a text that the envelope does not hold with that digest, or that is not one item. Digests and
+/// other bytes are in lower-case hexadecimal digits, sizes are numbers, and identifiers are hyphenated UUIDs. No file
+/// and no key is named.
 ///
-/// The payloads are those of `envelope.whole`; where those bytes spell no envelope, nothing is promised.
+/// The payloads are those of `envelope.whole`. If these bytes do not spell an envelope, nothing is promised.
 pub fn describe(
     alloc: Global,
     envelope: &Envelope<'_>,

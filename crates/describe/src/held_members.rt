@@ -1,4 +1,4 @@
-//! The members that stand apart from their manifest and are in its envelope.
+//! The severed members that the envelope holds.
 
 ghost use Rattle.std.specs.Prelude.{◌≡◌, IfOk, IfErr, option_map};
 ghost use Rattle.suit_envelope.specs.Said.{said_by};
@@ -12,7 +12,7 @@ use std::alloc::{AllocError, Global};
 use suit_envelope::Envelope;
 use suit_manifest::{Manifest, Member, MemberFault, Members, TextMember, members_of};
 
-// A member that stands apart, where the envelope holds it.
+// A severed member, if the envelope holds it.
 fn if_held(held: Option<&[u8]>, member: &Member) -> Member
     ensures { result ≡ if_held (option_map (λ s. s.now) held.entry) member.now }
 {
@@ -26,7 +26,7 @@ fn if_held(held: Option<&[u8]>, member: &Member) -> Member
     }
 }
 
-// The manifest with those of its members that stand apart and are held, and no other.
+// The manifest with those severed members that are held, and no other members.
 fn only_there(
     alloc: Global,
     envelope: &Envelope<'_>,
@@ -48,8 +48,8 @@ fn only_there(
     })
 }
 
-/// The members whose digests the manifest states and which the envelope holds: as `members_of`, but those that the
-/// envelope lacks are left out. So `Severed` never comes.
+/// Reads the severed members that the envelope holds. Works like `members_of`, but leaves out the members that the
+/// envelope lacks, and so never returns `Severed`.
 ///
 /// Needs fewer than 2^32 components, and an envelope whose members end at places below 2^64, as those of
 /// `decode_envelope` do.

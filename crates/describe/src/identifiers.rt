@@ -19,7 +19,7 @@ fn identifier(alloc: Global, identifier: &Identifier) -> Result<Value, AllocErro
     Ok(Value::from(values))
 }
 
-/// An array of identifiers, each an array of byte strings.
+/// Writes an array of identifiers, each an array of byte strings.
 pub(crate) fn identifiers(alloc: Global, identifiers: &Identifiers) -> Result<Value, AllocError>
     ensures { IfOk result (λ v. view v ≡ identifiers_data identifiers.now) }
 {

@@ -1,4 +1,4 @@
-//! The laws of all descriptions that are written.
+//! Laws of all descriptions that are written.
 
 ghost use Rattle.describe.specs.Again.{DescribeLaws};
 
@@ -8,8 +8,8 @@ use suit_envelope::envelope_laws;
 use suit_manifest::manifest_laws;
 
 /// Does nothing. Its contract has the laws. From an envelope, its manifest and those of its members that are there,
-/// `describe` writes a description. Whatever its files, it stands for that manifest but for places, and for no other;
-/// the bytes that the envelope holds spell that one. It names no file, and no number in it has a point.
+/// `describe` writes a description. With any files, it stands for that manifest, but for places, and for no other, and
+/// the bytes that the envelope holds spell that one. It names no file, and none of its numbers has a fraction.
 pub fn describe_laws()
     ensures { DescribeLaws }
 {

@@ -1,4 +1,4 @@
-//! Members that may stand apart from the manifest.
+//! Members that may be severed from the manifest.
 
 ghost use Rattle.std.specs.Prelude.{◌≡◌, IfOk, option_map};
 ghost use Rattle.serde_json.specs.View.{view};
@@ -16,7 +16,7 @@ use suit_envelope::{Envelope, MemberBytes, MemberName, member};
 use suit_manifest::{Member, TextMember};
 use suit_params::{Digest, DigestKind};
 
-/// A sequence that may be absent.
+/// Writes a sequence, if it is there.
 pub(crate) fn sequence_if(
     alloc: Global,
     held: &Option<Sequence>,
@@ -29,14 +29,14 @@ pub(crate) fn sequence_if(
     }
 }
 
-// `{"digest": HEX}`, for a member whose content is not known.
+// Writes `{"digest": HEX}`, for a member whose content is not known.
 fn digest_value(alloc: Global, digest: &Digest) -> Result<Value, AllocError>
     ensures { IfOk result (λ v. view v ≡ digest_data digest.now) }
 {
     one_member(alloc, "digest", hex_value(alloc, digest.bytes())?)
 }
 
-/// A member with its content, or with its digest where it stands apart and is not there.
+/// Writes a member with its content, or with its digest if it is severed and not there.
 pub(crate) fn member_value(
     alloc: Global,
     member: &Member,
@@ -54,7 +54,7 @@ pub(crate) fn member_value(
     }
 }
 
-/// Whether a member stands apart and is there.
+/// Whether a member is severed, and there.
 pub(crate) fn is_severed(member: &Member, apart: &Option<Sequence>) -> bool
     ensures { result ≡ is_severed member.now apart.now }
 {
@@ -65,7 +65,7 @@ pub(crate) fn is_severed(member: &Member, apart: &Option<Sequence>) -> bool
     }
 }
 
-/// The hash function of a member that stands apart and is there. Of another one it is SHA-256.
+/// The hash function of a member that is severed and there. SHA-256 for any other.
 pub(crate) fn member_kind(member: &Member, apart: &Option<Sequence>) -> DigestKind
     ensures { result ≡ member_kind member.now apart.now }
 {
@@ -79,7 +79,7 @@ pub(crate) fn member_kind(member: &Member, apart: &Option<Sequence>) -> DigestKi
     }
 }
 
-// The content of a text with this digest, where the envelope holds it and it is one item.
+// The content of a text with this digest, if the envelope holds it and it is one item.
 fn held_text<'a>(envelope: &Envelope<'a>, stated: &Digest) -> Option<&'a [u8]>
     ensures { option_map (λ t. t.now) result
         ≡ held_text stated.now (said_by envelope.now).text }
@@ -97,7 +97,7 @@ fn held_text<'a>(envelope: &Envelope<'a>, stated: &Digest) -> Option<&'a [u8]>
     }
 }
 
-/// The content of a text that stands apart, where the envelope holds it with its digest and it is one item.
+/// The content of a severed text, if the envelope holds it with its digest and it is one item.
 pub(crate) fn apart_text<'a>(envelope: &Envelope<'a>, text: &TextMember) -> Option<&'a [u8]>
     ensures { option_map (λ t. t.now) result ≡ apart_text text.now (said_by envelope.now).text }
 {
@@ -108,7 +108,7 @@ pub(crate) fn apart_text<'a>(envelope: &Envelope<'a>, text: &TextMember) -> Opti
     }
 }
 
-/// The hash function of a text that stands apart and is known. Of another one it is SHA-256.
+/// The hash function of a severed text whose content is known. SHA-256 for any other.
 pub(crate) fn text_kind(text: &TextMember, apart: Option<&[u8]>) -> DigestKind
     ensures { result ≡ text_kind text.now (option_map (λ t. t.now) apart.entry) }
 {
@@ -122,7 +122,7 @@ pub(crate) fn text_kind(text: &TextMember, apart: Option<&[u8]>) -> DigestKind
     }
 }
 
-/// A text with its content, or with its digest where it stands apart and is not known.
+/// Writes a text with its content, or with its digest if it is severed and its content is not known.
 pub(crate) fn text_value(
     alloc: Global,
     text: &TextMember,

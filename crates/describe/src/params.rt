@@ -47,7 +47,7 @@ fn param_value(alloc: Global, param: &Param) -> Result<Value, AllocError>
     }
 }
 
-/// An object from names of parameters to their values. It is written for an empty list, too.
+/// Writes an object from names of parameters to their values, even for an empty list.
 pub(crate) fn params(alloc: Global, list: &ParamList) -> Result<Value, AllocError>
     ensures { IfOk result (λ v. view v ≡ params_data list.now) }
 {

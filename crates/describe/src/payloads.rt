@@ -10,14 +10,14 @@ use serde_json::{Map, Value, put};
 use std::alloc::{AllocError, Global};
 use suit_envelope::KeyedPayload;
 
-// `{"hex": HEX}`.
+// Writes `{"hex": HEX}`.
 fn payload_value(alloc: Global, content: &[u8]) -> Result<Value, AllocError>
     ensures { IfOk result (λ v. view v ≡ payload_data content.now) }
 {
     one_member(alloc, "hex", hex_value(alloc, content)?)
 }
 
-/// An object from keys to payloads, or nothing where there are none.
+/// Writes an object from keys to payloads, or nothing if there are none.
 pub(crate) fn payloads_value(
     alloc: Global,
     payloads: &[KeyedPayload<'_>],

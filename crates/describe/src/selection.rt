@@ -19,7 +19,7 @@ fn indices(alloc: Global, list: &IndexList) -> Result<Value, AllocError>
     Ok(Value::from(values))
 }
 
-/// The index of a component, `true` for all of them, or an array of indices.
+/// Writes the index of a component, `true` for all of them, or an array of indices.
 pub(crate) fn selection(alloc: Global, selection: &Selection) -> Result<Value, AllocError>
     ensures { IfOk result (λ v. view v ≡ selection_data selection.now) }
 {

@@ -1,4 +1,4 @@
-//! The members that are severed.
+//! The severed members.
 
 ghost use Rattle.std.specs.Prelude.{◌≡◌, IfOk, OnOk, option_map};
 ghost use Rattle.serde_json.specs.Data.{Items};
@@ -11,7 +11,7 @@ use serde_json::Value;
 use std::alloc::{AllocError, Global};
 use suit_params::DigestKind;
 
-// An array of two texts.
+// Writes an array of two texts.
 fn pair_value(alloc: Global, name: &str, algorithm: &str) -> Result<Value, AllocError>
     ensures { IfOk result (λ v. view v ≡ pair_data name.now algorithm.now) }
 {
@@ -21,7 +21,7 @@ fn pair_value(alloc: Global, name: &str, algorithm: &str) -> Result<Value, Alloc
     Ok(Value::from(pair))
 }
 
-// A name for SHA-256, and elsewhere a name and a hash function.
+// Writes a name, for SHA-256, or else a name and a hash function.
 fn entry_value(alloc: Global, name: &str, kind: DigestKind) -> Result<Value, AllocError>
     ensures { IfOk result (λ v. view v ≡ entry_data name.now kind) }
 {
@@ -32,7 +32,7 @@ fn entry_value(alloc: Global, name: &str, kind: DigestKind) -> Result<Value, All
     }
 }
 
-// Adds the entry of a member that is severed.
+// Adds an entry for a member, if it is severed.
 fn push_entry(
     alloc: Global,
     entries: &mut Vec<Value>,
@@ -77,7 +77,7 @@ fn severed_names(alloc: Global, severed: Severed) -> Result<Vec<Value>, AllocErr
     Ok(entries)
 }
 
-/// An array of the members, or nothing where there are none.
+/// Writes an array of the severed members, or nothing if there are none.
 pub(crate) fn sever_value(alloc: Global, severed: Severed) -> Result<Option<Value>, AllocError>
     ensures { IfOk result (λ v. option_map view v ≡ sever_data (severed_names severed)) }
 {

@@ -8,14 +8,14 @@ use serde_json::{Map, Value, put};
 use std::alloc::{AllocError, Global};
 use uuid::Uuid;
 
-/// Bytes, as a text of two hexadecimal digits of lower case for each.
+/// Writes bytes as a text of two lower-case hexadecimal digits each.
 pub(crate) fn hex_value(alloc: Global, bytes: &[u8]) -> Result<Value, AllocError>
     ensures { IfOk result (λ v. view v ≡ hex_data bytes.now) }
 {
     Ok(Value::from(hex::encode(alloc, bytes)?))
 }
 
-/// The bytes of a UUID (RFC 9562), as a text with hyphens and digits of lower case.
+/// Writes a UUID (RFC 9562) as a text with hyphens and lower-case digits.
 pub(crate) fn uuid_value(alloc: Global, id: [u8; 16]) -> Result<Value, AllocError>
     ensures { IfOk result (λ v. view v ≡ uuid_data id) }
 {
@@ -24,7 +24,7 @@ pub(crate) fn uuid_value(alloc: Global, id: [u8; 16]) -> Result<Value, AllocErro
     Value::try_from_str(alloc, text)
 }
 
-/// An object of one member.
+/// An object with one member.
 pub(crate) fn one_member(alloc: Global, key: &str, value: Value) -> Result<Value, AllocError>
     ensures { IfOk result (λ v. view v ≡ one_member key.now (view value)) }
 {
