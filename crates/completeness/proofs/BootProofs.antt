@@ -196,7 +196,7 @@ module _ (configs : OneConfigAnswer) (records : OneAnswer) (laws : BootLaws) whe
 
     boot_there : (end : BootEnd) (lines : List ℕ) (u : Boots l n b a end lines) → IsBoot (R.layout, R.key, R.frame) l n u.middle a end
     boot_there end lines u =
-        let same = (one_config configs b.flash ready.told.flash).value (R.layout, R.key, R.frame) (u.layout, u.key, u.frame) R.configured u.held.1 in
+        let same = (one_config configs b.flash ready.told.flash).value (R.layout, R.key, R.frame) u.config R.configured u.held.1 in
         subst (λ (config : List Entry × Key × Frame). IsBoot config l n u.middle a end) same u.boot
 
     of_stages : (e : Ending) → answers words b a e → n ≡ l → IsFaultless l n b a → BootsWhole words l b ready n a (Answered e) ⊎ LeavesFlash l n b a (Answered e)
@@ -219,32 +219,32 @@ module _ (configs : OneConfigAnswer) (records : OneAnswer) (laws : BootLaws) whe
       seen : SeesSame b u.middle
       seen = boot_sees l n b a ends.Ended lines u told
 
-      play : PlaysBoot u.frame u.layout u.key b.files b.flash.reads a.flash.reads l.launches n.launches plays.Done
+      play : PlaysBoot u.config.2 u.config.0 u.config.1 b.files b.flash.reads a.flash.reads l.launches n.launches plays.Done
       play =
-          subst (λ (z : List ℕ → Option (List ℕ)). PlaysBoot u.frame u.layout u.key z b.flash.reads a.flash.reads l.launches n.launches plays.Done) seen.files
-          (subst (λ (z : List ℕ). PlaysBoot u.frame u.layout u.key u.middle.files z a.flash.reads l.launches n.launches plays.Done) seen.reads
+          subst (λ (z : List ℕ → Option (List ℕ)). PlaysBoot u.config.2 u.config.0 u.config.1 z b.flash.reads a.flash.reads l.launches n.launches plays.Done) seen.files
+          (subst (λ (z : List ℕ). PlaysBoot u.config.2 u.config.0 u.config.1 u.middle.files z a.flash.reads l.launches n.launches plays.Done) seen.reads
           (u.boot.plays (subst IsTrue (sym seen.flash_told) told.flash) told.launcher))
 
-      has_recorded : HasRecorded u.frame u.layout u.key play.installed b.flash.reads
+      has_recorded : HasRecorded u.config.2 u.config.0 u.config.1 play.installed b.flash.reads
       has_recorded = record {
-        config = subst (λ (z : ℕ). ConfigOf z b.flash.reads (Configured u.layout u.key u.frame)) size (u.held.1 told.flash);
+        config = subst (λ (z : ℕ). ConfigOf z b.flash.reads (Configured u.config.0 u.config.1 u.config.2)) size (u.held.1 told.flash);
         record_is = play.starts.recorded;
       }
 
-      is_installed : IsInstalled u.layout u.key (bank_in u.frame b.flash.reads play.installed) play.installed
-      is_installed = soundness.installed u.frame u.layout u.key play.installed b.flash.reads has_recorded sound
+      is_installed : IsInstalled u.config.0 u.config.1 (bank_in u.config.2 b.flash.reads play.installed) play.installed
+      is_installed = soundness.installed u.config.2 u.config.0 u.config.1 play.installed b.flash.reads has_recorded sound
 
       records_there : Records b
-      records_there = record { layout = u.layout; key = u.key; frame = u.frame; configured = u.held.1; installed = play.installed; recorded = play.starts.recorded; is = is_installed }
+      records_there = record { layout = u.config.0; key = u.config.1; frame = u.config.2; configured = u.held.1; installed = play.installed; recorded = play.starts.recorded; is = is_installed }
 
-      on_there : PlaysOn u.layout is_installed.said play.installed.active b.files b.flash.reads a.flash.reads l.launches n.launches plays.Done
+      on_there : PlaysOn u.config.0 is_installed.said play.installed.active b.files b.flash.reads a.flash.reads l.launches n.launches plays.Done
       on_there =
-          let start = laws.installed u.layout u.key (bank_in u.frame b.flash.reads play.installed) play.installed is_installed in
-          subst (λ (z : Manifest). PlaysOn u.layout z play.installed.active b.files b.flash.reads a.flash.reads l.launches n.launches plays.Done)
-          (laws.same u.layout (key_bytes u.key) (bank_in u.frame b.flash.reads play.installed) play.starts.said start.0 play.manifest is_installed.said is_installed.are_bytes play.starts.started start.1).1
+          let start = laws.installed u.config.0 u.config.1 (bank_in u.config.2 b.flash.reads play.installed) play.installed is_installed in
+          subst (λ (z : Manifest). PlaysOn u.config.0 z play.installed.active b.files b.flash.reads a.flash.reads l.launches n.launches plays.Done)
+          (laws.same u.config.0 (key_bytes u.config.1) (bank_in u.config.2 b.flash.reads play.installed) play.starts.said start.0 play.manifest is_installed.said is_installed.are_bytes play.starts.started start.1).1
           play.on
 
-      activates : Activates u.layout play.installed is_installed.said
+      activates : Activates u.config.0 play.installed is_installed.said
       activates = record { standings = on_there.standings; stand = on_there.stand }
 
       was_ready : ReadyToBoot words l b

@@ -1,4 +1,5 @@
-//! Laws of `run update`, `run boot` and `run migrate` where nothing is missing. The call here does nothing: its contract has the laws.
+//! Laws of `run update`, `run boot` and `run migrate` where nothing is missing. The function does nothing; its contract
+//! has the laws.
 
 ghost use Rattle.completeness.specs.CompletenessLaws.{CompletenessLaws};
 

@@ -1,5 +1,5 @@
-//! The program `suit`: it hands the words of the command line and the real outside to the top call, and ends with
-//! the status of that call.
+//! The program `suit`: calls `run` with the words of the command line and the real host, flash, launcher and output,
+//! and exits with its status.
 #![tactic(auto)]
 
 mod flash;

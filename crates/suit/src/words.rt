@@ -8,7 +8,7 @@ use det_cbor::{Names, Text};
 use std::alloc::{AllocError, Global};
 use std::str;
 
-/// The bytes of a word that fit at first; the room doubles for a longer one.
+/// The length of the first buffer for a word, in bytes. It doubles for a longer word.
 const ROOM: usize = 4096;
 
 /// The words of the command line without the program's name. A word that is not UTF-8 is handed on as `-`, which no
@@ -47,7 +47,7 @@ fn word_at<S: Source>(
     Err(AllocError)
 }
 
-// A room of twice as many bytes.
+// A buffer twice as long.
 fn double(alloc: Global, room: &mut Vec<u8>) -> Result<(), AllocError> {
     let length = room.len().checked_mul(2).ok_or(AllocError)?;
     *room = vec![in alloc; 0u8; length]?;

@@ -28,7 +28,7 @@ comes_by config l m b middle a held (Answered ending) by =
     ByStages ending (Goes config middle ending held (subst (λ (e : Ending). Last (λ (reply : Reply). ⊥) middle a e) (sym by.0) (EndsWithout by.1))) by.2
 comes_by config l m b middle a held (Updated end lines) by = absurd by
 comes_by config l m b middle a held (Booted end lines) by =
-    ByBoot end lines refl (record { layout = config.0; key = config.1; frame = config.2; middle = middle; held = held; boot = by.0; lines_are = by.1 })
+    ByBoot end lines refl (record { config = config; middle = middle; held = held; boot = by.0; lines_are = by.1 })
 
 -- where there is none
 pub unconfigured : (l : Launching) (b a : Outside) (stop : Stop) → Does config_in b a (Err stop)

@@ -45,7 +45,7 @@ module _ (before : Outside) (a b c : Flash) (size : ℕ) (law : IsFlash b size) 
   same_since still = same_flash_then a b c size law same still
 
   booted_since : KeepsBoot frame layout key b c → KeepsBooted before a c
-  booted_since kept = record { layout = layout; key = key; frame = frame; config = config; kept = boot_since kept }
+  booted_since kept = record { config = (layout, key, frame); held = config; kept = boot_since kept }
 
   pub boot_keeps : (ended : Ended) → BootKeepsBy (layout, key, frame) ended b c → BootKeeps before ended a c
   boot_keeps (Booted end lines) kept = kept_map _ _ _ _ booted_since same_since end kept

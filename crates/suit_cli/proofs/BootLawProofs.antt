@@ -61,16 +61,16 @@ module _ (launched now : Launching) (before after : Outside) where
       files : b.middle.files ≡ before.files
       files = ap (λ (o : Outside). o.files) b.held.0.beside
 
-      answers : Answers b.frame b.layout b.key before.flash.reads end
-      answers = subst (λ (l : List ℕ). Answers b.frame b.layout b.key l end) reads (b.boot.answers middle_told)
+      answers : Answers b.config.2 b.config.0 b.config.1 before.flash.reads end
+      answers = subst (λ (l : List ℕ). Answers b.config.2 b.config.0 b.config.1 l end) reads (b.boot.answers middle_told)
 
       abbrev Plays : PlanEnd → Type 0
-      Plays = PlaysBoot b.frame b.layout b.key before.files before.flash.reads after.flash.reads launched.launches now.launches
+      Plays = PlaysBoot b.config.2 b.config.0 b.config.1 before.files before.flash.reads after.flash.reads launched.launches now.launches
 
       played : PlayedSo Plays (after.flash.reads ≡ before.flash.reads) launched.launches now.launches end
       played =
-          subst (λ (f : List ℕ → Option (List ℕ)). PlayedSo (PlaysBoot b.frame b.layout b.key f before.flash.reads after.flash.reads launched.launches now.launches) (after.flash.reads ≡ before.flash.reads) launched.launches now.launches end) files
-          (subst (λ (l : List ℕ). PlayedSo (PlaysBoot b.frame b.layout b.key b.middle.files l after.flash.reads launched.launches now.launches) (after.flash.reads ≡ l) launched.launches now.launches end) reads
+          subst (λ (f : List ℕ → Option (List ℕ)). PlayedSo (PlaysBoot b.config.2 b.config.0 b.config.1 f before.flash.reads after.flash.reads launched.launches now.launches) (after.flash.reads ≡ before.flash.reads) launched.launches now.launches end) files
+          (subst (λ (l : List ℕ). PlayedSo (PlaysBoot b.config.2 b.config.0 b.config.1 b.middle.files l after.flash.reads launched.launches now.launches) (after.flash.reads ≡ l) launched.launches now.launches end) reads
           (b.boot.plays middle_told launcher))
 
       with_lines : Caused (Booted end (boot_line end)) → Caused (Booted end lines)
@@ -78,16 +78,16 @@ module _ (launched now : Launching) (before after : Outside) where
 
       of_play : (play : PlanEnd) → end ≡ end_of play → Plays play → Caused (Booted end (boot_line end))
       of_play play is p =
-          inr (inl (record { layout = b.layout; key = b.key; frame = b.frame; config = b.held.1; end = play; plays = p; ends_so = ap (λ (e : BootEnd). Booted e (boot_line e)) is }))
+          inr (inl (record { layout = b.config.0; key = b.config.1; frame = b.config.2; config = b.held.1; end = play; plays = p; ends_so = ap (λ (e : BootEnd). Booted e (boot_line e)) is }))
 
     of_end : (end : BootEnd) (lines : List ℕ) (b : Boots launched now before after end lines) → Caused (Booted end (boot_line end))
-    of_end ends.NothingInstalled lines b = inl (AtRecord (b.layout, b.key, b.frame) b.held.1 (answers ends.NothingInstalled lines b))
+    of_end ends.NothingInstalled lines b = inl (AtRecord b.config b.held.1 (answers ends.NothingInstalled lines b))
     of_end (ends.BadBank refusal) lines b =
-        let a = answers (ends.BadBank refusal) lines b in inl (AtBank (b.layout, b.key, b.frame) a.0 refusal (record { held = b.held.1; recorded = a.1 }) a.2)
+        let a = answers (ends.BadBank refusal) lines b in inl (AtBank b.config a.0 refusal (record { held = b.held.1; recorded = a.1 }) a.2)
     of_end (ends.NotAuthentic lacking) lines b =
-        let a = answers (ends.NotAuthentic lacking) lines b in inl (AtAuthenticity (b.layout, b.key, b.frame) a.0 lacking (record { held = b.held.1; recorded = a.1 }) a.2)
+        let a = answers (ends.NotAuthentic lacking) lines b in inl (AtAuthenticity b.config a.0 lacking (record { held = b.held.1; recorded = a.1 }) a.2)
     of_end (ends.UnknownComponent component) lines b =
-        let a = answers (ends.UnknownComponent component) lines b in inl (AtComponents (b.layout, b.key, b.frame) a.0 component (record { held = b.held.1; recorded = a.1 }) a.2)
+        let a = answers (ends.UnknownComponent component) lines b in inl (AtComponents b.config a.0 component (record { held = b.held.1; recorded = a.1 }) a.2)
     of_end ends.Ended lines b = of_play ends.Ended lines b plays.Done refl (played ends.Ended lines b)
     of_end (ends.Condition place) lines b = of_play (ends.Condition place) lines b (plays.ConditionFailed place) refl (played (ends.Condition place) lines b)
     of_end (ends.Stopped place cause) lines b = of_play (ends.Stopped place cause) lines b (plays.DirectiveFailed place cause) refl (played (ends.Stopped place cause) lines b)

@@ -5,7 +5,7 @@ use Rattle.suit_edge.specs.Faults.{Faulted}
 use Rattle.suit_cli.specs.declared.reply.Object.TheVariants as objects
 use Rattle.suit_cli.specs.Beginnings.{begins_boot, begins_update}
 use Rattle.suit_cli.specs.Coming.{Comes, ByStages, ByBoot, ByUpdate, Ended, ended_status}
-use Rattle.suit_cli.specs.DrillRounds.{IsWhole, is_whole}
+use Rattle.suit_cli.specs.DrillRounds.{is_whole}
 use Rattle.suit_cli.specs.Launching.{Launching}
 use Rattle.suit_cli.specs.Outside.{Outside}
 use Rattle.suit_cli.specs.Stages.{Ending, Says, FaultOf, NoMemory}
@@ -16,6 +16,13 @@ use Rattle.suit_cli.proofs.RunEnds.{boot_counts}
 use Rattle.suit_cli.proofs.StagesKeep.{Counts, Unfaulted, begins_keeps}
 use Rattle.suit_cli.proofs.StagesLet.{updates_lets}
 use Rattle.suit_cli.proofs.UpdateEnds.{update_counts, update_files}
+
+-- no object counted a fault, and memory did not run out
+pub record NoFault (l m : Launching) (b a : Outside) (ended : Ended) : Type 0 where
+  pub host : a.faults ≡ b.faults
+  pub flash : a.flash.faults ≡ b.flash.faults
+  pub launcher : m.faults ≡ l.faults
+  pub enough : ended_status ended ≢ 11
 
 -- ---- by the status
 
@@ -38,7 +45,7 @@ stage_cut NoMemory b a eight counts = absurd (omega (arith, eight))
 
 module _ (name : List ℕ) (uris : List Named) (l m : Launching) (b a : Outside) where
   pub update_whole : (ended : Ended) → Comes (begins_update name) (λ task. RunUpdate name uris ≡ task) l m b a ended → is_whole (ended_status ended) ≡ true
-      → IsWhole l m b a ended
+      → NoFault l m b a ended
   update_whole _ (ByStages e answer same) whole =
       let calm = stage_whole e b a whole (updates_lets name b a e answer).counts in
       record {
@@ -72,7 +79,7 @@ module _ (name : List ℕ) (uris : List Named) (l m : Launching) (b a : Outside)
 -- ---- a boot
 
 pub boot_whole : (l m : Launching) (b a : Outside) (ended : Ended) → Comes begins_boot (λ task. RunBoot ≡ task) l m b a ended → is_whole (ended_status ended) ≡ true
-    → IsWhole l m b a ended
+    → NoFault l m b a ended
 boot_whole l m b a _ (ByStages e answer same) whole =
     let calm = stage_whole e b a whole (begins_keeps b a e answer).counts in
     record {

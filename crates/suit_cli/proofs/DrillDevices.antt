@@ -20,7 +20,7 @@ use Rattle.rollback_record.proofs.SettledLaws.{settles}
 use Rattle.rollback_record.specs.SoundLaws.{SoundLaws}
 use Rattle.suit_cli.specs.DrillDevice.{IsFirst, device_layout, entry_of, flash_size, key_bytes}
 use Rattle.suit_cli.specs.Devices.{key_of}
-use Rattle.suit_cli.specs.DrillRounds.{IsReady}
+use Rattle.suit_cli.specs.DrillRounds.{IsAtRest}
 
 -- ---- the layout
 
@@ -88,7 +88,7 @@ is_first size layout key image same layout_is key_is formatted =
     (subst (λ (l : List Entry). IsFormatted VERSION_1 size l device_key image) layout_is
     (subst (λ (k : Key). IsFormatted VERSION_1 size layout k image) key_is formatted))
 
-pub is_ready : SoundLaws → (disk : DiskState) → length disk.first ≡ flash_size → IsFirst (memory_flash disk).reads → IsSettled (memory_flash disk) → IsReady disk
+pub is_ready : SoundLaws → (disk : DiskState) → length disk.first ≡ flash_size → IsFirst (memory_flash disk).reads → IsSettled (memory_flash disk) → IsAtRest disk
 is_ready laws disk size first none = record {
   size = size;
   settled = settles (memory_flash disk) none (laws.formatted VERSION_1 device_layout device_key (memory_flash disk).reads

@@ -7,7 +7,7 @@ use Rattle.suit_cli.specs.declared.drill.tally.Tally.{Tally}
 use Rattle.suit_cli.specs.declared.reply.Reply.{Reply}
 use Rattle.suit_cli.specs.declared.reply.Outcome.TheVariants as outcomes
 use Rattle.suit_cli.specs.DrillDevice.{IsFirst}
-use Rattle.suit_cli.specs.DrillRounds.{IsReady, RoundRun, RunsRound}
+use Rattle.suit_cli.specs.DrillRounds.{IsAtRest, RoundRun, RunsRound}
 use Rattle.suit_cli.specs.Drilling.{DrillsTo, IsDrilled, NoRound, RoundAfter, RunTo, counted_round, drill_line, launches_of, no_rounds, rounds_counted, tally_of, wrong_in}
 use Rattle.suit_cli.proofs.DrillLawProofs.{adds_up, launches_then, tally_then}
 
@@ -20,9 +20,9 @@ pub record Drilled (number state sequence : ℕ) (disk : DiskState) (tally : Tal
   pub many : length rounds + 1 ≡ sequence
   pub tally_is : tally ≡ tally_of no_rounds rounds
   pub launches_are : launches ≡ launches_of rounds
-  pub ready : IsReady disk
+  pub ready : IsAtRest disk
 
-pub drilled_none : (number : ℕ) (disk : DiskState) → IsFirst (memory_flash disk).reads → IsReady disk → (state : ℕ) → state ≡ number → (tally : Tally) → tally ≡ no_rounds
+pub drilled_none : (number : ℕ) (disk : DiskState) → IsFirst (memory_flash disk).reads → IsAtRest disk → (state : ℕ) → state ≡ number → (tally : Tally) → tally ≡ no_rounds
     → (launches : List Launch) → launches ≡ [] → Drilled number state 1 disk tally launches
 drilled_none number disk formatted ready state state_is tally tally_is launches launches_are = record {
   rounds = [];
@@ -37,13 +37,14 @@ drilled_none number disk formatted ready state state_is tally tally_is launches 
 
 -- one round more
 pub drilled_then : (number state sequence : ℕ) (disk : DiskState) (tally : Tally) (launches : List Launch) → Drilled number state sequence disk tally launches
-    → (later : ℕ) (left : DiskState) (now : List Launch) (end : RoundEnd) → RunsRound sequence state (memory_flash disk).reads launches later (memory_flash left).reads now end → IsReady left
+    → (later : ℕ) (left : DiskState) (now : List Launch) (end : RoundEnd) → RunsRound sequence (record { draws = state; image = (memory_flash disk).reads; launches = launches }) (record { draws = later; image = (memory_flash left).reads; launches = now }) end
+    → IsAtRest left
     → (more : Tally) → more ≡ counted_round tally end → Drilled number later (sequence + 1) left more now
 drilled_then number state sequence disk tally launches d later left now end r ready more more_is = record {
   rounds = d.rounds ++ r.run ∷ [];
   first = d.first;
   formatted = d.formatted;
-  run = subst (λ (n : ℕ). RunTo number d.first (d.rounds ++ r.run ∷ []) n (sequence + 1) (memory_flash left).reads) (sym r.state_is)
+  run = subst (λ (n : ℕ). RunTo number d.first (d.rounds ++ r.run ∷ []) n (sequence + 1) (memory_flash left).reads) (sym r.draws_are)
       (subst (RunTo number d.first (d.rounds ++ r.run ∷ []) _ (sequence + 1)) r.after_is (RoundAfter d.rounds state sequence _ r.run d.run r.before_is r.is));
   many = let longer = length-append d.rounds (r.run ∷ []) in let before = d.many in omega (arith, longer, before);
   tally_is = more_is ∙ ap (λ (t : Tally). counted_round t end) d.tally_is ∙ ap (counted_round (tally_of no_rounds d.rounds)) (sym r.end_is) ∙ sym (tally_then d.rounds no_rounds r.run);

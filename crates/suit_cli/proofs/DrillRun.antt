@@ -9,7 +9,7 @@ use Rattle.suit_edge.specs.MemoryHost.{HostState, empty_host, file_in, with_file
 use Rattle.suit_edge.specs.declared.launch.Launch.{Launch}
 use Rattle.suit_cli.specs.declared.drill.tally.RoundEnd.{RoundEnd}
 use Rattle.suit_cli.specs.DrillDevice.{key_bytes}
-use Rattle.suit_cli.specs.DrillRounds.{AreWords, BootComes, BootsRound, HostsRound, IsRound, LivesOn, RoundRun, RunsRound, UpdatesRound, envelope_name, files_in}
+use Rattle.suit_cli.specs.DrillRounds.{AreWords, BootComes, BootsRound, HostsRound, IsNextImage, IsRound, RoundRun, RunsRound, UpdatesRound, envelope_name, round_files}
 use Rattle.suit_cli.specs.Outside.{Files}
 
 -- the words of what was drawn are those of a shape
@@ -32,9 +32,9 @@ hosts said envelope made h h1 h2 given got empty given_is first got_is second =
     }
 
 module _ (sequence state later : ℕ) (said : RoundSaid) (says : (said, later) ≡ round_of state sequence) (host : HostState) (hosts : HostsRound said host) (files : Files) (same : files ≡ file_in host.files)
-    (first second third : List ℕ) (end : RoundEnd) (launched now : List Launch) (updates : UpdatesRound said (file_in host.files) first second end) (lives : LivesOn first second)
-    (boots : BootsRound files second third launched now) (lives_on : LivesOn second third) where
-  named : file_in host.files ≡ files_in said hosts.envelope
+    (first second third : List ℕ) (end : RoundEnd) (launched now : List Launch) (updates : UpdatesRound said (file_in host.files) first second end) (lives : IsNextImage first second)
+    (boots : BootsRound files second third launched now) (lives_on : IsNextImage second third) where
+  named : file_in host.files ≡ round_files said hosts.envelope
   named = ap file_in hosts.files
 
   abbrev run : RoundRun
@@ -50,11 +50,11 @@ module _ (sequence state later : ℕ) (said : RoundSaid) (says : (said, later) �
     second = lives_on;
   }
 
-  pub runs_round : RunsRound sequence state first launched later third now end
+  pub runs_round : RunsRound sequence (record { draws = state; image = first; launches = launched }) (record { draws = later; image = third; launches = now }) end
   runs_round = record {
     run = run;
     is = subst (λ (s : RoundSaid). IsRound s run) (ap (λ (p : RoundSaid × ℕ). p.0) says) is_round;
-    state_is = ap (λ (p : RoundSaid × ℕ). p.1) says;
+    draws_are = ap (λ (p : RoundSaid × ℕ). p.1) says;
     before_is = refl;
     after_is = refl;
     end_is = refl;

@@ -15,11 +15,11 @@ use Rattle.suit_cli.specs.declared.drill.tally.RoundEnd.{RoundEnd}
 use Rattle.suit_cli.specs.declared.drill.tally.RoundEnd.TheVariants.{Cut}
 use Rattle.suit_cli.specs.Beginnings.{begins_boot, begins_update}
 use Rattle.suit_cli.specs.Coming.{Comes, Ended, StaysOrKeeps, ended_status}
-use Rattle.suit_cli.specs.DrillRounds.{BootsRound, IsDrawn, IsReady, LivesOn, UpdatesRound, end_of, ends_so, envelope_name, have_starved, is_whole}
+use Rattle.suit_cli.specs.DrillRounds.{BootsRound, IsAtRest, IsDrawn, IsNextImage, UpdatesRound, end_of, ends_so, envelope_name, have_starved, is_whole}
 use Rattle.suit_cli.specs.Settling.{StaysInOrder}
 use Rattle.suit_cli.specs.Words.{Named, RunBoot, RunUpdate, pairs_of, task_of}
 use Rattle.suit_cli.proofs.DrillCounts.{boot_whole, update_stays}
-use Rattle.suit_cli.proofs.DrillUpdates.{boots, launching, lives_cut, lives_on, objects, ready_cut, ready_on, seen, updates_cut, updates_whole, whole}
+use Rattle.suit_cli.proofs.DrillUpdates.{around, boots, launching, lives_cut, lives_on, objects, ready_cut, ready_on, seen, updates_cut, updates_whole, whole}
 use Rattle.suit_cli.proofs.DrillWords.{asked}
 
 -- a disk with nothing done on it reads as it began
@@ -31,12 +31,12 @@ pub is_so : (b : Bool) (P : Type 0) → OnTrue b P → b ≡ true → P
 is_so b P holds is = subst (λ (x : Bool). OnTrue x P) is holds
 
 -- nothing is pending where the fuse was put
-pub begins_settled : (flash : DiskState) (passes : ℕ) (f : FuseState) → f ≡ record { disk = flash; passes = passes; faults = 0 } → IsReady flash → Settled (memory_flash f.disk)
+pub begins_settled : (flash : DiskState) (passes : ℕ) (f : FuseState) → f ≡ record { disk = flash; passes = passes; faults = 0 } → IsAtRest flash → Settled (memory_flash f.disk)
 begins_settled flash passes f begun ready = subst (λ (d : DiskState). Settled (memory_flash d)) (sym (ap (λ (x : FuseState). x.disk) begun)) ready.settled
 
 -- ---- the flash, round which a fuse was put
 
-module _ (flash : DiskState) (passes : ℕ) (f f' : FuseState) (begun : f ≡ record { disk = flash; passes = passes; faults = 0 }) (ready : IsReady flash)
+module _ (flash : DiskState) (passes : ℕ) (f f' : FuseState) (begun : f ≡ record { disk = flash; passes = passes; faults = 0 }) (ready : IsAtRest flash)
     (extent : length f'.disk.first ≡ length f.disk.first) (order : StaysInOrder (memory_flash f.disk) (memory_flash f'.disk) f.faults f'.faults) (left : DiskState) (is : left ≡ f'.disk) where
   disk_is : f.disk ≡ flash
   disk_is = ap (λ (x : FuseState). x.disk) begun
@@ -44,16 +44,16 @@ module _ (flash : DiskState) (passes : ℕ) (f f' : FuseState) (begun : f ≡ re
   none : f.faults ≡ 0
   none = ap (λ (x : FuseState). x.faults) begun
 
-  ready_at : IsReady f.disk
-  ready_at = subst IsReady (sym disk_is) ready
+  ready_at : IsAtRest f.disk
+  ready_at = subst IsAtRest (sym disk_is) ready
 
-  pub left_lives : LivesOn (memory_flash flash).reads (memory_flash left).reads
+  pub left_lives : IsNextImage (memory_flash flash).reads (memory_flash left).reads
   left_lives =
-      subst (λ (d : DiskState). LivesOn (memory_flash d).reads (memory_flash left).reads) disk_is
-      (subst (λ (d : DiskState). LivesOn (memory_flash f.disk).reads (memory_flash d).reads) (sym is) (lives_on f f' ready_at.size extent ready_at.settled order))
+      subst (λ (d : DiskState). IsNextImage (memory_flash d).reads (memory_flash left).reads) disk_is
+      (subst (λ (d : DiskState). IsNextImage (memory_flash f.disk).reads (memory_flash d).reads) (sym is) (lives_on f f' ready_at.size extent ready_at.settled order))
 
-  pub left_ready : f'.faults ≡ f.faults → IsReady left
-  left_ready same = subst IsReady (sym is) (ready_on f f' ready_at.size extent ready_at.settled order none same)
+  pub left_ready : f'.faults ≡ f.faults → IsAtRest left
+  left_ready same = subst IsAtRest (sym is) (ready_on f f' ready_at.size extent ready_at.settled order none same)
 
   -- what the loss leaves
   module _ (kept : DiskState) (may : Now (memory_flash left) kept.first) (size : length kept.first ≡ length left.first) (settled : IsSettled (memory_flash kept))
@@ -64,12 +64,12 @@ module _ (flash : DiskState) (passes : ℕ) (f f' : FuseState) (begun : f ≡ re
     same_size : length kept.first ≡ length f'.disk.first
     same_size = size ∙ ap (λ (d : DiskState). length d.first) is
 
-    pub loss_lives : LivesOn (memory_flash flash).reads (memory_flash kept).reads
+    pub loss_lives : IsNextImage (memory_flash flash).reads (memory_flash kept).reads
     loss_lives =
-        subst (λ (d : DiskState). LivesOn (memory_flash d).reads (memory_flash kept).reads) disk_is
+        subst (λ (d : DiskState). IsNextImage (memory_flash d).reads (memory_flash kept).reads) disk_is
         (lives_cut f f' ready_at.size extent ready_at.settled order kept may_be same_size settled reads)
 
-    pub loss_ready : IsReady kept
+    pub loss_ready : IsAtRest kept
     loss_ready = ready_cut f f' ready_at.size extent ready_at.settled order kept may_be same_size settled reads
 
 -- ---- the update
@@ -77,12 +77,12 @@ module _ (flash : DiskState) (passes : ℕ) (f f' : FuseState) (begun : f ≡ re
 module _ (said : RoundSaid) (uris : List Named) (words : task_of (asked said.words) ≡ Some (RunUpdate envelope_name uris))
     (flash : DiskState) (passes : ℕ) (h h' : HostState) (f f' : FuseState) (l l' : LauncherState) (ended : Ended) (begun : f ≡ record { disk = flash; passes = passes; faults = 0 })
     (comes : Comes (begins_update envelope_name) (λ task. RunUpdate envelope_name uris ≡ task) (launching l) (launching l') (seen h f) (seen h' f') ended)
-    (ready : IsReady flash) (left : DiskState) (is : left ≡ f'.disk) where
+    (ready : IsAtRest flash) (left : DiskState) (is : left ≡ f'.disk) where
   disk_was : f.disk ≡ flash
   disk_was = ap (λ (x : FuseState). x.disk) begun
 
-  ready_first : IsReady f.disk
-  ready_first = subst IsReady (sym disk_was) ready
+  ready_first : IsAtRest f.disk
+  ready_first = subst IsAtRest (sym disk_was) ready
 
   pub files_stay : file_in h'.files ≡ file_in h.files
   files_stay = update_stays envelope_name uris (launching l) (launching l') (seen h f) (seen h' f') ended comes refl
@@ -103,7 +103,7 @@ module _ (said : RoundSaid) (uris : List Named) (words : task_of (asked said.wor
       (updates_whole said uris words h h' f f' l l' ended comes ready_first.size (drawn given) enough so.0)))
 
   pub update_lost : passes ≡ unwrap_or said.cut 18446744073709551615 → have_starved (objects h' f' l') ≡ false → IsSome said.cut → ended_status ended ≡ 8
-      → StaysOrKeeps envelope_name (pairs_of uris) (launching l) (launching l') (seen h f) ended (memory_flash f.disk) (memory_flash f'.disk)
+      → StaysOrKeeps envelope_name (pairs_of uris) (around h f l) (around h' f' l') ended
       → (kept : DiskState) → kept ≡ record { first = lost said.choice (moment_now left); steps = []; calls = uncalled [] } → Now (memory_flash left) kept.first
       → UpdatesRound said (file_in h.files) (memory_flash flash).reads (memory_flash kept).reads Cut
   update_lost given enough wanted eight keeps kept loses may =
@@ -117,12 +117,12 @@ module _ (said : RoundSaid) (uris : List Named) (words : task_of (asked said.wor
 
 module _ (flash : DiskState) (passes : ℕ) (h h' : HostState) (f f' : FuseState) (l l' : LauncherState) (ended : Ended) (begun : f ≡ record { disk = flash; passes = passes; faults = 0 })
     (comes : Comes begins_boot (λ task. RunBoot ≡ task) (launching l) (launching l') (seen h f) (seen h' f') ended)
-    (ready : IsReady flash) (left : DiskState) (is : left ≡ f'.disk) (w : is_whole (ended_status ended) ≡ true) where
+    (ready : IsAtRest flash) (left : DiskState) (is : left ≡ f'.disk) (w : is_whole (ended_status ended) ≡ true) where
   disk_before : f.disk ≡ flash
   disk_before = ap (λ (x : FuseState). x.disk) begun
 
-  ready_before : IsReady f.disk
-  ready_before = subst IsReady (sym disk_before) ready
+  ready_before : IsAtRest f.disk
+  ready_before = subst IsAtRest (sym disk_before) ready
 
   pub boot_faults : f'.faults ≡ f.faults
   boot_faults = (boot_whole (launching l) (launching l') (seen h f) (seen h' f') ended comes w).flash

@@ -18,14 +18,14 @@ use Rattle.suit_cli.specs.declared.drill.tally.RoundEnd.TheVariants.{Cut}
 use Rattle.suit_cli.specs.Beginnings.{begins_boot, begins_update}
 use Rattle.suit_cli.specs.Coming.{Comes, ByStages, ByBoot, ByUpdate, Ended, StaysOrKeeps, ended_status}
 use Rattle.suit_cli.specs.DrillDevice.{flash_size}
-use Rattle.suit_cli.specs.DrillRounds.{BootsRound, Holds, IsDrawn, IsReady, IsWhole, LivesOn, Objects, UpdateComes, UpdatesRound, end_of, envelope_name, have_starved, is_whole}
+use Rattle.suit_cli.specs.DrillRounds.{BootsRound, IsAtRest, IsDrawn, IsNextImage, IsWhole, Objects, ObjectsHold, UpdateComes, UpdatesRound, end_of, envelope_name, have_starved, is_whole, surroundings_of}
 use Rattle.suit_cli.specs.Launching.{Launching}
+use Rattle.suit_cli.specs.Surroundings.{Surroundings}
 use Rattle.suit_cli.specs.Outside.{Outside}
 use Rattle.suit_cli.specs.Settling.{StaysInOrder}
 use Rattle.suit_cli.specs.Words.{Named, RunBoot, RunUpdate, pairs_of, task_of}
 use Rattle.suit_cli.proofs.Chains.{flash_at, outside_at}
-use Rattle.suit_cli.proofs.DrillCounts.{boot_whole, update_cut, update_whole}
-use Rattle.suit_cli.proofs.DrillCuts.{stands}
+use Rattle.suit_cli.proofs.DrillCounts.{NoFault, boot_whole, update_cut, update_whole}
 use Rattle.suit_cli.proofs.DrillWords.{asked}
 use Rattle.suit_cli.proofs.RunEnds.{boot_safe}
 
@@ -41,8 +41,14 @@ seen h f =
 abbrev pub launching : LauncherState → Launching
 launching l = record { told = true; launches = l.launches; faults = l.calls.faults }
 
-holds : (h : HostState) (f : FuseState) (l : LauncherState) → length f.disk.first ≡ flash_size → Holds (file_in h.files) (memory_flash f.disk).reads (launching l) (seen h f)
-holds h f l size = record { told = refl; files_are = refl; flash_told = refl; size = size; reads = refl; launcher_told = refl }
+abbrev pub around : HostState → FuseState → LauncherState → Surroundings
+around h f l = surroundings_of (objects h f l)
+
+holds : (h : HostState) (f : FuseState) (l : LauncherState) → length f.disk.first ≡ flash_size → ObjectsHold (file_in h.files) (memory_flash f.disk).reads (objects h f l)
+holds h f l size = record { files_are = refl; size = size; reads = refl }
+
+counts : (h h' : HostState) (f f' : FuseState) (l l' : LauncherState) (ended : Ended) → NoFault (launching l) (launching l') (seen h f) (seen h' f') ended → IsWhole (objects h f l) (objects h' f' l') ended
+counts h h' f f' l l' ended free = record { host = free.host; flash = free.flash; launcher = free.launcher; enough = free.enough }
 
 never_faulted : (before now : ℕ) → before ≡ 0 → now ≡ before → Faulted before now → ⊥
 never_faulted before now none same faulted = let rose = faulted.rose (omega (arith, none, same)) in omega (arith, rose, same)
@@ -61,24 +67,24 @@ module _ (old new : FuseState) (size : length old.disk.first ≡ flash_size) (sa
   last = memory_flash new.disk
 
   -- each image that is left
-  lives : (image : List ℕ) → Now last image → LivesOn first.reads image
+  lives : (image : List ℕ) → Now last image → IsNextImage first.reads image
   lives image now = record {
     sound = each_now first last (length new.disk.first) Sound law (order.sound settled).0 image now;
     follows = each_now first last (length new.disk.first) _ law (order.sound settled).1 image now;
   }
 
-  pub lives_on : LivesOn first.reads last.reads
+  pub lives_on : IsNextImage first.reads last.reads
   lives_on = lives last.reads law.reads_may
 
-  pub ready_on : old.faults ≡ 0 → new.faults ≡ old.faults → IsReady new.disk
+  pub ready_on : old.faults ≡ 0 → new.faults ≡ old.faults → IsAtRest new.disk
   ready_on none same = record { size = same_size ∙ size; settled = order.settled settled (never_faulted old.faults new.faults none same) }
 
   -- behind a loss of power
   module _ (left : DiskState) (may : Now last left.first) (kept : length left.first ≡ length new.disk.first) (none : IsSettled (memory_flash left)) (reads : (memory_flash left).reads ≡ left.first) where
-    pub lives_cut : LivesOn first.reads (memory_flash left).reads
-    lives_cut = subst (λ (l : List ℕ). LivesOn first.reads l) (sym reads) (lives left.first may)
+    pub lives_cut : IsNextImage first.reads (memory_flash left).reads
+    lives_cut = subst (λ (l : List ℕ). IsNextImage first.reads l) (sym reads) (lives left.first may)
 
-    pub ready_cut : IsReady left
+    pub ready_cut : IsAtRest left
     ready_cut = record { size = kept ∙ same_size ∙ size; settled = settles (memory_flash left) none lives_cut.sound }
 
 -- ---- the update
@@ -87,8 +93,8 @@ module _ (said : RoundSaid) (uris : List Named) (words : task_of (asked said.wor
     (h h' : HostState) (f f' : FuseState) (l l' : LauncherState) (ended : Ended)
     (comes : Comes (begins_update envelope_name) (λ task. RunUpdate envelope_name uris ≡ task) (launching l) (launching l') (seen h f) (seen h' f') ended)
     (size : length f.disk.first ≡ flash_size) where
-  pub whole : is_whole (ended_status ended) ≡ true → IsWhole (launching l) (launching l') (seen h f) (seen h' f') ended
-  whole w = update_whole envelope_name uris (launching l) (launching l') (seen h f) (seen h' f') ended comes w
+  pub whole : is_whole (ended_status ended) ≡ true → IsWhole (objects h f l) (objects h' f' l') ended
+  whole w = counts h h' f f' l l' ended (update_whole envelope_name uris (launching l) (launching l') (seen h f) (seen h' f') ended comes w)
 
   -- behind the drawn fuse, where memory sufficed
   module _ (drawn : IsDrawn said f) (enough : have_starved (objects h' f' l') ≡ false) where
@@ -110,7 +116,7 @@ module _ (said : RoundSaid) (uris : List Named) (words : task_of (asked said.wor
     updates_whole w = record { update = update; ends = inl (record { whole = whole w; reads = refl; end_is = refl }) }
 
     pub updates_cut : IsSome said.cut → ended_status ended ≡ 8 → Settled (memory_flash f.disk)
-        → StaysOrKeeps envelope_name (pairs_of uris) (launching l) (launching l') (seen h f) ended (memory_flash f.disk) (memory_flash f'.disk)
+        → StaysOrKeeps envelope_name (pairs_of uris) (around h f l) (around h' f' l') ended
         → (image : List ℕ) → image ≡ lost said.choice (moment_now f'.disk) → Now (memory_flash f'.disk) image
         → UpdatesRound said (file_in h.files) (memory_flash f.disk).reads image Cut
     unfolding update
@@ -119,10 +125,10 @@ module _ (said : RoundSaid) (uris : List Named) (words : task_of (asked said.wor
       ends = inr (record {
         wanted = wanted;
         faulted = update_cut envelope_name uris (launching l) (launching l') (seen h f) (seen h' f') ended comes eight;
+        settled = settled;
+        kept = keeps;
+        may = now;
         loses = loses;
-        stands =
-            stands true true (file_in h.files) h.pulled h.asked h.calls.faults (length f.disk.first) f.faults (pairs_of uris) (launching l) (launching l') (memory_flash f.disk) (memory_flash f'.disk) _ (memory_obeys f'.disk) settled
-            image now ended keeps eight;
         end_is = refl;
       });
     }
@@ -145,14 +151,12 @@ module _ (h h' : HostState) (f f' : FuseState) (l l' : LauncherState) (ended : E
     gained.0,
     gained.1,
     record {
-      launched = launching l;
-      now = launching l';
-      before = seen h f;
-      after = seen h' f';
+      had = objects h f l;
+      has = objects h' f' l';
       ended = ended;
       holds = holds h f l size;
       comes = comes;
-      whole = boot_whole (launching l) (launching l') (seen h f) (seen h' f') ended comes w;
+      whole = counts h h' f f' l l' ended (boot_whole (launching l) (launching l') (seen h f) (seen h' f') ended comes w);
       gained = gained.1;
       reads = refl;
     },

@@ -67,15 +67,15 @@ module _ (configs : OneConfigAnswer) (records : OneAnswer) (laws : BootLaws) whe
       let flash_told : IsTrue boots.middle.flash.told = subst IsTrue (sym looks.still.told) holds.flash in
       let files : boots.middle.files ≡ before.files = ap (λ (o : Outside). o.files) looks.beside in
       let reads : boots.middle.flash.reads ≡ image = looks.still.reads holds.flash ∙ holds.reads in
-      let config : ConfigOf (length image) image (Configured boots.layout boots.key boots.frame) =
-      subst (λ (n : ℕ). ConfigOf n image (Configured boots.layout boots.key boots.frame)) holds.size
-      (subst (λ (l : List ℕ). ConfigOf before.flash.size l (Configured boots.layout boots.key boots.frame)) holds.reads (boots.held.1 holds.flash)) in
+      let config : ConfigOf (length image) image (Configured boots.config.0 boots.config.1 boots.config.2) =
+      subst (λ (n : ℕ). ConfigOf n image (Configured boots.config.0 boots.config.1 boots.config.2)) holds.size
+      (subst (λ (l : List ℕ). ConfigOf before.flash.size l (Configured boots.config.0 boots.config.1 boots.config.2)) holds.reads (boots.held.1 holds.flash)) in
       let gains = boots.boot.safe flash_told holds.launcher (subst Sound (sym reads) sound) in
-      let played = subst (λ (f : List ℕ → Option (List ℕ)). PlayedSo (λ e. PlaysBoot boots.frame boots.layout boots.key f image after.flash.reads launched.launches now.launches e) (after.flash.reads ≡ image) launched.launches now.launches end) files
-      (subst (λ (l : List ℕ). PlayedSo (λ e. PlaysBoot boots.frame boots.layout boots.key boots.middle.files l after.flash.reads launched.launches now.launches e) (after.flash.reads ≡ l) launched.launches now.launches end) reads
+      let played = subst (λ (f : List ℕ → Option (List ℕ)). PlayedSo (λ e. PlaysBoot boots.config.2 boots.config.0 boots.config.1 f image after.flash.reads launched.launches now.launches e) (after.flash.reads ≡ image) launched.launches now.launches end) files
+      (subst (λ (l : List ℕ). PlayedSo (λ e. PlaysBoot boots.config.2 boots.config.0 boots.config.1 boots.middle.files l after.flash.reads launched.launches now.launches e) (after.flash.reads ≡ l) launched.launches now.launches end) reads
       (boots.boot.plays flash_told holds.launcher)) in
-      ⊎_elim (λ same. inl same) (λ some. inr (boots.layout, boots.key, some))
-      (of_end boots.frame boots.layout boots.key before.files image after.flash.reads launched.launches now.launches sound config gains (after.flash.reads ≡ image) end played)
+      ⊎_elim (λ same. inl same) (λ some. inr (boots.config.0, boots.config.1, some))
+      (of_end boots.config.2 boots.config.0 boots.config.1 before.files image after.flash.reads launched.launches now.launches sound config gains (after.flash.reads ≡ image) end played)
 
   pub launched_laws : LifeLaws → LaunchedLaws
   launched_laws lives = record {

@@ -14,7 +14,7 @@ use Rattle.update_proc.specs.Updates.{Hosted, PlaysUpdate, hosted, sources}
 use Rattle.update_proc.proofs.Finished.{some_play}
 use Rattle.suit_cli.specs.Inputs.{IsRead, longest_file}
 use Rattle.suit_cli.specs.Launching.{Launching}
-use Rattle.suit_cli.specs.LaunchedLaws.{Holds}
+use Rattle.suit_cli.specs.LaunchedLaws.{TellsImage}
 use Rattle.suit_cli.specs.LaunchedUpdateLaws.{LaunchedUpdateLaws, LaunchesAccepted}
 use Rattle.suit_cli.specs.Outside.{Flashed, Outside, with_flash}
 use Rattle.suit_cli.specs.Updating.{Updates, tree_of}
@@ -22,7 +22,7 @@ use Rattle.suit_cli.proofs.AcceptedFacts.{facts}
 
 module _ (records : SomeAnswer) where
   module _ (image : List ℕ) (name : List ℕ) (uris : List (List ℕ × List ℕ)) (launched now : Launching) (before after : Outside) (end : UpdateEnd) (lines : List ℕ)
-      (holds : Holds image launched before) (u : Updates name uris launched now before after end lines) where
+      (holds : TellsImage image launched before) (u : Updates name uris launched now before after end lines) where
     flash_told : IsTrue u.middle.flash.told
     flash_told = subst IsTrue (sym (ap (λ (f : Flashed). f.told) u.read.0.flash ∙ u.held.0.still.told)) holds.flash
 

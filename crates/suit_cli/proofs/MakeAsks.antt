@@ -1,6 +1,7 @@
 -- The files that `make` asks for.
-use Rattle.std.proofs.Common.{◌≡◌, ◌∙◌, ℕ, List, [], ◌∷◌, ◌++◌, Some, inl, inr, refl, sym, ap, subst}
+use Rattle.std.proofs.Common.{◌≡◌, ◌∙◌, ℕ, List, [], ◌∷◌, ◌++◌, Option, Some, inl, inr, refl, sym, ap, subst}
 use Rattle.std.specs.Prelude.{IsTrue}
+use Rattle.std.specs.Option.{option_map_or}
 use Rattle.std.proofs.lemmas.List.{append_assoc, append-nil}
 use Rattle.serde_json.specs.Data.{Data}
 use Rattle.author.specs.FileNames.{file_names}
@@ -8,7 +9,7 @@ use Rattle.suit_cli.specs.declared.reply.Object.{Object}
 use Rattle.suit_cli.specs.declared.reply.Object.TheVariants as objects
 use Rattle.suit_cli.specs.declared.reply.Outcome.TheVariants as outcomes
 use Rattle.suit_cli.specs.declared.reply.Reply.{Reply}
-use Rattle.suit_cli.specs.Authoring.{IsAuthored, IsEnvelopeOf, IsLongEnvelope, IsNotAuthored, IsNoDescription, IsNoText, description_in, files_after, files_in, longest_description, longest_named, made_in, makes_described, names_held, names_read, stores}
+use Rattle.suit_cli.specs.Authoring.{IsAuthored, IsEnvelopeOf, IsLongEnvelope, IsNotAuthored, IsNoDescription, IsNoText, description_in, files_after, files_in, longest_description, longest_named, made_in, makes_described, names_held, stores}
 use Rattle.suit_cli.specs.Commands.{makes}
 use Rattle.suit_cli.specs.Inputs.{IsKey, IsNoKey, IsRead, longest_key}
 use Rattle.suit_cli.specs.MakeLaws.{names_asked}
@@ -89,7 +90,7 @@ not_authored_declines bytes r (IsNoDescription value fault utf8 reads refuses te
 module _ (description key_name out : List ℕ) (b a : Outside) where
   -- the names that a description has
   names_are : (bytes : List ℕ) (value : Data) → IsTrue b.told → IsRead longest_description description b bytes → IsAuthored bytes value → names_held (b.files description) ≡ file_names value
-  names_are bytes value told read authored = ap names_held (read.holds told) ∙ ap names_read authored.reads
+  names_are bytes value told read authored = ap names_held (read.holds told) ∙ ap (λ (d : Option Data). option_map_or file_names d []) authored.reads
 
   described_first : (value : Data) (m : Outside) (e : Ending) → IsTrue m.told → makes_described value key_name out m a e → First (key_name ∷ file_names value) m a
   described_first value m e told answer =

@@ -70,6 +70,10 @@ checks_no_flash words check b a (Goes task m _ g rest) =
     check_faults check.0 objects.Flash m a (subst (λ (t : Task). does t m a (FaultOf objects.Flash)) (same_Some task (Check check.0) (sym g.1 ∙ check.1)) rest)
 checks_no_flash words check b a (Faults _ f) = f
 
+usage_no_flash : (words : List (List ℕ)) → task_of words ≡ None → (b a : Outside) → answers words b a (FaultOf objects.Flash) → ⊥
+usage_no_flash words none b a (Goes task m _ g rest) = let never : None ≡ Some task = sym none ∙ g.1 in absurd cc
+usage_no_flash words none b a (Faults _ f) = f
+
 -- ---- the clauses
 
 -- an answer in stages, and what was put of it
@@ -79,18 +83,18 @@ pub record Staged (words : List (List ℕ)) (b a : Outside) (sb sa : Sunk) (resu
   pub puts : PutsText sb sa (ending_status ending) (ending_text ending) result
 
 module _ (words : List (List ℕ)) (b a : Outside) (sb sa : Sunk) (result : ℕ) (runs : Staged words b a sb sa result) where
-  -- every reply has this status
-  ends_in : (n : ℕ) → ((r : Reply) → answers words b a (Says r) → status_of r.outcome ≡ n) → EndsIn n result
-  ends_in n all = of_puts runs.puts where
+  -- every reply has this status, and the flash is not looked at
+  ends_in : (n : ℕ) → ((r : Reply) → answers words b a (Says r) → status_of r.outcome ≡ n) → (answers words b a (FaultOf objects.Flash) → ⊥) → EndsIn n result
+  ends_in n all never = of_puts runs.puts where
     of_ending : (e : Ending) → answers words b a e → result ≡ ending_status e → EndsIn n result
     of_ending (Says r) answer is = inl (is ∙ all r answer)
     of_ending (FaultOf objects.Host) answer is = inr (inl is)
-    of_ending (FaultOf objects.Flash) answer is = inr (inr (inl is))
-    of_ending NoMemory answer is = inr (inr (inr (inr is)))
+    of_ending (FaultOf objects.Flash) answer is = absurd (never answer)
+    of_ending NoMemory answer is = inr (inr (inr is))
 
     of_puts : PutsText sb sa (ending_status runs.ending) (ending_text runs.ending) result → EndsIn n result
     of_puts (IsPut is still puts) = of_ending runs.ending runs.answer is
-    of_puts (IsCut is faulted puts) = inr (inr (inr (inl is)))
+    of_puts (IsCut is faulted puts) = inr (inr (inl is))
 
   pub yes : IsTrue b.told → IsCheck words → result ≡ 0 → ChecksSafe words b
   yes told check zero =
@@ -140,15 +144,18 @@ module _ (words : List (List ℕ)) (b a : Outside) (sb sa : Sunk) (result : ℕ)
     judged_reply r answer =
         judged_when envelopes manifests members checks_it.name b a checks_it.told r (does_of words b a r (Check checks_it.name) checks_it.word answer) u i checks_it.has
 
+    not_flash : answers words b a (FaultOf objects.Flash) → ⊥
+    not_flash answer = checks_no_flash words (checks_it.name, checks_it.word) b a answer
+
     pub safe_is_yes : AreSafe u i → EndsIn 0 result
-    safe_is_yes safe = ends_in 0 (λ r answer. ap status_of (judged_safe u i r (judged_reply r answer) safe))
+    safe_is_yes safe = ends_in 0 (λ r answer. ap status_of (judged_safe u i r (judged_reply r answer) safe)) not_flash
 
     pub unsafe_is_no : (AreSafe u i → ⊥) → EndsIn 1 result
-    unsafe_is_no never = ends_in 1 (λ r answer. ap status_of (judged_unsafe u i r (judged_reply r answer) never))
+    unsafe_is_no never = ends_in 1 (λ r answer. ap status_of (judged_unsafe u i r (judged_reply r answer) never)) not_flash
 
   -- an answer that is put is yes or no where there are such procedures
-  pub no_answer : EnvelopeLaws → ManifestLaws → MembersLaws → result ≢ 0 → result ≢ 1 → ChecksNone words b ⊎ IsExcuse result
-  no_answer envelopes manifests members not_yes not_no = of_puts runs.puts where
+  pub no_answer : IsCheck words → EnvelopeLaws → ManifestLaws → MembersLaws → result ≢ 0 → result ≢ 1 → ChecksNone words b ⊎ IsExcuse result
+  no_answer check envelopes manifests members not_yes not_no = of_puts runs.puts where
     of_judged : (u i : PlanTree) (r : Reply) → result ≡ status_of r.outcome → AreJudged u i r → ⊥
     of_judged u i r is (JudgedSafe safe says) = not_yes (is ∙ ap status_of says.outcome_is)
     of_judged u i r is (JudgedUnsafe outcome unsafe) = not_no (is ∙ ap status_of outcome)
@@ -156,12 +163,12 @@ module _ (words : List (List ℕ)) (b a : Outside) (sb sa : Sunk) (result : ℕ)
     of_ending : (e : Ending) → answers words b a e → result ≡ ending_status e → ChecksNone words b ⊎ IsExcuse result
     of_ending (Says r) answer is = inl (λ u i checks_it. of_judged u i r is (judged_reply envelopes manifests members u i checks_it r answer))
     of_ending (FaultOf objects.Host) answer is = inr (inl is)
-    of_ending (FaultOf objects.Flash) answer is = inr (inr (inl is))
-    of_ending NoMemory answer is = inr (inr (inr (inr is)))
+    of_ending (FaultOf objects.Flash) answer is = absurd (checks_no_flash words check b a answer)
+    of_ending NoMemory answer is = inr (inr (inr is))
 
     of_puts : PutsText sb sa (ending_status runs.ending) (ending_text runs.ending) result → ChecksNone words b ⊎ IsExcuse result
     of_puts (IsPut is still puts) = of_ending runs.ending runs.answer is
-    of_puts (IsCut is faulted puts) = inr (inr (inr (inl is)))
+    of_puts (IsCut is faulted puts) = inr (inr (inl is))
 
   -- `check` looks at no flash
   pub no_flash : IsCheck words → result ≢ 8
@@ -188,7 +195,7 @@ module _ (words : List (List ℕ)) (b a : Outside) (sb sa : Sunk) (result : ℕ)
       }
 
   pub no_command_is_usage : task_of words ≡ None → EndsIn 2 result
-  no_command_is_usage none = ends_in 2 (λ r answer. no_task_usage words b a r none answer)
+  no_command_is_usage none = ends_in 2 (λ r answer. no_task_usage words b a r none answer) (λ answer. usage_no_flash words none b a answer)
 
   pub kept : Counts runs.ending b a
   kept = (answers_lets words b a runs.ending runs.answer).counts

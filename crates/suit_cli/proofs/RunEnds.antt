@@ -157,7 +157,7 @@ module _ (words : List (List ℕ)) (l m : Launching) (b a : Outside) (sb sa : Su
     of_way : Way words l m b a sb sa result → Checks words b sb sa result
     of_way (InStages run same) =
         by_status result (λ is. SaysYes is (yes told check is)) (λ is. SaysNo is (no_path told is))
-        (λ not_yes not_no. SaysNeither not_yes not_no (staged.no_flash words b a sb sa result run check) (staged.no_answer words b a sb sa result run envelopes manifests members not_yes not_no))
+        (λ not_yes not_no. SaysNeither not_yes not_no (staged.no_flash words b a sb sa result run check) (staged.no_answer words b a sb sa result run check envelopes manifests members not_yes not_no))
     of_way (AsBoot end lines word boots puts) = let never : Some (Check check.0) ≡ Some RunBoot = sym check.1 ∙ word in absurd cc
     of_way (AsUpdate name uris end lines word updates puts) = let never : Some (Check check.0) ≡ Some (RunUpdate name uris) = sym check.1 ∙ word in absurd cc
 

@@ -27,6 +27,7 @@ use Rattle.suit_cli.specs.Formatting.{MayFormat, MayLeave}
 use Rattle.suit_cli.specs.Migrating.{KeepsTold, MovedSo, StaysOrTells}
 use Rattle.suit_cli.specs.Stages.{Ending, Says, FaultOf, NoMemory}
 use Rattle.suit_cli.specs.Launching.{Launching}
+use Rattle.suit_cli.specs.Surroundings.{Surroundings}
 use Rattle.suit_cli.specs.Coming.{Answered, Ended, PassesAny, StaysSound}
 use Rattle.suit_cli.specs.Program.{FlashPasses, IfBoots, IfSaidApart, KeepsFor, MayBeLeft}
 use Rattle.suit_cli.proofs.Leaving.{start_left}
@@ -174,7 +175,7 @@ told_unmoved before (FaultOf object) a = inl (same_flash a)
 told_unmoved before NoMemory a = same_flash a
 
 -- where nothing was done
-keeps_unmoved : (task : Option Task) (l m : Launching) (before : Outside) (ending : Ending) (a : Flash) → KeepsFor task l m before (Answered ending) a a
+keeps_unmoved : (task : Option Task) (l m : Launching) (before : Outside) (ending : Ending) (a : Flash) → KeepsFor task (record { outside = before; launcher = l; flash = a }) (record { outside = before; launcher = m; flash = a }) (Answered ending)
 keeps_unmoved (Some (RunUpdate name uris)) l m before ending a = λ settled. same_flash a
 keeps_unmoved (Some RunBoot) l m before ending a = same_flash a
 keeps_unmoved (Some (RunMigrate base)) l m before ending a = told_unmoved before ending a
@@ -182,17 +183,16 @@ keeps_unmoved _ l m before ending a = tt
 
 -- ---- what becomes of the flash
 
-pub flash_by : (task t : Option Task) → task ≡ t → (l m : Launching) (b a : Outside) (ended : Ended) (old now : Flash)
-    → FlashPasses t l m b a ended old now → FlashPasses task l m b a ended old now
-flash_by task t same l m b a ended old now passes = subst (λ (u : Option Task). FlashPasses u l m b a ended old now) (sym same) passes
+pub flash_by : (task t : Option Task) → task ≡ t → (before after : Surroundings) (ended : Ended) → FlashPasses t before after ended → FlashPasses task before after ended
+flash_by task t same before after ended passes = subst (λ (u : Option Task). FlashPasses u before after ended) (sym same) passes
 
 -- by a command that is this one
-pub flash_as : (command one : Command) → command ≡ one → (l m : Launching) (b a : Outside) (ended : Ended) (old now : Flash)
-    → FlashPasses (Some (said one)) l m b a ended old now → FlashPasses (Some (said command)) l m b a ended old now
+pub flash_as : (command one : Command) → command ≡ one → (before after : Surroundings) (ended : Ended) → FlashPasses (Some (said one)) before after ended → FlashPasses (Some (said command)) before after ended
 flash_as command one same = flash_by _ _ (ap (λ (x : Command). Some (said x)) same)
 
 -- where nothing was done
-pub flash_unmoved : (laws : SoundLaws) (task : Option Task) (l m : Launching) (b : Outside) (ending : Ending) (a : Flash) → FlashPasses task l m b b (Answered ending) a a
+pub flash_unmoved : (laws : SoundLaws) (task : Option Task) (l m : Launching) (b : Outside) (ending : Ending) (a : Flash)
+    → FlashPasses task (record { outside = b; launcher = l; flash = a }) (record { outside = b; launcher = m; flash = a }) (Answered ending)
 flash_unmoved laws task l m b ending a = record {
   any_moment = start_left task b a;
   sound = if_unmoved laws task a;

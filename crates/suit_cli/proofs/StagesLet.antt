@@ -1,6 +1,7 @@
 -- How an answer keeps the files, and counts faults.
 use Rattle.std.proofs.Common.{◌≡◌, ◌∙◌, ℕ, ◌+◌, List, [], ◌∷◌, ◌++◌, Option, Some, None, inl, inr, refl, sym, ap, subst, arith}
 use Rattle.std.specs.Prelude.{IsTrue}
+use Rattle.std.specs.Option.{option_map_or}
 use Rattle.serde_json.specs.Data.{Data}
 use Rattle.author.specs.FileNames.{file_names}
 use Rattle.suit_cli.specs.declared.reply.Reply.{Reply}
@@ -10,7 +11,7 @@ use Rattle.suit_cli.specs.Words.{Task, Make, Describe, Show, Check, RunInit, Run
 use Rattle.suit_cli.specs.Outside.{Outside, Files, Quiet, LeavesOthers, FilesStay, Leaves}
 use Rattle.suit_cli.specs.Stages.{Ending, Says, FaultOf, NoMemory, Answers, Stage, in_turn, Then, Goes, Declines, Faults, Lacks, IsSaid}
 use Rattle.suit_cli.specs.Inputs.{longest_key, file}
-use Rattle.suit_cli.specs.Authoring.{longest_description, files_after, names_read, names_held, most_named, stores, makes_described}
+use Rattle.suit_cli.specs.Authoring.{longest_description, files_after, names_held, most_named, stores, makes_described}
 use Rattle.flash_layout.specs.declared.frame.Frame.{Frame}
 use Rattle.flash_layout.specs.declared.key.Key.{Key}
 use Rattle.flash_layout.specs.declared.layout.Entry.{Entry}
@@ -155,7 +156,7 @@ module _ (description key_name out : List ℕ) (b a : Outside) where
           files = joined.files;
           pulled = λ t.
               let same : most_named (names_held (b.files description)) ≡ most_named (file_names value) =
-              ap (λ (f : Option (List ℕ)). most_named (names_held f)) (read.1.holds t) ∙ ap (λ (d : Option Data). most_named (names_read d)) v.1.reads in
+              ap (λ (f : Option (List ℕ)). most_named (names_held f)) (read.1.holds t) ∙ ap (λ (d : Option Data). most_named (option_map_or file_names d [])) v.1.reads in
               let h = joined.pulled t in
               omega (arith, h, same);
         };

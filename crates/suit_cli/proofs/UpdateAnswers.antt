@@ -25,6 +25,7 @@ use Rattle.suit_cli.specs.Stages.{Ending, NoMemory, Answers, Goes, Lacks, Last, 
 use Rattle.suit_cli.specs.Inputs.{longest_file, IsRead, file}
 use Rattle.suit_cli.specs.Installed.{config_in}
 use Rattle.suit_cli.specs.Launching.{Launching}
+use Rattle.suit_cli.specs.Surroundings.{Surroundings}
 use Rattle.suit_cli.specs.Acceptance.{Accepted, IsAccepted, accepts}
 use Rattle.suit_cli.specs.Commands.{does}
 use Rattle.suit_cli.specs.Coming.{Comes, ByStages, ByUpdate, Ended, Answered, Booted, KeepsAccepted, StaysOrKeeps, Updated, UpdatesBy}
@@ -101,38 +102,43 @@ updates_as frame layout key x y same a u v is l m before after ended by =
 
 -- ---- at each moment
 
-pub keeps_as : (frame : Frame) (layout : List Entry) (key : Key) (x y : List ℕ) → x ≡ y → (a : Accepted) (uris : List (List ℕ × List ℕ)) (l m : Launching) (before : Outside) (ended : Ended) (old now : Flash)
-    → KeepsAccepted (offer frame layout key x a) uris l m before ended old now → KeepsAccepted (offer frame layout key y a) uris l m before ended old now
-keeps_as frame layout key x y same a uris l m before ended old now kept = subst (λ (bytes : List ℕ). KeepsAccepted (offer frame layout key bytes a) uris l m before ended old now) same kept
+pub keeps_as : (frame : Frame) (layout : List Entry) (key : Key) (x y : List ℕ) → x ≡ y → (a : Accepted) (uris : List (List ℕ × List ℕ)) (before after : Surroundings) (ended : Ended)
+    → KeepsAccepted (offer frame layout key x a) uris before after ended → KeepsAccepted (offer frame layout key y a) uris before after ended
+keeps_as frame layout key x y same a uris before after ended kept = subst (λ (bytes : List ℕ). KeepsAccepted (offer frame layout key bytes a) uris before after ended) same kept
 
 -- by the same names for URIs
-pub keeps_named : (name : List ℕ) (u v : List (List ℕ × List ℕ)) → u ≡ v → (l m : Launching) (before : Outside) (ended : Ended) (old now : Flash)
-    → StaysOrKeeps name u l m before ended old now → StaysOrKeeps name v l m before ended old now
-keeps_named name u v is l m before ended old now keeps = subst (λ (uris : List (List ℕ × List ℕ)). StaysOrKeeps name uris l m before ended old now) is keeps
+pub keeps_named : (name : List ℕ) (u v : List (List ℕ × List ℕ)) → u ≡ v → (before after : Surroundings) (ended : Ended) → StaysOrKeeps name u before after ended → StaysOrKeeps name v before after ended
+keeps_named name u v is before after ended keeps = subst (λ (uris : List (List ℕ × List ℕ)). StaysOrKeeps name uris before after ended) is keeps
 
 -- behind the looks at the configuration and at the file
 
-module _ (name : List ℕ) (uris : List (List ℕ × List ℕ)) (l m : Launching) (before middle : Outside) (told_is : middle.told ≡ before.told) (files_are : IsTrue before.told → middle.files ≡ before.files)
-    (size : ℕ) (is_size : before.flash.size ≡ size) (a b c : Flash) (law_a : IsFlash a size) (law_b : IsFlash b size) (same : IsSame a b)
+module _ (name : List ℕ) (uris : List (List ℕ × List ℕ)) (l : Launching) (before middle : Outside) (after : Surroundings) (told_is : middle.told ≡ before.told) (files_are : IsTrue before.told → middle.files ≡ before.files)
+    (size : ℕ) (is_size : before.flash.size ≡ size) (a b : Flash) (law_a : IsFlash a size) (law_b : IsFlash b size) (same : IsSame a b)
     (layout : List Entry) (key : Key) (frame : Frame) (allowed : IsAllowed frame size layout key) (config : ConfigOf size a.reads (Configured layout key frame))
     (settled : Settled a) (bytes : List ℕ) (read : IsRead longest_file name before bytes) (x : Accepted) (is : IsAccepted frame layout key bytes x) (configs : OneAnswer) where
-  done_since : (held : Option Record) (made : List ℕ) → IsDone (offer frame layout key bytes x) uris l m middle held b.reads made → IsDone (offer frame layout key bytes x) uris l m before held a.reads made
+  abbrev start : Surroundings
+  start = record { outside = before; launcher = l; flash = a }
+
+  abbrev since : Surroundings
+  since = record { outside = middle; launcher = l; flash = b }
+
+  done_since : (held : Option Record) (made : List ℕ) → IsDone (offer frame layout key bytes x) uris since after held made → IsDone (offer frame layout key bytes x) uris start after held made
   done_since held made did host launcher =
-      subst (λ (r : List ℕ). PlaysToEnd layout x.places (update_tree x.manifest x.members) held bytes uris before.files r l.launches m.launches made) same.reads
-      (subst (λ (f : Files). PlaysToEnd layout x.places (update_tree x.manifest x.members) held bytes uris f b.reads l.launches m.launches made) (files_are host)
+      subst (λ (r : List ℕ). PlaysToEnd layout x.places (update_tree x.manifest x.members) held bytes uris before.files r l.launches after.launcher.launches made) same.reads
+      (subst (λ (f : Files). PlaysToEnd layout x.places (update_tree x.manifest x.members) held bytes uris f b.reads l.launches after.launcher.launches made) (files_are host)
       (did (subst IsTrue (sym told_is) host) launcher))
 
-  kept_since : (end : UpdateEnd) → KeepsOffer (offer frame layout key bytes x) uris l m middle end b c → KeepsOffer (offer frame layout key bytes x) uris l m before end a c
+  kept_since : (end : UpdateEnd) → KeepsOffer (offer frame layout key bytes x) uris since after end → KeepsOffer (offer frame layout key bytes x) uris start after end
   kept_since end kept held digest blocks there said =
       kept_from _ _ _ _
-      (keeps_from a b c same frame size law_a layout allowed.layout_is x.places (update_tree x.manifest x.members) held key config settled there
+      (keeps_from a b after.flash same frame size law_a layout allowed.layout_is x.places (update_tree x.manifest x.members) held key config settled there
       (trimmed x.said.wrapper x.said.manifest) x.manifest.sequence digest _ _ (done_since held) end)
-      (same_flash_then a b c size law_b same) end
+      (same_flash_then a b after.flash size law_b same) end
       (kept held digest blocks (subst (λ (l : List ℕ). RecordOf frame (head_of frame l) held) (sym same.reads) there) said)
 
-  pub keeps_since : (ended : Ended) → KeepsAccepted (offer frame layout key bytes x) uris l m middle ended b c → StaysOrKeeps name uris l m before ended a c
-  keeps_since (Answered ending) still = same_flash_then a b c size law_b same still
-  keeps_since (Booted end lines) still = same_flash_then a b c size law_b same still
+  pub keeps_since : (ended : Ended) → KeepsAccepted (offer frame layout key bytes x) uris since after ended → StaysOrKeeps name uris start after ended
+  keeps_since (Answered ending) still = same_flash_then a b after.flash size law_b same still
+  keeps_since (Booted end lines) still = same_flash_then a b after.flash size law_b same still
   keeps_since (Updated end lines) kept = record {
     o = offer frame layout key bytes x;
     config = subst (λ (n : ℕ). ConfigOf n a.reads (Configured layout key frame)) (sym is_size) config;

@@ -21,12 +21,12 @@ use Rattle.suit_cli.specs.Stages.{Stage, Finds, judging}
 use Rattle.suit_cli.specs.Envelopes.{AreBytes, IsShort, ManifestOf}
 use Rattle.suit_cli.specs.Judgement.{AreSafe, IsNarrow}
 
--- the bytes are admitted so, under the layout and the key of a flash with this frame, whose banks hold the envelope
+-- the bytes are admitted under the layout and the key of a flash with this frame; a bank of it holds the envelope
 abbrev pub IsAccepted : Frame → List Entry → Key → List ℕ → Accepted → Type 0
 IsAccepted frame layout key bytes accepted =
     IsAdmitted (bank_size frame) layout (key_bytes key) bytes accepted
 
--- they are not, and the reply tells why: the first thing that is wrong
+-- the bytes are not admitted, and the reply tells the first thing that is wrong
 pub record IsDeclined (frame : Frame) (layout : List Entry) (key : Key) (bytes : List ℕ)
     (reply : Reply) : Type 0 where
   pub refusal : NotAdmitted
@@ -37,7 +37,7 @@ abbrev pub accepts : Frame → List Entry → Key → List ℕ → Stage Accepte
 accepts frame layout key bytes =
     judging (IsAccepted frame layout key bytes) (IsDeclined frame layout key bytes)
 
--- the same as demands on the bytes, under the layout and the key of the flash
+-- what `IsAccepted` asks of the bytes, one by one
 pub record Meets (frame : Frame) (layout : List Entry) (key : Key) (bytes : List ℕ) (a : Accepted)
     : Type 0 where
   -- they spell an envelope that a bank holds when it is trimmed

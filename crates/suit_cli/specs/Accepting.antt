@@ -6,7 +6,7 @@ use Rattle.admission.specs.Refusals.{of_members}
 use Rattle.suit_cli.specs.declared.reply.Stop.{Stop}
 use Rattle.suit_cli.specs.Refusals.{StopsAs}
 
--- members that were taken are given, and a fault is told
+-- the same members are given, or the stop tells their fault
 abbrev pub IsTaken : Result Members MemberFault → Result Members Stop → Type 0
 IsTaken (Ok members) (Ok given) = given ≡ members
 IsTaken (Err fault) (Err stop) = StopsAs (of_members fault) stop

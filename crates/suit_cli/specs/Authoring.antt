@@ -1,6 +1,7 @@
 -- The stages of `make`: a description in JSON, the files that it names, and the envelope that is made of them.
 use Rattle.std.specs.Prelude.{◌≡◌, ℕ, ◌+◌, List, [], ◌∷◌, ◌++◌, length, Option, Some, None, codes, Result, Ok, Err}
 use Rattle.std.specs.Fmt.{decimal}
+use Rattle.std.specs.Option.{option_and_then, option_map_or}
 use Rattle.std.specs.Str.{IsUtf8}
 use Rattle.serde_json.specs.Data.{Data}
 use Rattle.serde_json.specs.Read.{read}
@@ -33,7 +34,7 @@ longest_named = 4194304
 
 -- ---- the description
 
--- it is JSON (RFC 8259) of this value, and describes an envelope
+-- the bytes are JSON (RFC 8259) of this value, and describe an envelope
 pub record IsAuthored (bytes : List ℕ) (value : Data) : Type 0 where
   pub utf8 : IsUtf8 bytes
   pub reads : read bytes ≡ Some value
@@ -52,7 +53,7 @@ pub record TellsDescription (fault : DescriptionFault) (reply : Reply) : Type 0 
   pub outcome_is : reply.outcome ≡ outcomes.Refused
   pub line : IsDescriptionLine fault reply.text
 
--- it is no JSON, or describes no envelope: then the first fault is told
+-- the bytes are no JSON, or describe no envelope: then the first fault is told
 pub data IsNotAuthored (bytes : List ℕ) (reply : Reply) : Type 0 where
   IsNoText : (IsUtf8 bytes → read bytes ≡ None) → IsReply reply outcomes.Refused bad_json_line
       → IsNotAuthored bytes reply
@@ -63,7 +64,7 @@ pub data IsNotAuthored (bytes : List ℕ) (reply : Reply) : Type 0 where
 abbrev pub description_in : List ℕ → Stage Data
 description_in bytes = judging (IsAuthored bytes) (IsNotAuthored bytes)
 
--- a description of the code is the value that it was read of
+-- a description in the code stands for the value that it was read from
 abbrev pub value_or_stop : Result Description Stop → Result Data Stop
 value_or_stop (Ok description) = Ok (value_of description)
 value_or_stop (Err stop) = Err stop
@@ -80,7 +81,7 @@ files_in names = files_after [] names
 
 -- ---- the envelope
 
--- the one that is described, which is authentic under the key, and whose manifest is the described one
+-- these bytes are the described envelope, authentic under the key, with the described manifest
 pub record IsEnvelopeOf (value : Data) (files : List (List ℕ × List ℕ)) (key bytes : List ℕ)
     : Type 0 where
   pub made : IsMadeOf value files key bytes
@@ -98,7 +99,7 @@ made_in value files key = judging (IsEnvelopeOf value files key) (IsLongEnvelope
 
 -- ---- the store
 
--- it follows all refusals, and memory cannot run out once it has begun
+-- The store comes after all refusals, and memory cannot run out once it has begun.
 abbrev pub storing : List ℕ → List ℕ → Stage (Unit {0})
 storing out bytes = record {
   gives = λ before after _. Stores out bytes before after;
@@ -127,15 +128,10 @@ makes_described value key_name out =
 -- ---- how much is pulled
 
 -- the names in a file that holds a description
-abbrev pub names_read : Option Data → List (List ℕ)
-names_read None = []
-names_read (Some value) = file_names value
-
 abbrev pub names_held : Option (List ℕ) → List (List ℕ)
-names_held None = []
-names_held (Some bytes) = names_read (read bytes)
+names_held file = option_map_or file_names (option_and_then read file) []
 
--- of each at most one byte more than its limit
+-- how many bytes are pulled of these files at most: one more than the limit of each
 abbrev pub most_named : List (List ℕ) → ℕ
 most_named [] = 0
 most_named (name ∷ names) = (longest_named + 1) + most_named names

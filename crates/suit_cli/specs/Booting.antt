@@ -52,9 +52,9 @@ boot_status ends.FlashFault = 8
 
 -- ---- the boot
 
--- A boot by this configuration, which ended so: how the end comes of the record and its bank, how the procedure was
--- played, and whose fault was counted. It never ends by a fault of the host, and where nothing was started the flash reads as
--- before. All that is launched on a sound flash has its digest, and its size where one is in force.
+-- A boot by this configuration ended so: how the end follows from the record and its bank, how the procedure was played,
+-- and whose fault was counted. It never ends with a fault of the host, and where nothing was started the flash reads as
+-- before. What is launched on a sound flash has its digest, and its size where one is in force.
 pub record IsBoot (config : List Entry × Key × Frame) (launched now : Launching)
     (before after : Outside) (end : BootEnd) : Type 0 where
   pub alone : LeavesAlone launched now before after
@@ -77,25 +77,20 @@ pub record IsBoot (config : List Entry × Key × Frame) (launched now : Launchin
       → Sound before.flash.reads
       → GainsSafe launched.launches now.launches
 
--- the flash holds a configuration, what is installed was started by it, and these lines tell how that ended
+-- the flash holds a configuration, a boot was made by it, and these lines tell how that ended
 pub record Boots (launched now : Launching) (before after : Outside) (end : BootEnd)
     (lines : List ℕ) : Type 0 where
-  pub layout : List Entry
-  pub key : Key
-  pub frame : Frame
+  pub config : List Entry × Key × Frame
   pub middle : Outside
-  pub held : config_in.gives before middle (layout, key, frame)
-  pub boot : IsBoot (layout, key, frame) launched now middle after end
+  pub held : config_in.gives before middle config
+  pub boot : IsBoot config launched now middle after end
   pub lines_are : lines ≡ boot_line end
 
 -- ---- at each moment
 
--- The flash holds a configuration, and a record whose bank starts a manifest; and at each moment nothing had changed but slots
--- that components stand for which its invocation procedure may write.
+-- The flash holds a configuration, and a record whose bank starts a manifest. At each moment nothing had changed but the
+-- slots of components that its invocation procedure may write.
 pub record KeepsBooted (before : Outside) (old now : Flash) : Type 0 where
-  pub layout : List Entry
-  pub key : Key
-  pub frame : Frame
-  pub config :
-      ConfigOf before.flash.size old.reads (Configured layout key frame)
-  pub kept : KeepsBoot frame layout key old now
+  pub config : List Entry × Key × Frame
+  pub held : ConfigOf before.flash.size old.reads (Configured config.0 config.1 config.2)
+  pub kept : KeepsBoot config.2 config.0 config.1 old now

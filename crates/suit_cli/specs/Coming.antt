@@ -15,6 +15,7 @@ use Rattle.suit_cli.specs.Outside.{Outside}
 use Rattle.suit_cli.specs.Stages.{Ending, NoMemory, Answers, ending_of}
 use Rattle.suit_cli.specs.Statuses.{ending_status, ending_text}
 use Rattle.suit_cli.specs.Launching.{Launching}
+use Rattle.suit_cli.specs.Surroundings.{Surroundings}
 use Rattle.suit_cli.specs.Migrating.{KeepsTold}
 use Rattle.suit_cli.specs.Booting.{IsBoot, Boots, KeepsBooted, boot_line, boot_status}
 use Rattle.suit_cli.specs.Updating.{IsUpdate, KeepsFlash, KeepsOffer, Offer, Updates, update_line, update_status}
@@ -56,25 +57,20 @@ pub data Comes (stages : Answers) (Is : Task → Type 0) (launched now : Launchi
 abbrev pub StaysSound : Flash → Flash → Type 0
 StaysSound old new = Passes old new Sound × Passes old new (Follows old.reads)
 
--- where nothing was pending on a sound flash
+-- a settled flash stays sound
 abbrev pub KeepsSound : Flash → Flash → Type 0
 KeepsSound old new = Settled old → StaysSound old new
 
--- where an update came to an end the flash was kept as that end says, and otherwise nothing changed
-abbrev pub StaysOrKeeps : List ℕ → List (List ℕ × List ℕ) → Launching → Launching → Outside → Ended
-    → Flash → Flash → Type 0
-StaysOrKeeps name uris launched later before (Updated end lines) old now =
-    KeepsFlash name uris launched later before end old now
-StaysOrKeeps name uris launched later before _ old now = IsSame old now
+-- an update that came to an end kept the flash as that end says; otherwise nothing changed
+abbrev pub StaysOrKeeps : List ℕ → List (List ℕ × List ℕ) → Surroundings → Surroundings → Ended
+    → Type 0
+StaysOrKeeps name uris before after (Updated end lines) = KeepsFlash name uris before after end
+StaysOrKeeps name uris before after _ = IsSame before.flash after.flash
 
--- by how it ended: what a boot that was begun leaves, or what stands where it was not begun
-abbrev pub BootedSo : Type 0 → Type 0 → Ended → Type 0
-BootedSo Kept Same (Booted end lines) = KeptSo Kept Same end
-BootedSo Kept Same _ = Same
-
--- A boot that started a manifest changed no slot but those that its procedure may write, and every other one nothing.
+-- A boot that started a manifest changed only slots that its procedure may write. Any other boot changed nothing.
 abbrev pub BootKeeps : Outside → Ended → Flash → Flash → Type 0
-BootKeeps before ended old now = BootedSo (KeepsBooted before old now) (IsSame old now) ended
+BootKeeps before (Booted end lines) old now = KeptSo (KeepsBooted before old now) (IsSame old now) end
+BootKeeps before _ old now = IsSame old now
 
 -- a migration kept the flash as its ending says
 abbrev pub MigrateKeeps : Outside → Ended → Flash → Flash → Type 0
@@ -83,19 +79,19 @@ MigrateKeeps before _ old now = IsSame old now
 
 -- ---- inside
 
--- the same by a configuration
+-- `BootKeeps` with the configuration at hand
 abbrev pub BootKeepsBy : List Entry × Key × Frame → Ended → Flash → Flash → Type 0
-BootKeepsBy config ended old now =
-    BootedSo (KeepsBoot config.2 config.0 config.1 old now) (IsSame old now) ended
+BootKeepsBy config (Booted end lines) old now =
+    KeptSo (KeepsBoot config.2 config.0 config.1 old now) (IsSame old now) end
+BootKeepsBy config _ old now = IsSame old now
 
--- the same, once an envelope was accepted
-abbrev pub KeepsAccepted : Offer → List (List ℕ × List ℕ) → Launching → Launching → Outside
-    → Ended → Flash → Flash → Type 0
-KeepsAccepted o uris launched later before (Updated end lines) old now =
-    KeepsOffer o uris launched later before end old now
-KeepsAccepted o uris launched later before _ old now = IsSame old now
+-- `StaysOrKeeps` with the accepted envelope at hand
+abbrev pub KeepsAccepted : Offer → List (List ℕ × List ℕ) → Surroundings → Surroundings → Ended
+    → Type 0
+KeepsAccepted o uris before after (Updated end lines) = KeepsOffer o uris before after end
+KeepsAccepted o uris before after _ = IsSame before.flash after.flash
 
--- of a run of calls, no more than that
+-- nothing is said of the images on the way
 abbrev pub PassesAny : Flash → Flash → Type 0
 PassesAny old new = Passes old new (λ image. Unit {0})
 

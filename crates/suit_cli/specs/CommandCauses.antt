@@ -43,11 +43,13 @@ pub data CheckSays (name : List ℕ) (before : Outside) (reply : Reply) : Type 0
       → IsWide (update_tree manifest members) reply → CheckSays name before reply
   AtInvocationWidth : (said : EnvelopeSays) (manifest : Manifest) (members : Members)
       → HasManifest name before said manifest → HasMembers said manifest members
-      → IsNarrow (update_tree manifest members) → IsWide (invocation_tree manifest) reply → CheckSays name before reply
+      → IsNarrow (update_tree manifest members) → IsWide (invocation_tree manifest) reply
+      → CheckSays name before reply
   -- status 0, `update safe` and `invocation safe`, or 1 with the lines of a path
   AtPaths : (update invocation : PlanTree) → HasProcedures name before update invocation
       → AreJudged update invocation reply → CheckSays name before reply
 
 -- two replies are one, but for the path that is printed
 abbrev pub SameButPath : Reply → Reply → Type 0
-SameButPath reply other = (other ≡ reply) ⊎ ((reply.outcome ≡ outcomes.Unsafe) × (other.outcome ≡ outcomes.Unsafe))
+SameButPath reply other =
+    (other ≡ reply) ⊎ ((reply.outcome ≡ outcomes.Unsafe) × (other.outcome ≡ outcomes.Unsafe))

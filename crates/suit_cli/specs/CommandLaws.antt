@@ -50,7 +50,9 @@ pub record ShowsUnder (name key_name : List ℕ) (before : Outside) (said : Enve
 -- the file was asked for, and then perhaps the key
 abbrev pub AskBoth : List ℕ → List ℕ → Outside → Outside → Type 0
 AskBoth name key_name before after =
-    IsTrue before.told → (after.asked ≡ before.asked ++ name ∷ []) ⊎ (after.asked ≡ before.asked ++ (name ∷ key_name ∷ []))
+    IsTrue before.told
+    → (after.asked ≡ before.asked ++ name ∷ [])
+    ⊎ (after.asked ≡ before.asked ++ (name ∷ key_name ∷ []))
 
 -- A fault of the host comes at the file, or at the key; at the key only behind a manifest that is accepted.
 pub data ShowFaults (name key_name : List ℕ) (before after : Outside) : Type 0 where
@@ -70,12 +72,14 @@ pub record ShowLaws : Type 0 where
   pub no_key : (name key_name : List ℕ) (before after : Outside) (said : EnvelopeSays)
       (manifest : Manifest) (reply other : Reply)
       → IsTrue before.told
-      → HasManifest name before said manifest → IsNoKey key_name before reply → shows name key_name before after (Says other) → other ≡ reply
+      → HasManifest name before said manifest → IsNoKey key_name before reply
+      → shows name key_name before after (Says other) → other ≡ reply
   -- where there are both, it shows them
   pub shown : (name key_name : List ℕ) (before after : Outside) (said : EnvelopeSays)
       (manifest : Manifest) (key : List ℕ) (reply : Reply)
       → IsTrue before.told
-      → ShowsUnder name key_name before said manifest key → shows name key_name before after (Says reply) → IsShown said manifest key reply
+      → ShowsUnder name key_name before said manifest key
+      → shows name key_name before after (Says reply) → IsShown said manifest key reply
   -- the file is asked for, then the key alone; and only the host faults, at one of them
   pub asks : (name key_name : List ℕ) (before after : Outside) (reply : Reply)
       → shows name key_name before after (Says reply) → AskBoth name key_name before after

@@ -15,7 +15,7 @@ use Rattle.suit_cli.specs.Devices.{device_in, key_of}
 use Rattle.suit_cli.specs.Formatting.{unused, formats}
 pub use Rattle.suit_cli.specs.Beginnings.{begins_boot, begins_update}
 use Rattle.suit_cli.specs.Drilling.{IsDrilled}
-use Rattle.suit_cli.specs.Installed.{config_in, record_in, lines_in, IsStatus}
+use Rattle.suit_cli.specs.Installed.{config_in, record_in, lines_in, TellsStatus}
 use Rattle.suit_cli.specs.Migrating.{migrates}
 
 -- up to the manifest in a file, and then on
@@ -90,7 +90,7 @@ tells_status =
     config_in >>= λ config.
     record_in config.2 >>= λ installed.
     lines_in config.0 installed >>= λ lines.
-    Last (IsStatus installed lines)
+    Last (TellsStatus installed lines)
 
 -- `drill NUMBER`: it reads no file, looks at no flash and has objects of its own
 abbrev pub drills : ℕ → Answers

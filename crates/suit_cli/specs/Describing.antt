@@ -24,10 +24,9 @@ there_in said manifest = members_in said (only_there said manifest)
 
 -- the envelope holds another text than the manifest states
 abbrev pub TextDiffers : EnvelopeSays → TextMember → Type 0
-TextDiffers said texts.Empty = ⊥
-TextDiffers said (texts.Here content) = ⊥
 TextDiffers said (texts.Apart stated) =
     (content : List ℕ) × (said.text ≡ Some content) × (string_like stated content ≢ stated)
+TextDiffers said _ = ⊥
 
 pub record IsOtherText (said : EnvelopeSays) (manifest : Manifest) (reply : Reply) : Type 0 where
   pub other : TextDiffers said manifest.text
@@ -43,7 +42,7 @@ IsDescription bytes said manifest members text =
     (payloads : List (List ℕ × List ℕ)) → HasPayloads bytes payloads
     → text ≡ compact_text (described_by said payloads manifest members)
 
--- it, and a line feed
+-- the description and a line feed
 pub record IsDescribed (bytes : List ℕ) (said : EnvelopeSays) (manifest : Manifest)
     (members : Members) (reply : Reply) : Type 0 where
   pub text : (payloads : List (List ℕ × List ℕ)) → HasPayloads bytes payloads

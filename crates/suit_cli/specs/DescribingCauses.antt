@@ -27,4 +27,5 @@ pub data DescribingSays (name : List ℕ) (before : Outside) (reply : Reply) : T
       (said : EnvelopeSays) (manifest : Manifest) (members : Members)
       (has : HasManifest name before said manifest)
       → HasMembers said (only_there said manifest) members → (TextDiffers said manifest.text → ⊥)
-      → IsDescribed has.in_envelope.bytes said manifest members reply → DescribingSays name before reply
+      → IsDescribed has.in_envelope.bytes said manifest members reply
+      → DescribingSays name before reply

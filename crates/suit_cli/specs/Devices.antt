@@ -20,7 +20,7 @@ use Rattle.suit_cli.specs.Stages.{Stage, judging}
 
 -- ---- the description
 
--- it is JSON (RFC 8259), and describes this layout of a flash of the size, which has that frame
+-- the bytes are JSON (RFC 8259), and describe this layout and frame of a flash of the size
 pub record IsDevice (size : ℕ) (bytes : List ℕ) (layout : List Entry) (frame : Frame)
     : Type 0 where
   pub utf8 : IsUtf8 bytes
@@ -37,10 +37,6 @@ abbrev pub alike_line : ℕ → ℕ → List ℕ
 alike_line i j =
     joined (codes "components " ∷ decimal i ∷ codes " and " ∷ decimal j ∷ codes " are alike\n" ∷ [])
 
-abbrev pub overlap_line : ℕ → ℕ → List ℕ
-overlap_line i j =
-    joined (codes "slots of " ∷ decimal i ∷ codes " and " ∷ decimal j ∷ codes " overlap\n" ∷ [])
-
 -- the line of what is wrong; running out of memory has none here
 abbrev pub IsFaultLine : LayoutFault → List ℕ → Type 0
 IsFaultLine (faults.BadField pointer) text = text ≡ pointed_line (codes "bad field") pointer
@@ -48,7 +44,8 @@ IsFaultLine (faults.BadHex pointer) text = text ≡ pointed_line (codes "bad hex
 IsFaultLine (faults.BadUuid pointer) text = text ≡ pointed_line (codes "bad uuid") pointer
 IsFaultLine (faults.TooMany n) text = text ≡ joined (decimal n ∷ codes " components\n" ∷ [])
 IsFaultLine (faults.TwoAlike i j) text = text ≡ alike_line i j
-IsFaultLine (faults.Overlap i j) text = text ≡ overlap_line i j
+IsFaultLine (faults.Overlap i j) text =
+    text ≡ joined (codes "slots of " ∷ decimal i ∷ codes " and " ∷ decimal j ∷ codes " overlap\n" ∷ [])
 IsFaultLine (faults.Outside i) text =
     text ≡ joined (codes "slot of " ∷ decimal i ∷ codes " is outside\n" ∷ [])
 IsFaultLine faults.BaseOutside text = text ≡ codes "base is outside\n"
@@ -60,7 +57,7 @@ pub record TellsLayout (fault : LayoutFault) (reply : Reply) : Type 0 where
   pub outcome_is : reply.outcome ≡ outcomes.Refused
   pub line : IsFaultLine fault reply.text
 
--- it is no JSON, or describes no layout
+-- the bytes are no JSON, or describe no layout
 pub data IsNoDevice (size : ℕ) (bytes : List ℕ) (reply : Reply) : Type 0 where
   IsNoJson : (IsUtf8 bytes → read bytes ≡ None) → IsReply reply outcomes.Refused bad_json_line
       → IsNoDevice size bytes reply

@@ -7,28 +7,22 @@ use Rattle.conformance.specs.Rounds.{RoundSaid, round_of}
 use Rattle.conformance.specs.Shapes.{got_name, words_of}
 use Rattle.suit_edge.specs.declared.launch.Launch.{Launch}
 use Rattle.suit_edge.specs.Faults.{Faulted}
+use Rattle.suit_edge.specs.Flash.{Now}
 use Rattle.suit_edge.specs.MemoryHost.{HostState, file_in}
 use Rattle.suit_edge.specs.FuseDisk.{FuseState}
 use Rattle.suit_edge.specs.MemoryDisk.{DiskState, memory_flash, moment_now}
 use Rattle.suit_edge.specs.MemoryLauncher.{LauncherState}
 use Rattle.suit_edge.specs.Moment.{lost}
-use Rattle.suit_params.specs.declared.digest.Digest.{Digest}
-use Rattle.flash_layout.specs.declared.slot.Record.{Record}
-use Rattle.flash_layout.specs.Configs.{ConfigOf, Configured}
-use Rattle.rollback_record.specs.SoundFlash.{Follows, HoldsSame, Settled, Sound}
+use Rattle.rollback_record.specs.SoundFlash.{Follows, Settled, Sound}
 use Rattle.update_proc.specs.declared.update_end.UpdateEnd.TheVariants as ends
-use Rattle.update_proc.specs.Choices.{AreChosen, active_slots}
-use Rattle.update_proc.specs.Moments.{IsNew, IsOld, KeepsContents}
 use Rattle.suit_cli.specs.declared.drill.tally.RoundEnd.{RoundEnd}
 use Rattle.suit_cli.specs.declared.drill.tally.RoundEnd.TheVariants.{Installed, Stopped, Cut}
-use Rattle.suit_cli.specs.Acceptance.{IsAccepted}
 use Rattle.suit_cli.specs.Beginnings.{begins_boot, begins_update}
-use Rattle.suit_cli.specs.Coming.{Comes, Ended, Updated, ended_status}
+use Rattle.suit_cli.specs.Coming.{Comes, Ended, StaysOrKeeps, Updated, ended_status}
 use Rattle.suit_cli.specs.DrillDevice.{flash_size, key_bytes}
-use Rattle.suit_cli.specs.Inputs.{IsRead, longest_file}
 use Rattle.suit_cli.specs.Launching.{Launching}
-use Rattle.suit_cli.specs.Outside.{Files, Flashed, Outside}
-use Rattle.suit_cli.specs.Updating.{HasOffer, IsDone, Offer, new_of, tree_of}
+use Rattle.suit_cli.specs.Outside.{Files, Outside}
+use Rattle.suit_cli.specs.Surroundings.{Surroundings}
 use Rattle.suit_cli.specs.Words.{Named, RunBoot, RunUpdate, Task, pairs_of, task_of}
 
 -- ---- the outside of a round
@@ -36,31 +30,23 @@ use Rattle.suit_cli.specs.Words.{Named, RunBoot, RunUpdate, Task, pairs_of, task
 abbrev pub envelope_name : List ℕ
 envelope_name = codes "drill.suit"
 
--- the envelope, and the file that is fetched
+-- the host's files: the envelope, and the file that is fetched
 abbrev pub named_files : RoundSaid → List ℕ → List (List ℕ × List ℕ)
 named_files said envelope =
     (envelope_name, envelope) ∷ (got_name, bytes_of said.files got_name) ∷ []
 
-abbrev pub files_in : RoundSaid → List ℕ → Files
-files_in said envelope = file_in (named_files said envelope)
+abbrev pub round_files : RoundSaid → List ℕ → Files
+round_files said envelope = file_in (named_files said envelope)
 
 -- ---- the objects of a round
 
--- in memory, the flash behind a fuse
+-- objects in memory; a fuse stands before the flash
 pub record Objects : Type 0 where
   pub host : HostState
   pub fuse : FuseState
   pub launcher : LauncherState
 
--- as a command sees them
-abbrev pub flash_of : FuseState → Flashed
-flash_of f = record {
-  told = true;
-  size = length f.disk.first;
-  reads = (memory_flash f.disk).reads;
-  faults = f.faults;
-}
-
+-- the same as a command sees them
 abbrev pub outside_of : Objects → Outside
 outside_of o = record {
   told = true;
@@ -68,45 +54,52 @@ outside_of o = record {
   pulled = o.host.pulled;
   asked = o.host.asked;
   faults = o.host.calls.faults;
-  flash = flash_of o.fuse;
+  flash = record {
+    told = true;
+    size = length o.fuse.disk.first;
+    reads = (memory_flash o.fuse.disk).reads;
+    faults = o.fuse.faults;
+  };
 }
 
 abbrev pub launching_of : Objects → Launching
 launching_of o =
     record { told = true; launches = o.launcher.launches; faults = o.launcher.calls.faults }
 
--- memory ran out in a call of one of them
+abbrev pub surroundings_of : Objects → Surroundings
+surroundings_of o = record {
+  outside = outside_of o;
+  launcher = launching_of o;
+  flash = memory_flash o.fuse.disk;
+}
+
+-- one of them ran out of memory in a call
 abbrev pub have_starved : Objects → Bool
 have_starved o =
     not (o.host.calls.starved == 0) || not (o.fuse.disk.calls.starved == 0)
     || not (o.launcher.calls.starved == 0)
 
--- the fuse takes as many calls as the round drew, and where it drew none, as many as there can be
+-- the fuse lets through as many calls as the round drew, or all if it drew none
 pub record IsDrawn (said : RoundSaid) (fuse : FuseState) : Type 0 where
   pub passes : fuse.passes ≡ unwrap_or said.cut 18446744073709551615
   pub whole : fuse.faults ≡ 0
 
--- objects that tell what they hold: these files, and a flash with this image
-pub record Holds (files : Files) (image : List ℕ) (launched : Launching) (here : Outside)
-    : Type 0 where
-  pub told : IsTrue here.told
-  pub files_are : here.files ≡ files
-  pub flash_told : IsTrue here.flash.told
-  pub size : here.flash.size ≡ flash_size
-  pub reads : here.flash.reads ≡ image
-  pub launcher_told : IsTrue launched.told
+-- they hold these files and a flash of that size, which reads this image
+pub record ObjectsHold (files : Files) (image : List ℕ) (o : Objects) : Type 0 where
+  pub files_are : file_in o.host.files ≡ files
+  pub size : length o.fuse.disk.first ≡ flash_size
+  pub reads : (memory_flash o.fuse.disk).reads ≡ image
 
--- no object counted a fault, and memory sufficed
-pub record IsWhole (launched now : Launching) (before after : Outside) (ended : Ended)
-    : Type 0 where
-  pub host : after.faults ≡ before.faults
-  pub flash : after.flash.faults ≡ before.flash.faults
-  pub launcher : now.faults ≡ launched.faults
+-- no object counted a fault, and memory did not run out
+pub record IsWhole (had has : Objects) (ended : Ended) : Type 0 where
+  pub host : has.host.calls.faults ≡ had.host.calls.faults
+  pub flash : has.fuse.faults ≡ had.fuse.faults
+  pub launcher : has.launcher.calls.faults ≡ had.launcher.calls.faults
   pub enough : ended_status ended ≢ 11
 
 -- ---- the update
 
--- `run update` of the envelope, with the round's words, on this image, behind the drawn fuse; memory sufficed for the objects
+-- `run update` of the envelope, with the round's words, on this image, behind the drawn fuse; no object ran out of memory
 pub record UpdateComes (said : RoundSaid) (files : Files) (image : List ℕ) : Type 0 where
   pub uris : List Named
   pub words :
@@ -115,7 +108,7 @@ pub record UpdateComes (said : RoundSaid) (files : Files) (image : List ℕ) : T
   pub had : Objects
   pub has : Objects
   pub ended : Ended
-  pub holds : Holds files image (launching_of had) (outside_of had)
+  pub holds : ObjectsHold files image had
   pub fuse : IsDrawn said had.fuse
   pub comes :
       Comes (begins_update envelope_name) (λ task. RunUpdate envelope_name uris ≡ task)
@@ -129,60 +122,28 @@ is_installed _ = false
 abbrev pub end_of : Ended → RoundEnd
 end_of ended = if is_installed ended then Installed else Stopped
 
--- it came to its end
+-- the update came to its end
 pub record EndsWhole (said : RoundSaid) (files : Files) (image : List ℕ)
     (u : UpdateComes said files image) (left : List ℕ) (end : RoundEnd) : Type 0 where
-  pub whole :
-      IsWhole (launching_of u.had) (launching_of u.has) (outside_of u.had) (outside_of u.has)
-      u.ended
+  pub whole : IsWhole u.had u.has u.ended
   pub reads : (memory_flash u.has.fuse.disk).reads ≡ left
   pub end_is : end ≡ end_of u.ended
 
--- The image has the old record, and no content changed but those of slots that may be written; or it has the new record,
--- and the contents that the procedure made, which was done.
-pub record IsLeft (o : Offer) (uris : List (List ℕ × List ℕ)) (launched now : Launching)
-    (before : Outside) (held : Option Record) (digest : Digest) (left : List ℕ)
-    : Type 0 where
-  pub numbers : List ℕ
-  pub chosen :
-      AreChosen o.layout o.accepted.places (tree_of o.accepted) (active_slots held) numbers
-  pub made : List ℕ
-  pub others :
-      KeepsContents o.layout o.accepted.places (tree_of o.accepted) numbers before.flash.reads made
-  pub stands :
-      IsOld o.frame o.layout o.accepted.places (tree_of o.accepted) numbers held
-      before.flash.reads left
-      ⊎
-      (IsNew o.frame o.layout (new_of o.frame o.accepted held before.flash.reads digest numbers)
-      made left
-      × IsDone o uris launched now before held before.flash.reads made)
-
--- the update of an accepted envelope left it
-pub record IsCutOff (uris : List (List ℕ × List ℕ)) (launched now : Launching) (before : Outside)
-    (left : List ℕ) : Type 0 where
-  pub o : Offer
-  pub config :
-      ConfigOf before.flash.size before.flash.reads
-      (Configured o.layout o.key o.frame)
-  pub read : IsRead longest_file envelope_name before o.bytes
-  pub is_accepted : IsAccepted o.frame o.layout o.key o.bytes o.accepted
-  pub offered : HasOffer o.frame before.flash.reads o.accepted.said.wrapper
-  pub is_left : IsLeft o uris launched now before offered.0 offered.1 left
-
--- The flash lost its power, as was wanted: the fuse refused a call. This image was left, with those pending writes that the
--- round drew: by an update that had begun, or with the contents of before.
+-- The flash lost its power, as the round wanted: the fuse refused a call. Nothing was pending before, and the update kept the
+-- flash as its end says. Of the images that a power loss may leave then, this one has the pending writes that the round drew.
 pub record EndsCut (said : RoundSaid) (files : Files) (image : List ℕ)
     (u : UpdateComes said files image) (left : List ℕ) (end : RoundEnd) : Type 0 where
   pub wanted : IsSome said.cut
   pub faulted : Faulted u.had.fuse.faults u.has.fuse.faults
+  pub settled : Settled (memory_flash u.had.fuse.disk)
+  pub kept :
+      StaysOrKeeps envelope_name (pairs_of u.uris) (surroundings_of u.had) (surroundings_of u.has)
+      u.ended
+  pub may : Now (memory_flash u.has.fuse.disk) left
   pub loses : left ≡ lost said.choice (moment_now u.has.fuse.disk)
-  pub stands :
-      HoldsSame image left
-      ⊎ IsCutOff (pairs_of u.uris) (launching_of u.had) (launching_of u.has) (outside_of u.had)
-      left
   pub end_is : end ≡ Cut
 
--- it came to its end, or was cut
+-- the update came to its end, or was cut
 pub record UpdatesRound (said : RoundSaid) (files : Files) (image left : List ℕ) (end : RoundEnd)
     : Type 0 where
   pub update : UpdateComes said files image
@@ -193,16 +154,16 @@ pub record UpdatesRound (said : RoundSaid) (files : Files) (image left : List �
 
 -- `run boot` on this image gains these launches, and leaves that image
 pub record BootComes (files : Files) (image left : List ℕ) (launches : List Launch) : Type 0 where
-  pub launched : Launching
-  pub now : Launching
-  pub before : Outside
-  pub after : Outside
+  pub had : Objects
+  pub has : Objects
   pub ended : Ended
-  pub holds : Holds files image launched before
-  pub comes : Comes begins_boot (λ task. RunBoot ≡ task) launched now before after ended
-  pub whole : IsWhole launched now before after ended
-  pub gained : now.launches ≡ launched.launches ++ launches
-  pub reads : after.flash.reads ≡ left
+  pub holds : ObjectsHold files image had
+  pub comes :
+      Comes begins_boot (λ task. RunBoot ≡ task) (launching_of had) (launching_of has)
+      (outside_of had) (outside_of has) ended
+  pub whole : IsWhole had has ended
+  pub gained : has.launcher.launches ≡ had.launcher.launches ++ launches
+  pub reads : (memory_flash has.fuse.disk).reads ≡ left
 
 -- ---- the round
 
@@ -215,28 +176,28 @@ pub record RoundRun : Type 0 where
   pub end : RoundEnd
   pub launches : List Launch
 
--- a flash lives on from one image to the next
-pub record LivesOn (image next : List ℕ) : Type 0 where
+-- the next image is sound, and goes on from this one
+pub record IsNextImage (image next : List ℕ) : Type 0 where
   pub sound : Sound next
   pub follows : Follows image next
 
--- it is run with what was drawn for it
+-- a round was run with what was drawn for it
 pub record IsRound (said : RoundSaid) (r : RoundRun) : Type 0 where
   pub envelope : List ℕ
   pub made : IsMadeOf said.description said.files key_bytes envelope
-  pub update : UpdatesRound said (files_in said envelope) r.before r.updated r.end
-  pub boot : BootComes (files_in said envelope) r.updated r.after r.launches
-  pub first : LivesOn r.before r.updated
-  pub second : LivesOn r.updated r.after
+  pub update : UpdatesRound said (round_files said envelope) r.before r.updated r.end
+  pub boot : BootComes (round_files said envelope) r.updated r.after r.launches
+  pub first : IsNextImage r.before r.updated
+  pub second : IsNextImage r.updated r.after
 
 -- ---- inside
 
 -- a disk of that size, with nothing pending
-pub record IsReady (disk : DiskState) : Type 0 where
+pub record IsAtRest (disk : DiskState) : Type 0 where
   pub size : length disk.first ≡ flash_size
   pub settled : Settled (memory_flash disk)
 
--- no object failed and memory sufficed, by the status
+-- the status says that no object failed and memory did not run out
 abbrev pub is_whole : ℕ → Bool
 is_whole status = not (status == 7 || status == 8 || status == 10 || status == 11)
 
@@ -249,12 +210,12 @@ pub record HostsRound (said : RoundSaid) (host : HostState) : Type 0 where
   pub made : IsMadeOf said.description said.files key_bytes envelope
   pub files : host.files ≡ named_files said envelope
 
--- the names of files by their URIs, of an update
+-- the file names by URI, if the task is an update
 abbrev pub uris_asked : Option Task → Option (List (List ℕ × List ℕ))
 uris_asked (Some (RunUpdate name uris)) = Some (pairs_of uris)
 uris_asked _ = None
 
--- these are the names by URIs that `run update` with these words has
+-- these are the file names by URI that `run update` gets with these words
 pub record AsksUpdate (words : List (List ℕ)) (uris : List (List ℕ × List ℕ)) : Type 0 where
   pub named : List Named
   pub asks :
@@ -271,13 +232,18 @@ abbrev pub BootsRound : Files → List ℕ → List ℕ → List Launch → List
 BootsRound files image left launched now =
     (gained : List Launch) × (now ≡ launched ++ gained) × BootComes files image left gained
 
--- a round, from a state of the draws and an image to those behind it
-pub record RunsRound (sequence : ℕ) (state : ℕ) (image : List ℕ) (launched : List Launch)
-    (later : ℕ) (left : List ℕ) (now : List Launch) (end : RoundEnd) : Type 0 where
+-- what one round leaves to the next: the state of the draws, the image of the flash, and all launches
+pub record DrillState : Type 0 where
+  pub draws : ℕ
+  pub image : List ℕ
+  pub launches : List Launch
+
+-- a round, from one of these to another
+pub record RunsRound (sequence : ℕ) (before after : DrillState) (end : RoundEnd) : Type 0 where
   pub run : RoundRun
-  pub is : IsRound (round_of state sequence).0 run
-  pub state_is : later ≡ (round_of state sequence).1
-  pub before_is : run.before ≡ image
-  pub after_is : run.after ≡ left
+  pub is : IsRound (round_of before.draws sequence).0 run
+  pub draws_are : after.draws ≡ (round_of before.draws sequence).1
+  pub before_is : run.before ≡ before.image
+  pub after_is : run.after ≡ after.image
   pub end_is : run.end ≡ end
-  pub gained : now ≡ launched ++ run.launches
+  pub gained : after.launches ≡ before.launches ++ run.launches

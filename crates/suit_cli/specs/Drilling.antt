@@ -1,7 +1,8 @@
 -- `drill NUMBER`: 200 rounds, each an update whose envelope is drawn and a boot, on a flash in memory.
-use Rattle.std.specs.Prelude.{◌≡◌, ℕ, ◌+◌, Bool, true, not, List, [], ◌∷◌, ◌++◌, length, count_by, Option, Some, None, codes}
+use Rattle.std.specs.Prelude.{◌≡◌, ℕ, ◌+◌, Bool, true, not, List, [], ◌∷◌, ◌++◌, length, count_by, Option, codes}
 use Rattle.std.specs.Fmt.{decimal}
-use Rattle.std.specs.Option.{option_and_then}
+use Rattle.std.specs.List.{flat_map}
+use Rattle.std.specs.Option.{option_and_then, option_map_or}
 use Rattle.suit_params.specs.declared.digest.Digest.{Digest}
 use Rattle.suit_params.specs.DigestBytes.{as_digest}
 use Rattle.suit_params.specs.Hashes.{has_digest}
@@ -30,10 +31,9 @@ counted_round t Cut = record t { cut = t.cut + 1 }
 abbrev pub rounds_counted : Tally → ℕ
 rounds_counted t = t.installed + t.stopped + t.cut
 
--- without a digest, or with bytes of another one
+-- a launch is wrong if it has no digest, or one that its bytes do not have
 abbrev pub wrong_by : Option Digest → List ℕ → Bool
-wrong_by None bytes = true
-wrong_by (Some digest) bytes = not (has_digest digest bytes)
+wrong_by digest bytes = option_map_or (λ (d : Digest). not (has_digest d bytes)) digest true
 
 abbrev pub is_wrong : Launch → Bool
 is_wrong launch = wrong_by (option_and_then as_digest launch.digest) launch.bytes
@@ -47,28 +47,27 @@ rounds_text tally =
     (codes "rounds 200, installed " ∷ decimal tally.installed
     ∷ codes ", stopped " ∷ decimal tally.stopped ∷ codes ", cut " ∷ decimal tally.cut ∷ [])
 
-abbrev pub line_of : ℕ → List ℕ → ℕ → ℕ → List ℕ
-line_of number rounds launches wrong =
+abbrev pub tally_line : ℕ → List ℕ → ℕ → ℕ → List ℕ
+tally_line number rounds launches wrong =
     joined
     (codes "drill " ∷ decimal number ∷ codes ": " ∷ rounds
     ∷ codes ", launches " ∷ decimal launches ∷ codes ", wrong " ∷ decimal wrong ∷ codes "\n" ∷ [])
 
 abbrev pub drill_line : ℕ → Tally → ℕ → ℕ → List ℕ
-drill_line number tally launches wrong = line_of number (rounds_text tally) launches wrong
+drill_line number tally launches wrong = tally_line number (rounds_text tally) launches wrong
 
 -- ---- the rounds
 
--- those of a list, after others
+-- the counts after these rounds, from these counts on
 abbrev pub tally_of : Tally → List RoundRun → Tally
 tally_of t [] = t
 tally_of t (r ∷ rs) = tally_of (counted_round t r.end) rs
 
 abbrev pub launches_of : List RoundRun → List Launch
-launches_of [] = []
-launches_of (r ∷ rs) = r.launches ++ launches_of rs
+launches_of rounds = flat_map (λ (r : RoundRun). r.launches) rounds
 
--- these rounds lead from an image that was formatted to another one: each goes on from the image that the one before it
--- leaves, with the next draws and the next sequence number
+-- These rounds lead from a formatted image to the last one. Each goes on from the image that the round before it leaves, with
+-- the next draws and the next sequence number.
 pub data RunTo (number : ℕ) (first : List ℕ) : List RoundRun → ℕ → ℕ → List ℕ → Type 0 where
   NoRound : RunTo number first [] number 1 first
   RoundAfter : (rs : List RoundRun) (state sequence : ℕ) (image : List ℕ) (r : RoundRun)
@@ -85,7 +84,7 @@ pub record AreDrilled (number : ℕ) (rounds : List RoundRun) : Type 0 where
   pub last : List ℕ
   pub run : RunTo number first rounds state 201 last
 
--- a line that counts them and their launches
+-- the reply is the line that counts the rounds and their launches
 pub record IsDrilled (number : ℕ) (reply : Reply) : Type 0 where
   pub rounds : List RoundRun
   pub drilled : AreDrilled number rounds
@@ -96,7 +95,7 @@ pub record IsDrilled (number : ℕ) (reply : Reply) : Type 0 where
 
 -- ---- inside
 
--- what was counted, and what was launched, of 200 rounds
+-- these are the counts and the launches of 200 rounds
 abbrev pub DrillsTo : ℕ → Tally → List Launch → Type 0
 DrillsTo number tally launches =
     (rounds : List RoundRun) × AreDrilled number rounds × (tally ≡ tally_of no_rounds rounds)

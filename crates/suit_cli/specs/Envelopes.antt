@@ -19,7 +19,7 @@ use Rattle.suit_cli.specs.Texts.{refusal_line, too_long_line}
 use Rattle.suit_cli.specs.Replies.{IsReply}
 use Rattle.suit_cli.specs.Stages.{Stage, judging}
 
--- input is refused at a place, for a reason
+-- the reply tells a refusal: its place and its reason
 pub record IsRefused (Refuses : Refusal → Type 0) (reply : Reply) : Type 0 where
   pub refusal : Refusal
   pub refuses : Refuses refusal
@@ -27,7 +27,7 @@ pub record IsRefused (Refuses : Refusal → Type 0) (reply : Reply) : Type 0 whe
 
 -- ---- the envelope
 
--- a file is bytes, which spell an envelope or are refused
+-- each element is a byte
 abbrev pub AreBytes : List ℕ → Type 0
 AreBytes bytes = AllByRecursion IsByte bytes
 
@@ -36,7 +36,7 @@ envelope_in bytes =
     judging (λ said. AreBytes bytes × EnvelopeOf bytes said)
     (λ reply. AreBytes bytes × IsRefused (RefusesBytes bytes) reply)
 
--- it is within a limit when it is trimmed
+-- the trimmed envelope is within a limit
 abbrev pub IsShort : ℕ → EnvelopeSays → Type 0
 IsShort limit said = trimmed_size said ≤ limit
 

@@ -58,7 +58,8 @@ pub record InitLaws : Type 0 where
   -- and where a cause stands, each answer that is neither a fault nor running out of memory is its reply
   pub always : (device key_name : List ℕ) (before after : Outside) (reply other : Reply)
       → IsTrue before.told → IsTrue before.flash.told
-      → InitSays device key_name before reply → inits device key_name before after (Says other) → other ≡ reply
+      → InitSays device key_name before reply
+      → inits device key_name before after (Says other) → other ≡ reply
   -- where it is done, the flash is ready
   pub ready : (device key_name : List ℕ) (before after : Outside) (reply : Reply)
       → IsTrue before.flash.told → inits device key_name before after (Says reply)
@@ -92,7 +93,8 @@ pub data StatusSays (before : Outside) (reply : Reply) : Type 0 where
   -- status 0, and the lines
   AtLines : (config : List Entry × Key × Frame) (installed : Record) (lines : List ℕ)
       → Holds before.flash config → IsInstalled config.2 before.flash installed
-      → (IsTrue before.flash.told → lines ≡ component_lines 0 config.0 installed.active before.flash.reads)
+      → (IsTrue before.flash.told
+      → lines ≡ component_lines 0 config.0 installed.active before.flash.reads)
       → IsReply reply outcomes.Done (record_lines installed ++ lines) → StatusSays before reply
 
 pub record StatusLaws : Type 0 where

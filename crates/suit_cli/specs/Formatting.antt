@@ -15,11 +15,11 @@ use Rattle.suit_cli.specs.Devices.{IsDevice, key_of}
 
 -- ---- the gate of version 1, and that of the root
 
--- neither is open
+-- neither gate is open
 abbrev pub IsShut : Flashed → Type 0
 IsShut flash = IsTrue flash.told → HasOpenGate flash.reads → ⊥
 
--- and the flash has this size
+-- neither gate is open, and the flash has this size
 pub record IsUnused (flash : Flashed) (size : ℕ) : Type 0 where
   pub size_is : size ≡ flash.size
   pub shut : IsShut flash
@@ -33,12 +33,12 @@ unused = looking IsUnused IsInUse
 
 -- ---- the format
 
--- the flash has the layout and the key, no record, and each slot empty
+-- the gates were shut, and now the flash has the layout and the key, no record, and empty slots
 abbrev pub Formats : Frame → List Entry → Key → Flashed → Flashed → Type 0
 Formats frame layout key old new =
     IsShut old × (IsTrue old.told → IsFormatted frame old.size layout key new.reads)
 
--- it declines where a gate is open after all, which no flash that tells can do behind the stage that found both shut
+-- It declines where a gate is open after all. No flash that tells can have one, since `unused` found both shut.
 abbrev pub formatting : Frame → List Entry → Key → Stage (Unit {0})
 formatting frame layout key =
     writing (Formats frame layout key) (OutsideFormat frame layout) IsInUse
@@ -50,12 +50,12 @@ formats frame layout key =
 
 -- ---- the image that a power loss leaves
 
--- an image of the start, or one that is as said
+-- an image that could be left at the start, or another one of this kind
 abbrev pub MayBe : Flash → (List ℕ → Type 0) → List ℕ → Type 0
 MayBe start Other image = Now start image ⊎ Other image
 
--- The first file describes a layout for a flash of the size, and the second holds a key. Where each image that a power
--- loss at the start may leave is blank, this one is blank, or has that layout and key, no record, and each slot empty.
+-- The first file describes a layout for a flash of the size, and the second holds a key. If each image that a power loss
+-- may leave at the start is blank, this one is blank, or has that layout and key, no record, and empty slots.
 pub record MayFormat (size : ℕ) (device key_name : List ℕ) (before : Outside) (start : Flash)
     (image : List ℕ) : Type 0 where
   pub bytes : List ℕ
@@ -67,7 +67,7 @@ pub record MayFormat (size : ℕ) (device key_name : List ℕ) (before : Outside
   pub has_key : IsKey key_name before key
   pub blank_or_formatted : IsBlankOrFormatted frame size layout (key_of key) start image
 
--- an image of the start; or, of a flash that is not in use, one on the way to its format
+-- an image that could be left at the start; or, if the flash is not in use, one on the way to the format
 abbrev pub MayLeave : List ℕ → List ℕ → Outside → Flash → List ℕ → Type 0
 MayLeave device key_name before start =
     MayBe start

@@ -1,4 +1,4 @@
--- The contents of a file, where each stage up to some moment is good.
+-- What a file holds, as far as the stages judge it.
 use Rattle.std.specs.Prelude.{◌≡◌, ℕ, List}
 use Rattle.suit_commands.specs.Tree.{PlanTree}
 use Rattle.suit_envelope.specs.Envelopes.{EnvelopeSays}
@@ -12,21 +12,21 @@ use Rattle.suit_cli.specs.Inputs.{longest_file, longest_shown, IsRead}
 use Rattle.suit_cli.specs.Envelopes.{AreBytes, IsShort, ManifestOf}
 use Rattle.suit_cli.specs.Judgement.{IsNarrow}
 
--- an envelope
+-- the file has an envelope
 pub record HasEnvelope (name : List ℕ) (before : Outside) (said : EnvelopeSays) : Type 0 where
   pub bytes : List ℕ
   pub read : IsRead longest_file name before bytes
   pub are_bytes : AreBytes bytes
   pub envelope : EnvelopeOf bytes said
 
--- one within its limit, and its manifest
+-- the file has an envelope within the limit, with this manifest
 pub record HasManifest (name : List ℕ) (before : Outside) (said : EnvelopeSays)
     (manifest : Manifest) : Type 0 where
   pub in_envelope : HasEnvelope name before said
   pub is_short : IsShort longest_shown said
   pub says : ManifestOf said manifest
 
--- one whose members are there and match; these are its procedures, within the width that is judged
+-- the envelope's members are there and match, and these are its procedures, within the width that is judged
 pub record HasProcedures (name : List ℕ) (before : Outside) (update invocation : PlanTree)
     : Type 0 where
   pub said : EnvelopeSays

@@ -25,12 +25,12 @@ longest_key = 64
 
 -- ---- a file
 
--- it is there, and not longer than the limit
+-- the file is there, and not longer than the limit
 pub record IsRead (limit : ℕ) (name : List ℕ) (before : Outside) (bytes : List ℕ) : Type 0 where
   pub holds : IsTrue before.told → before.files name ≡ Some bytes
   pub fits : length bytes ≤ limit
 
--- it is longer than the limit
+-- the file is longer than the limit
 abbrev pub IsAbove : ℕ → Option (List ℕ) → Type 0
 IsAbove limit file = (bytes : List ℕ) × (file ≡ Some bytes) × (limit < length bytes)
 
@@ -40,7 +40,7 @@ pub data IsUnread (limit : ℕ) (name : List ℕ) (before : Outside) (reply : Re
   IsTooLong : (IsTrue before.told → IsAbove limit (before.files name))
       → IsReply reply outcomes.TooLong (too_long_line name) → IsUnread limit name before reply
 
--- the whole file; one byte more than the limit shows that it is too long
+-- Reads the whole file. One byte more than the limit shows that it is too long.
 abbrev pub file : ℕ → List ℕ → Stage (List ℕ)
 file limit name = reading (limit + 1) name (IsRead limit name) (IsUnread limit name)
 

@@ -1,5 +1,5 @@
 -- The stages that read what is installed in the flash.
-use Rattle.std.specs.Prelude.{◌≡◌, ℕ, ◌+◌, ◌==◌, ◌&&◌, IsTrue, List, [], ◌∷◌, ◌++◌, length, slice_index, Some, None, Result, Ok, Err, codes, if◌then◌else◌}
+use Rattle.std.specs.Prelude.{◌≡◌, ℕ, ◌+◌, IsTrue, List, [], ◌∷◌, ◌++◌, length, slice_index, Some, None, Result, Ok, Err, codes}
 use Rattle.std.specs.Fmt.{decimal}
 use Rattle.hex.specs.Hex.{encode_lower}
 use Rattle.suit_params.specs.DigestBytes.{digest_bytes}
@@ -15,6 +15,7 @@ use Rattle.flash_layout.specs.Frames.{head_of}
 use Rattle.flash_layout.specs.Layouts.{slot_starts}
 use Rattle.flash_layout.specs.Slots.{slot_at, slot_content}
 use Rattle.rollback_record.specs.HeadRecord.{RecordOf}
+use Rattle.step_machine.specs.InUse.{slot_in_use}
 use Rattle.suit_cli.specs.declared.reply.Object.TheVariants as objects
 use Rattle.suit_cli.specs.declared.reply.Stop.{Stop}
 use Rattle.suit_cli.specs.declared.reply.Stop.TheVariants as stops
@@ -53,20 +54,11 @@ pub record IsNothing (frame : Frame) (flash : Flashed) (reply : Reply) : Type 0 
   pub none : IsTrue flash.told → RecordOf frame (head_of frame flash.reads) None
   pub says : IsReply reply outcomes.NothingInstalled (codes "nothing installed\n")
 
--- of a flash with this frame
+-- the record of a flash with this frame
 abbrev pub record_in : Frame → Stage Record
 record_in frame = looking (IsInstalled frame) (IsNothing frame)
 
 -- ---- the contents
-
--- the slot that a component's content stands in: the one that the record names, where the component has it
-abbrev pub slot_in_use : Entry → ℕ → ℕ
-slot_in_use e active = if (active == 1) && (e.slots == 2) then 1 else 0
-
--- how many bytes it has
-abbrev pub length_in : Entry → ℕ → List ℕ → ℕ
-length_in e number image =
-    length (slot_content (slot_at e (slice_index (slot_starts e) number)) image)
 
 abbrev pub slot_line : ℕ → ℕ → ℕ → List ℕ
 slot_line i number size =
@@ -81,9 +73,11 @@ abbrev pub line_of : Memory → ℕ → ℕ → ℕ → List ℕ
 line_of memory.Flash i number size = slot_line i number size
 line_of memory.Ram i number size = ram_line i
 
+-- of a component in flash its slot that is in use, and how many bytes stand there
 abbrev pub component_line : ℕ → Entry → ℕ → List ℕ → List ℕ
 component_line i e active image =
-    line_of e.memory i (slot_in_use e active) (length_in e (slot_in_use e active) image)
+    line_of e.memory i (slot_in_use e active)
+    (length (slot_content (slot_at e (slice_index (slot_starts e) (slot_in_use e active))) image))
 
 -- a line for each component
 abbrev pub component_lines : ℕ → List Entry → List ℕ → List ℕ → List ℕ
@@ -91,7 +85,7 @@ component_lines i [] active image = []
 component_lines i (e ∷ layout) active image =
     component_line i e (slice_index active i) image ++ component_lines (i + 1) layout active image
 
--- as the flash reads, where it tells; no length declines
+-- The lines as the flash reads, if it tells. This stage never declines.
 abbrev pub lines_in : List Entry → Record → Stage (List ℕ)
 lines_in layout installed =
     looking
@@ -99,7 +93,7 @@ lines_in layout installed =
     → lines ≡ component_lines 0 layout installed.active flash.reads)
     (λ flash reply. ⊥)
 
--- how the count of faults stands where the flash alone may fail
+-- the count of faults after a result that only the flash can make fail
 abbrev pub FlashCounts : {A : Type 0} → Result A Stop → ℕ → ℕ → Type 0
 FlashCounts (Ok a) before now = now ≡ before
 FlashCounts (Err (stops.Declined reply)) before now = ⊥
@@ -117,5 +111,5 @@ record_lines r =
     number_line (codes "sequence") r.sequence ++ (number_line (codes "generation") r.generation
     ++ (number_line (codes "bank") r.bank ++ digest_line (digest_bytes r.digest)))
 
-abbrev pub IsStatus : Record → List ℕ → Reply → Type 0
-IsStatus installed lines reply = IsReply reply outcomes.Done (record_lines installed ++ lines)
+abbrev pub TellsStatus : Record → List ℕ → Reply → Type 0
+TellsStatus installed lines reply = IsReply reply outcomes.Done (record_lines installed ++ lines)

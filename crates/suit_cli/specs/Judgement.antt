@@ -26,12 +26,12 @@ narrow plan = judging (λ _. IsNarrow plan) (IsWide plan)
 
 -- ---- the paths
 
--- on every path of both procedures each invoke is covered
+-- each invoke is covered on every path of both procedures
 pub record AreSafe (update invocation : PlanTree) : Type 0 where
   pub update_safe : Safe update
   pub invocation_safe : Safe invocation
 
--- the lines of a path on which an invoke is not covered, of the first procedure that has one
+-- the lines of a path on which an invoke is not covered; the update is judged before the invocation
 pub data ShowUnsafe (update invocation : PlanTree) (text : List ℕ) : Type 0 where
   UpdateUnsafe : (bad : BadPath) → IsBadPath update bad
       → text ≡ update_unsafe_line ++ path_lines bad → ShowUnsafe update invocation text

@@ -31,17 +31,21 @@ pub record LaunchesRecorded (layout : List Entry) (key : Key) (files : List ℕ 
   pub gains : GainsSafe launched now
 
 -- flash and launcher tell what they hold, and the flash reads the image
-pub record Holds (image : List ℕ) (launched : Launching) (before : Outside) : Type 0 where
+pub record TellsImage (image : List ℕ) (launched : Launching) (before : Outside) : Type 0 where
   pub flash : IsTrue before.flash.told
   pub launcher : IsTrue launched.told
   pub size : before.flash.size ≡ length image
   pub reads : before.flash.reads ≡ image
 
--- each boot of the image launches nothing, or what it has recorded
+-- each boot of the image launches nothing, or what the image has recorded
 abbrev pub BootsRecorded : List ℕ → Type 0
-BootsRecorded image = (launched now : Launching) (before after : Outside) (end : BootEnd) (lines : List ℕ) → Holds image launched before
+BootsRecorded image =
+    (launched now : Launching) (before after : Outside) (end : BootEnd) (lines : List ℕ)
+    → TellsImage image launched before
     → Boots launched now before after end lines → (now.launches ≡ launched.launches)
-    ⊎ ((layout : List Entry) × (key : Key) × LaunchesRecorded layout key before.files image after.flash.reads launched.launches now.launches)
+    ⊎ ((layout : List Entry) × (key : Key)
+    × LaunchesRecorded layout key before.files image after.flash.reads launched.launches
+    now.launches)
 
 pub record LaunchedLaws : Type 0 where
   -- so it is with a sound image,

@@ -15,15 +15,15 @@ use Rattle.update_proc.specs.declared.update_end.UpdateEnd.{UpdateEnd}
 use Rattle.update_proc.specs.Updates.{Hosted, PlaysUpdate, sources}
 use Rattle.suit_cli.specs.Acceptance.{Accepted, IsAccepted}
 use Rattle.suit_cli.specs.Launching.{Launching}
-use Rattle.suit_cli.specs.LaunchedLaws.{Holds}
+use Rattle.suit_cli.specs.LaunchedLaws.{TellsImage}
 use Rattle.suit_cli.specs.Outside.{Outside}
 use Rattle.suit_cli.specs.Updating.{Updates, tree_of}
 
 -- These bytes were accepted under the configuration of the image: they are an envelope that is authentic under its key, and
 -- judged safe. Its update procedure was played beside the record that the image has, or beside none, with the payloads of the
 -- bytes and the names of files for URIs. Each launch that it made has the digest that was in force, and the size where one was.
-pub record LaunchesAccepted (uris : List (List ℕ × List ℕ)) (layout : List Entry) (key : Key) (bytes : List ℕ)
-    (image : List ℕ) (launched now : List Launch)
+pub record LaunchesAccepted (uris : List (List ℕ × List ℕ)) (layout : List Entry) (key : Key)
+    (bytes image : List ℕ) (launched now : List Launch)
     : Type 0 where
   pub frame : Frame
   pub config : ConfigOf (length image) image (Configured layout key frame)
@@ -46,7 +46,7 @@ abbrev pub UpdatesAccepted : List ℕ → Type 0
 UpdatesAccepted image =
     (name : List ℕ) (uris : List (List ℕ × List ℕ)) (launched now : Launching)
     (before after : Outside) (end : UpdateEnd) (lines : List ℕ)
-    → Holds image launched before → Updates name uris launched now before after end lines
+    → TellsImage image launched before → Updates name uris launched now before after end lines
     → (now.launches ≡ launched.launches)
     ⊎ ((layout : List Entry) × (key : Key) × (bytes : List ℕ)
     × (IsTrue before.told → before.files name ≡ Some bytes)

@@ -20,6 +20,7 @@ pub mod Settling
 pub mod Installed
 pub mod Migrating
 pub mod Launching
+pub mod Surroundings
 pub mod Booting
 pub mod Acceptance
 pub mod Updating

@@ -17,7 +17,7 @@ use Rattle.rollback_record.specs.SoundFlash.{Follows, IsInstalled, IsNoEarlier, 
 abbrev pub AreZeros : List ℕ → Type 0
 AreZeros image = All (λ byte. byte ≡ 0) image
 
--- of zero bytes alone, or sound
+-- a life begins with zero bytes alone, or with a sound image
 abbrev pub Begins : List ℕ → Type 0
 Begins image = AreZeros image ⊎ Sound image
 
@@ -32,15 +32,17 @@ IsLife (first ∷ later) = Begins first × LivesOn first later
 
 -- ---- the record
 
--- the image has the layout and the key, by that frame, and the record
+-- the image has this layout, key and record, and its parts stand by this frame
 pub record HasRecorded (frame : Frame) (layout : List Entry) (key : Key) (r : Record)
     (image : List ℕ) : Type 0 where
   pub config : ConfigOf (length image) image (Configured layout key frame)
   pub record_is : RecordOf frame (head_of frame image) (Some r)
 
--- where the one has a record, the other has the same layout and key, and a record whose number is not lower
+-- if the first image has a record, the second has the same layout and key, and a record whose number is not lower
 abbrev pub NeverLower : List ℕ → List ℕ → Type 0
-NeverLower a b = (frame : Frame) (layout : List Entry) (key : Key) (r : Record) → HasRecorded frame layout key r a
+NeverLower a b =
+    (frame : Frame) (layout : List Entry) (key : Key) (r : Record)
+    → HasRecorded frame layout key r a
     → (now : Frame) × (s : Record) × HasRecorded now layout key s b × IsNoEarlier r s
 
 pub record LifeLaws : Type 0 where

@@ -1,6 +1,9 @@
 -- The lines of a path.
-use Rattle.std.specs.Prelude.{ℕ, ◌+◌, Bool, true, false, List, [], ◌∷◌, ◌++◌, Option, Some, None, codes}
+use Rattle.std.specs.Prelude.{ℕ, ◌+◌, Bool, List, [], ◌∷◌, ◌++◌, Option, Some, codes, if◌then◌else◌}
 use Rattle.std.specs.Fmt.{decimal}
+use Rattle.std.specs.List.{flat_map}
+use Rattle.std.specs.Option.{option_map_or}
+pub use Rattle.std.specs.List.{concat as joined}
 use Rattle.hex.specs.Hex.{encode_lower}
 use Rattle.uuid.specs.Text.{hyphenated_text, lower}
 use Rattle.suit_params.specs.declared.digest.Digest.{Digest}
@@ -12,28 +15,19 @@ use Rattle.suit_params.specs.DigestBytes.{digest_bytes}
 use Rattle.suit_params.specs.ParamKeys.{key_of, key_number}
 use Rattle.suit_commands.specs.Kinds.{test_code}
 
--- pieces one after another
-abbrev pub joined : List (List ℕ) → List ℕ
-joined [] = []
-joined (piece ∷ pieces) = piece ++ joined pieces
-
 -- ---- the words in a line
 
 abbrev pub digest_text : Option Digest → List ℕ
-digest_text None = codes "none"
-digest_text (Some digest) = encode_lower (digest_bytes digest)
+digest_text digest = option_map_or (λ (d : Digest). encode_lower (digest_bytes d)) digest (codes "none")
 
 abbrev pub size_text : Option ℕ → List ℕ
-size_text None = codes "none"
-size_text (Some size) = decimal size
+size_text size = option_map_or decimal size (codes "none")
 
 abbrev pub identifier_text : Option (List ℕ) → List ℕ
-identifier_text None = codes "none"
-identifier_text (Some bytes) = hyphenated_text lower bytes
+identifier_text identifier = option_map_or (hyphenated_text lower) identifier (codes "none")
 
 abbrev pub outcome_text : Bool → List ℕ
-outcome_text true = codes "pass"
-outcome_text false = codes "fail"
+outcome_text passed = if passed then codes "pass" else codes "fail"
 
 -- ---- the lines
 
@@ -86,8 +80,7 @@ identity_lines component (identity ∷ identities) =
     identity_line component identity ++ identity_lines (component + 1) identities
 
 abbrev pub event_lines : List Event → List ℕ
-event_lines [] = []
-event_lines (event ∷ events) = event_line event ++ event_lines events
+event_lines events = flat_map event_line events
 
 -- a line for each component, and then one for each event
 abbrev pub path_lines : BadPath → List ℕ

@@ -15,7 +15,7 @@ use Rattle.suit_cli.specs.Commands.{makes}
 
 -- ---- the contents of the files
 
--- a description of this value
+-- the file holds a description of this value
 pub record HoldsDescription (name : List ℕ) (before : Outside) (value : Data) : Type 0 where
   pub bytes : List ℕ
   pub read : IsRead longest_description name before bytes
@@ -28,7 +28,7 @@ pub data AreRead (before : Outside) : List (List ℕ) → List (List ℕ × List
       → IsRead longest_named name before bytes → AreRead before names files
       → AreRead before (name ∷ names) ((name, bytes) ∷ files)
 
--- one has none, or one that is too long: the first of these is told
+-- one of these names has no file, or one that is too long; the first of these is told
 pub data OneIsUnread (before : Outside) (reply : Reply) : List (List ℕ) → Type 0 where
   AtName : (name : List ℕ) (names : List (List ℕ)) → IsUnread longest_named name before reply
       → OneIsUnread before reply (name ∷ names)
@@ -66,7 +66,9 @@ pub data MakeSays (description key_name : List ℕ) (before : Outside) (reply : 
   -- status 0, `made N`
   AtStore : (value : Data) (key : List ℕ) (files : List (List ℕ × List ℕ)) (envelope : List ℕ)
       → HasParts description key_name before value key files
-      → IsEnvelopeOf value files key envelope → IsReply reply outcomes.Done (made_line (length envelope)) → MakeSays description key_name before reply
+      → IsEnvelopeOf value files key envelope
+      → IsReply reply outcomes.Done (made_line (length envelope))
+      → MakeSays description key_name before reply
 
 -- ---- the stored envelope
 

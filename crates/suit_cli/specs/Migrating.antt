@@ -29,7 +29,7 @@ pub record IsSecond (flash : Flashed) (reply : Reply) : Type 0 where
   pub second : IsTrue flash.told → HasSecond flash.size flash.reads
   pub says : IsReply reply outcomes.SecondLayout (codes "already layout 2\n")
 
--- it has version 1, with a layout that may not have the base
+-- the flash has version 1, with a layout that may not have the base
 pub record HasNoBase (base : ℕ) (flash : Flashed) (reply : Reply) : Type 0 where
   pub fault : BaseFault
   pub refuses : IsTrue flash.told
@@ -37,7 +37,7 @@ pub record HasNoBase (base : ℕ) (flash : Flashed) (reply : Reply) : Type 0 whe
       (λ layout. RefusesBase (second_frame base) flash.size layout (described_fault fault))
   pub tells : TellsLayout (described_fault fault) reply
 
--- no more than one of these is so
+-- why nothing is migrated; at most one of these holds
 pub data IsLeft (base : ℕ) (flash : Flashed) (reply : Reply) : Type 0 where
   AtConfig : HoldsNone flash reply → IsLeft base flash reply
   AtVersion : IsSecond flash reply → IsLeft base flash reply
@@ -51,7 +51,7 @@ MayMigrate base flash =
     IsTrue flash.told
     → HasFirst flash.size flash.reads (IsBaseHeld (second_frame base) flash.size)
 
--- it has version 2 with that base, and tells what it told
+-- the flash had version 1; now it has version 2 with that base, and tells what it told
 abbrev pub Migrates : ℕ → Flashed → Flashed → Type 0
 Migrates base old new =
     MayMigrate base old × (IsTrue old.told → IsMigrated base old.reads new.reads)
@@ -66,7 +66,7 @@ migrates base =
 
 -- ---- at each moment
 
--- the flash has version 1; where it was settled, a power loss since leaves an image that tells what reads gave
+-- The flash has version 1. If it was settled, each image that a power loss since may leave tells what reads gave.
 pub record TellsOn (before : Flashed) (old now : Flash) : Type 0 where
   pub first : HasFirst before.size before.reads (λ layout. Unit {0})
   pub alike : Settled old → Passes old now (IsSameInstallation old.reads)
@@ -87,13 +87,13 @@ KeepsTold before NoMemory old now = IsSame old now
 
 -- ---- inside
 
--- it declines by such a reply, unless memory ran out
+-- the result declines with such a reply, unless memory ran out
 abbrev pub IfDeclined : Result Reply Stop → (Reply → Type 0) → Type 0
 IfDeclined (Err (stops.Declined reply)) P = P reply
 IfDeclined (Err stops.NoMemory) P = Unit {0}
 IfDeclined _ P = ⊥
 
--- the answer to a migration, with this reply where it is done
+-- the result that tells how a migration ended, with this reply where it is done
 abbrev pub IsToldAs : Migrated → Reply → Result Reply Stop → Type 0
 IsToldAs (answers.Done frame) done result = result ≡ Ok done
 IsToldAs answers.Blank done result =

@@ -13,7 +13,7 @@ use Rattle.suit_cli.specs.Inputs.{longest_shown}
 use Rattle.suit_cli.specs.Envelopes.{AreBytes, IsShort, ManifestOf}
 use Rattle.suit_cli.specs.Commands.{in_file}
 
--- the stages up to the manifest were good
+-- the bytes passed all stages up to the manifest
 pub record IsOpened (bytes : List ℕ) (opened : Opened) : Type 0 where
   pub are_bytes : AreBytes bytes
   pub envelope : EnvelopeOf bytes (said_by opened.envelope)
@@ -23,11 +23,11 @@ pub record IsOpened (bytes : List ℕ) (opened : Opened) : Type 0 where
   pub whole : opened.envelope.whole.now ≡ bytes
   pub places : MembersEndBelow (2 ^ 64) (said_by opened.envelope)
 
--- nothing comes behind them
+-- no answer follows the manifest
 abbrev pub never : EnvelopeSays → Manifest → Answers
 never said manifest = λ before after ending. ⊥
 
--- or the answer ended at one of them
+-- the bytes passed these stages, or the answer ended at one of them
 abbrev pub Opens : List ℕ → Result Opened Stop → Type 0
 Opens bytes (Ok opened) = IsOpened bytes opened
 Opens bytes (Err stop) = (here : Outside) → in_file bytes never here here (ending_of (Err stop))

@@ -23,7 +23,7 @@ pub record Outside : Type 0 where
   pub faults : ℕ
   pub flash : Flashed
 
--- nothing changed but that at most so many bytes were pulled, whatever names were asked for and became of the count of faults
+-- No file changed, and at most so many bytes were pulled. Of names and faults this says nothing.
 pub record Quiet (most : ℕ) (before after : Outside) : Type 0 where
   pub told : after.told ≡ before.told
   pub files : IsTrue before.told → after.files ≡ before.files
@@ -33,24 +33,24 @@ pub record Quiet (most : ℕ) (before after : Outside) : Type 0 where
 abbrev pub Asks : List (List ℕ) → Outside → Outside → Type 0
 Asks names before after = IsTrue before.told → after.asked ≡ before.asked ++ names
 
--- the first ones of these were, and no other
+-- the first few of these names were asked for, and no other
 abbrev pub AsksFirst : List (List ℕ) → Outside → Outside → Type 0
 AsksFirst names before after =
     IsTrue before.told → (n : ℕ) × (after.asked ≡ before.asked ++ take n names)
 
--- this one was, and no other; or a fault came before the host told it
+-- this name was asked for, or no name was, because a fault came first
 abbrev pub MayAsk : List ℕ → Outside → Outside → Type 0
 MayAsk name before after =
     IsTrue before.told → (after.asked ≡ before.asked) ⊎ (after.asked ≡ before.asked ++ name ∷ [])
 
--- so much was pulled of the file with that name, and no fault was counted
+-- at most so much was pulled of the file with that name, and no fault was counted
 pub record Reads (most : ℕ) (name : List ℕ) (before after : Outside) : Type 0 where
   pub quiet : Quiet most before after
   pub asks : Asks (name ∷ []) before after
   pub faults : after.faults ≡ before.faults
   pub flash : after.flash ≡ before.flash
 
--- or the host counted one at that file
+-- the host counted a fault at that file
 pub record ReadsInVain (most : ℕ) (name : List ℕ) (before after : Outside) : Type 0 where
   pub quiet : Quiet most before after
   pub asks : MayAsk name before after
@@ -68,25 +68,25 @@ pub record LeavesOthers (name : List ℕ) (before after : Outside) : Type 0 wher
   pub asked : IsTrue before.told → after.asked ≡ before.asked
   pub flash : after.flash ≡ before.flash
 
--- it has these bytes, and no fault was counted
+-- the file has these bytes, and no fault was counted
 pub record Stores (name bytes : List ℕ) (before after : Outside) : Type 0 where
   pub beside : LeavesOthers name before after
   pub file : IsTrue before.told → after.files name ≡ Some bytes
   pub faults : after.faults ≡ before.faults
 
--- or the host counted one, and nothing is known of that file
+-- the host counted a fault, and nothing is known of that file
 pub record StoresInVain (name : List ℕ) (before after : Outside) : Type 0 where
   pub beside : LeavesOthers name before after
   pub faulted : Faulted before.faults after.faults
 
 -- ---- the files that are left
 
--- all are as they were, or all but the one with this name
+-- all files are as they were, or all but the one with this name
 abbrev pub FilesStay : Option (List ℕ) → Files → Files → Type 0
 FilesStay None before after = after ≡ before
 FilesStay (Some name) before after = (other : List ℕ) → other ≢ name → after other ≡ before other
 
--- they are so, and at most so many bytes were pulled
+-- the files are left so, and at most so many bytes were pulled
 pub record Leaves (most : ℕ) (stored : Option (List ℕ)) (before after : Outside) : Type 0 where
   pub told : after.told ≡ before.told
   pub files : IsTrue before.told → FilesStay stored before.files after.files
@@ -98,25 +98,25 @@ pub record Leaves (most : ℕ) (stored : Option (List ℕ)) (before after : Outs
 abbrev pub with_flash : Outside → Flashed → Outside
 with_flash here flash = record here { flash = flash }
 
--- it is as it was
+-- the flash keeps its size and reads as before
 pub record IsStill (before after : Flashed) : Type 0 where
   pub told : after.told ≡ before.told
   pub size : after.size ≡ before.size
   pub reads : IsTrue before.told → after.reads ≡ before.reads
 
--- it was looked at, and no fault was counted
+-- nothing changed but that the flash was looked at, and no fault was counted
 pub record Looks (before after : Outside) : Type 0 where
   pub beside : after ≡ with_flash before after.flash
   pub still : IsStill before.flash after.flash
   pub faults : after.flash.faults ≡ before.flash.faults
 
--- or the flash counted one
+-- the flash was looked at, and counted a fault
 pub record LooksInVain (before after : Outside) : Type 0 where
   pub beside : after ≡ with_flash before after.flash
   pub still : IsStill before.flash after.flash
   pub faulted : Faulted before.flash.faults after.flash.faults
 
--- only the flash was written: it keeps its size, and it and its count of faults are so
+-- only the flash was written: it keeps its size, and these hold of its count of faults and of what it reads
 pub record Writes (Counts : ℕ → ℕ → Type 0) (Is : Flashed → Flashed → Type 0)
     (before after : Outside) : Type 0 where
   pub beside : after ≡ with_flash before after.flash

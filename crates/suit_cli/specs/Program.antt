@@ -15,6 +15,7 @@ use Rattle.suit_cli.specs.Outside.{Outside, Files, Sunk, Leaves}
 use Rattle.suit_cli.specs.Stages.{Stage, judging, Answers, ◌>>=◌}
 use Rattle.suit_cli.specs.Statuses.{sink_fault_status}
 use Rattle.suit_cli.specs.Launching.{Launching}
+use Rattle.suit_cli.specs.Surroundings.{Surroundings}
 use Rattle.suit_cli.specs.Updating.{most_room}
 use Rattle.suit_cli.specs.Coming.{Ended, Comes, BootKeeps, MigrateKeeps, KeepsSound, StaysOrKeeps, ended_status, ended_text}
 use Rattle.suit_cli.specs.Inputs.{longest_file, longest_device, longest_key}
@@ -64,10 +65,11 @@ pub record Performs (words : List (List ℕ)) (launched now : Launching) (before
 
 -- ---- statuses
 
+-- The host or the sink failed, or memory ran out. Of the flash this says nothing: neither `check` nor usage looks at it.
 abbrev pub IsExcuse : ℕ → Type 0
-IsExcuse result = (result ≡ 7) ⊎ (result ≡ 8) ⊎ (result ≡ 9) ⊎ (result ≡ 11)
+IsExcuse result = (result ≡ 7) ⊎ (result ≡ 9) ⊎ (result ≡ 11)
 
--- this status, unless a fault came or memory ran out first
+-- this status, unless one of these came first
 abbrev pub EndsIn : ℕ → ℕ → Type 0
 EndsIn status result = (result ≡ status) ⊎ IsExcuse result
 
@@ -89,7 +91,7 @@ pub record ChecksProcedures (words : List (List ℕ)) (before : Outside)
 abbrev pub IsCheck : List (List ℕ) → Type 0
 IsCheck words = (name : List ℕ) × (task_of words ≡ Some (Check name))
 
--- they do, and both procedures are safe
+-- the words check a file, and both of its procedures are safe
 pub record ChecksSafe (words : List (List ℕ)) (before : Outside) : Type 0 where
   pub update : PlanTree
   pub invocation : PlanTree
@@ -115,13 +117,13 @@ pub record ChecksUnsafe (words : List (List ℕ)) (before : Outside) (sunk_befor
   pub shows_path : ShowUnsafe update invocation text
   pub puts : IsTrue sunk_before.told → sunk_after.put ≡ sunk_before.put ++ text
 
--- the words check no file with procedures that can be judged
+-- the words check no file whose procedures can be judged
 abbrev pub ChecksNone : List (List ℕ) → Outside → Type 0
 ChecksNone words before =
     (update invocation : PlanTree) → ChecksProcedures words before update invocation → ⊥
 
--- Yes, and both procedures are safe; no, with a path that shows that they are not; or neither, since the file has no such
--- procedures, or a fault came or memory ran out first. The flash is not looked at, so a fault is not of the flash.
+-- Yes, and both procedures are safe; no, with a path that shows that they are not; or neither, because the file has no such
+-- procedures, or the host or the sink failed or memory ran out first. The flash is never looked at.
 pub data Checks (words : List (List ℕ)) (before : Outside) (sunk_before sunk_after : Sunk)
     (result : ℕ) : Type 0 where
   SaysYes : result ≡ 0 → ChecksSafe words before
@@ -190,7 +192,7 @@ abbrev pub KeepsFiles : Outside → Outside → Type 0
 KeepsFiles before after =
     (after.told ≡ before.told) × (IsTrue before.told → after.files ≡ before.files)
 
--- of `run boot` and `run update` no more than that
+-- of `run boot` and `run update` only that no file changes
 abbrev pub LeavesBy : Option Task → Outside → Outside → Type 0
 LeavesBy (Some RunBoot) before after = KeepsFiles before after
 LeavesBy (Some (RunUpdate name uris)) before after = KeepsFiles before after
@@ -252,14 +254,14 @@ KeepsLauncher words launched now = (MayLaunch (task_of words) → ⊥) → now �
 
 -- ---- soundness
 
--- inside: of a boot, of an update and of a migration it is said by itself
+-- inside: a fact that is stated for a boot, an update and a migration alone
 abbrev pub IfSaidApart : Option Task → Type 0 → Type 0
 IfSaidApart (Some RunBoot) P = P
 IfSaidApart (Some (RunUpdate name uris)) P = P
 IfSaidApart (Some (RunMigrate base)) P = P
 IfSaidApart _ P = Unit {0}
 
--- inside: of a boot alone
+-- inside: a fact that is stated for a boot alone
 abbrev pub IfBoots : Option Task → Type 0 → Type 0
 IfBoots (Some RunBoot) P = P
 IfBoots _ P = Unit {0}
@@ -269,21 +271,23 @@ IfBoots _ P = Unit {0}
 -- Of a settled flash, an update keeps the old record and the contents of all slots that it may not write, or leaves the new record
 -- with the contents that its procedure made, which was done: by the end that it came to. A boot keeps all but slots that its
 -- procedure may write, of any flash. A migration keeps what a settled flash of version 1 tells, and any other flash as it is.
-abbrev pub KeepsFor : Option Task → Launching → Launching → Outside → Ended → Flash → Flash → Type 0
-KeepsFor (Some (RunUpdate name uris)) launched later before ended old now =
-    Settled old → StaysOrKeeps name (pairs_of uris) launched later before ended old now
-KeepsFor (Some RunBoot) launched later before ended old now = BootKeeps before ended old now
-KeepsFor (Some (RunMigrate base)) launched later before ended old now =
-    MigrateKeeps before ended old now
-KeepsFor _ launched later before ended old now = Unit {0}
+abbrev pub KeepsFor : Option Task → Surroundings → Surroundings → Ended → Type 0
+KeepsFor (Some (RunUpdate name uris)) before after ended =
+    Settled before.flash → StaysOrKeeps name (pairs_of uris) before after ended
+KeepsFor (Some RunBoot) before after ended =
+    BootKeeps before.outside ended before.flash after.flash
+KeepsFor (Some (RunMigrate base)) before after ended =
+    MigrateKeeps before.outside ended before.flash after.flash
+KeepsFor _ before after ended = Unit {0}
 
 -- inside: what becomes of a flash that tells, at each moment and at the end
-pub record FlashPasses (task : Option Task) (launched later : Launching) (before after : Outside)
-    (ended : Ended) (old now : Flash) : Type 0 where
-  pub any_moment : Passes old now (MayBeLeft task before old)
-  pub sound : IfSaidApart task (KeepsSound old now)
-  pub settled : StaysSettled old now before.flash.faults after.flash.faults
-  pub keeps : KeepsFor task launched later before ended old now
+pub record FlashPasses (task : Option Task) (before after : Surroundings) (ended : Ended)
+    : Type 0 where
+  pub any_moment : Passes before.flash after.flash (MayBeLeft task before.outside before.flash)
+  pub sound : IfSaidApart task (KeepsSound before.flash after.flash)
+  pub settled :
+      StaysSettled before.flash after.flash before.outside.flash.faults after.outside.flash.faults
+  pub keeps : KeepsFor task before after ended
 
 -- ---- the whole of a run
 
@@ -295,6 +299,10 @@ pub record World : Type 1 where
   pub sink : Sunk
   pub flash : Flash
 
+-- what there is of it beside the sink
+abbrev pub beside_sink : World → Surroundings
+beside_sink w = record { outside = w.outside; launcher = w.launcher; flash = w.flash }
+
 -- The words had an answer, which was put. A flash that tells was kept at each moment as that very answer says, and so that a
 -- power loss leaves no other image than these.
 pub record Runs (words : List (List ℕ)) (before after : World) (result : ℕ) : Type 0 where
@@ -304,5 +312,4 @@ pub record Runs (words : List (List ℕ)) (before after : World) (result : ℕ) 
   pub any_moment : IsTrue before.outside.flash.told
       → Passes before.flash after.flash (MayBeLeft (task_of words) before.outside before.flash)
   pub keeps : IsTrue before.outside.flash.told
-      → KeepsFor (task_of words) before.launcher after.launcher before.outside performs.ended
-      before.flash after.flash
+      → KeepsFor (task_of words) (beside_sink before) (beside_sink after) performs.ended

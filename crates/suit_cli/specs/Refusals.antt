@@ -12,7 +12,7 @@ use Rattle.suit_cli.specs.Lines.{number_line, path_lines}
 use Rattle.suit_cli.specs.Replies.{IsReply}
 use Rattle.suit_cli.specs.Texts.{authenticity_line, differs_line, invocation_unsafe_lines, refusal_line, severed_line, too_long_line, too_wide_line, update_unsafe_line}
 
--- the lines before those of a path
+-- the lines that stand before those of an unsafe path
 abbrev pub unsafe_lines : Procedure → List ℕ
 unsafe_lines procedures.Update = update_unsafe_line
 unsafe_lines procedures.Invocation = invocation_unsafe_lines
@@ -38,7 +38,7 @@ TellsRefusal reply (refusals.Unsafe procedure path) =
     IsReply reply outcomes.Unsafe (unsafe_lines procedure ++ path_lines path)
 TellsRefusal reply refusals.NoMemory = ⊥
 
--- the code's stop: the refusal is told, or memory ran out
+-- a stop of the code tells the refusal, or that memory ran out
 abbrev pub StopsAs : NotAdmitted → Stop → Type 0
 StopsAs refusal (stops.Declined reply) = TellsRefusal reply refusal
 StopsAs refusal (stops.Fault object) = ⊥

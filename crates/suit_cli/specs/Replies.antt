@@ -12,16 +12,16 @@ pub record IsReply (reply : Reply) (outcome : Outcome) (text : List ℕ) : Type 
   pub outcome_is : reply.outcome ≡ outcome
   pub text_is : reply.text ≡ text
 
--- such a reply was made, unless memory ran out
+-- the result is a reply of this outcome and these lines, unless memory ran out
 abbrev pub Makes : Result Reply AllocError → Outcome → List ℕ → Type 0
 Makes result outcome text = IfOk result (λ reply. IsReply reply outcome text)
 
--- the answer goes no further, as the reply says
+-- the stop with a reply, if there was memory for it
 abbrev pub stop_of : Result Reply AllocError → Stop
 stop_of (Ok reply) = Declined reply
 stop_of (Err e) = NoMemory
 
--- it is refused by a line
+-- the stop that refuses the input by a line, if there was memory for it
 abbrev pub refused_by : Result (String Global) AllocError → Stop
 refused_by (Ok line) = Declined (record { outcome = Refused; text = string_bytes line })
 refused_by (Err e) = NoMemory

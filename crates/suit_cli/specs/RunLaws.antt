@@ -12,7 +12,7 @@ pub record HoldsOfRun (words : List (List ℕ)) (launched now : Launching) (befo
     (sunk_before sunk_after : Sunk) (result : ℕ) : Type 0 where
   -- `check` says yes only where both procedures are safe,
   pub yes : IsTrue before.told → IsCheck words → result ≡ 0 → ChecksSafe words before
-  -- and wherever they are, unless a fault came or memory ran out first
+  -- and wherever they are, unless the host or the sink failed or memory ran out first
   pub safe_is_yes : (update invocation : PlanTree) → ChecksProcedures words before update invocation
       → AreSafe update invocation → EndsIn 0 result
   -- no comes with a path that shows it, of `run update` too,

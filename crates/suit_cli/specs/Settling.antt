@@ -5,13 +5,13 @@ use Rattle.suit_edge.specs.Flash.{Flash}
 use Rattle.rollback_record.specs.SoundFlash.{Settled}
 use Rattle.suit_cli.specs.Coming.{KeepsSound, PassesAny, StaysSound}
 
--- a settled flash is settled again, unless it counted a fault
+-- a settled flash is settled again at the end, unless it counted a fault
 abbrev pub StaysSettled : Flash → Flash → ℕ → ℕ → Type 0
 StaysSettled old new before now =
     Settled old → (Faulted before now → ⊥) → Settled new
 
--- Each image on the way is sound and goes on from what reads gave at the start; and at the end nothing is pending again, unless
--- the flash counted a fault.
+-- Each image on the way is sound and goes on from what reads gave at the start. At the end the flash is settled, unless it
+-- counted a fault.
 pub record LeavesSound (old new : Flash) (before now : ℕ) : Type 0 where
   pub stays : StaysSound old new
   pub settled : (Faulted before now → ⊥) → Settled new

@@ -1,5 +1,5 @@
 -- The lines that show an envelope under a key.
-use Rattle.std.specs.Prelude.{◌≡◌, ◌≢◌, ℕ, ◌+◌, Bool, true, false, List, [], ◌∷◌, ◌++◌, Option, Some, None, codes}
+use Rattle.std.specs.Prelude.{◌≡◌, ◌≢◌, ℕ, ◌+◌, Bool, true, false, List, [], ◌∷◌, ◌++◌, Option, Some, None, codes, if◌then◌else◌}
 use Rattle.hmac_mac0.specs.Mac0.{IsMac0}
 use Rattle.hmac_mac0.specs.declared.mac_kind.MacKind.{MacKind}
 use Rattle.suit_params.specs.declared.digest.Digest.{Digest}
@@ -32,8 +32,7 @@ HasKind block true =
 HasKind block false = IsOther block
 
 abbrev pub kind_text : Bool → List ℕ
-kind_text true = codes "mac0"
-kind_text false = codes "other"
+kind_text is_mac = if is_mac then codes "mac0" else codes "other"
 
 -- a line for each block, from a number on
 pub data BlockLines : ℕ → List (List ℕ) → List ℕ → Type 0 where
@@ -96,9 +95,7 @@ AddsMembers said manifest old new =
 
 abbrev pub authenticity_outcome : Authenticity → Outcome
 authenticity_outcome authenticities.Yes = outcomes.Done
-authenticity_outcome (authenticities.DigestDiffers stated found) = outcomes.NotAuthentic
-authenticity_outcome authenticities.NoMac = outcomes.NotAuthentic
-authenticity_outcome (authenticities.MacDiffers expected found) = outcomes.NotAuthentic
+authenticity_outcome _ = outcomes.NotAuthentic
 
 -- the answer is Yes exactly where the envelope is authentic, and otherwise it says why it is not
 pub record TellsAuthenticity (said : EnvelopeSays) (key : List ℕ) (answer : Authenticity)

@@ -15,7 +15,7 @@ pub data Ending : Type 0 where
   FaultOf : Object → Ending
   NoMemory : Ending
 
--- by the outside before and after
+-- how an answer can end, by the outside before and after
 abbrev pub Answers : Type 1
 Answers = Outside → Outside → Ending → Type 0
 
@@ -36,7 +36,7 @@ abbrev pub at_flash : (Outside → Outside → Type 0) → Object → Outside �
 at_flash In objects.Host = λ before after. ⊥
 at_flash In objects.Flash = In
 
--- a judgement on values alone changes nothing outside, and nothing outside can fail in it
+-- A judgement of values. It changes nothing outside, and nothing outside can fail in it.
 abbrev pub judging : {A : Type 0} → (A → Type 0) → (Reply → Type 0) → Stage A
 judging good bad = record {
   gives = λ before after a. (after ≡ before) × good a;
@@ -45,7 +45,7 @@ judging good bad = record {
   lacks = λ before after. after ≡ before;
 }
 
--- reading pulls at most so many bytes of the file with a name, and of no other, and judges what it found
+-- A file is read: at most so many bytes are pulled of it, and none of another. Then what was found is judged.
 abbrev pub reading : {A : Type 0} → ℕ → List ℕ → (Outside → A → Type 0) → (Outside → Reply → Type 0)
     → Stage A
 reading most name good bad = record {
@@ -55,7 +55,7 @@ reading most name good bad = record {
   lacks = Reads most name;
 }
 
--- looking at the flash changes nothing outside, and judges what it found
+-- The flash is looked at, which changes nothing, and what was found is judged.
 abbrev pub looking : {A : Type 0} → (Flashed → A → Type 0) → (Flashed → Reply → Type 0) → Stage A
 looking good bad = record {
   gives = λ before after a. Looks before after × good before.flash a;
@@ -64,8 +64,8 @@ looking good bad = record {
   lacks = Looks;
 }
 
--- Writing changes nothing but the flash, and leaves it so. Where the flash counted a fault it keeps the places of K; where the
--- stage declines, nothing was written.
+-- The flash is written, and nothing else changes. Where it counted a fault it keeps the places of K; where the stage declines,
+-- nothing was written.
 abbrev pub writing : (Flashed → Flashed → Type 0) → (ℕ → Type 0) → (Flashed → Reply → Type 0)
     → Stage (Unit {0})
 writing Written K bad = record {
@@ -78,7 +78,7 @@ writing Written K bad = record {
 
 -- ---- two stages as one
 
--- the first gives a value, and this is said of it from then on
+-- the first stage gives a value, and then this holds of that value
 pub record After {A : Type 0} (first : Stage A) (says : A → Outside → Outside → Type 0)
     (before after : Outside) : Type 0 where
   pub value : A
@@ -86,7 +86,7 @@ pub record After {A : Type 0} (first : Stage A) (says : A → Outside → Outsid
   pub given : first.gives before middle value
   pub later : says value middle after
 
--- one and then another; memory may run out before them
+-- one stage and then another, as one; memory may run out before both
 abbrev pub in_turn : {A B : Type 0} → Stage A → (A → Stage B) → Stage B
 in_turn first next = record {
   gives = λ before after b. After first (λ a m n. (next a).gives m n b) before after;
@@ -103,7 +103,7 @@ in_turn first next = record {
 
 -- ---- one stage after another
 
--- a stage is good and the next follows, from where it left the outside; or the answer ends there
+-- the stage gives a value and the answer goes on with it; or the answer ends in this stage
 pub data Then {A : Type 0} (stage : Stage A) (next : A → Answers) (before after : Outside)
     : Ending → Type 0 where
   Goes : (a : A) (middle : Outside) (ending : Ending) → stage.gives before middle a
@@ -118,25 +118,25 @@ infixr 10 ◌>>=◌
 abbrev pub ◌>>=◌ : {A : Type 0} → Stage A → (A → Answers) → Answers
 stage >>= next = Then stage next
 
--- the last stage says what was asked for
+-- the last stage: the reply, unless memory runs out
 pub data Last (says : Reply → Type 0) (before after : Outside) : Ending → Type 0 where
   Ends : (reply : Reply) → after ≡ before → says reply → Last says before after (Says reply)
   EndsWithout : after ≡ before → Last says before after NoMemory
 
--- a reply that was made before, so that memory cannot run out
+-- the last stage, where the reply was made before: memory cannot run out
 pub data Said (says : Reply → Type 0) (before after : Outside) : Ending → Type 0 where
   IsSaid : (reply : Reply) → after ≡ before → says reply → Said says before after (Says reply)
 
 -- ---- the code's answers
 
--- a value of a stage, or why there is none
+-- the code's result is what the stage gives, or why it gives nothing
 abbrev pub Does : {A : Type 0} → Stage A → Outside → Outside → Result A Stop → Type 0
 Does stage before after (Ok a) = stage.gives before after a
 Does stage before after (Err (stops.Declined reply)) = stage.declines before after reply
 Does stage before after (Err (stops.Fault object)) = stage.faults object before after
 Does stage before after (Err stops.NoMemory) = stage.lacks before after
 
--- of a judgement, wherever it stands
+-- the same of a judgement, whatever the outside is
 abbrev pub Finds : {A : Type 0} → Stage A → Result A Stop → Type 0
 Finds stage result = (here : Outside) → Does stage here here result
 
@@ -146,6 +146,6 @@ ending_of (Err (stops.Declined reply)) = Says reply
 ending_of (Err (stops.Fault object)) = FaultOf object
 ending_of (Err stops.NoMemory) = NoMemory
 
--- of judgements alone
+-- the code's answer, where all stages are judgements
 abbrev pub Tells : Answers → Result Reply Stop → Type 0
 Tells answers result = (here : Outside) → answers here here (ending_of result)

@@ -1,5 +1,5 @@
 -- The lines of the program's answers.
-use Rattle.std.specs.Prelude.{ℕ, Bool, true, false, List, [], ◌∷◌, ◌++◌, codes}
+use Rattle.std.specs.Prelude.{ℕ, Bool, List, [], ◌∷◌, ◌++◌, codes, if◌then◌else◌}
 use Rattle.std.specs.Fmt.{decimal}
 use Rattle.det_cbor.specs.declared.reason.Reason.TheVariants as reasons
 use Rattle.suit_params.specs.declared.refusal.Refusal.{Refusal}
@@ -95,8 +95,7 @@ empty_key_line = codes "empty key\n"
 -- ---- the lines that show an envelope
 
 abbrev pub tagged_line : Bool → List ℕ
-tagged_line true = codes "tagged yes\n"
-tagged_line false = codes "tagged no\n"
+tagged_line tagged = if tagged then codes "tagged yes\n" else codes "tagged no\n"
 
 -- the number of a block, and its kind
 abbrev pub block_line : ℕ → List ℕ → List ℕ

@@ -25,5 +25,7 @@ pub record UpdateLaws : Type 0 where
   pub accepted : (name : List ℕ) (before after : Outside) (config : List Entry × Key × Frame)
       (bytes : List ℕ) (a : Accepted) (reply : Reply)
       → IsTrue before.told
-      → IsTrue before.flash.told → Holds before.flash config → IsRead longest_file name before bytes → IsAccepted config.2 config.0 config.1 bytes a
+      → IsTrue before.flash.told → Holds before.flash config
+      → IsRead longest_file name before bytes
+      → IsAccepted config.2 config.0 config.1 bytes a
       → begins_update name before after (Says reply) → ⊥

@@ -1,7 +1,7 @@
 -- The result of `run update`.
 use Rattle.std.specs.Prelude.{◌≡◌, ◌⊎◌, ℕ, max, ◌∷◌, [], IsTrue, List, Option, codes}
 use Rattle.std.specs.Fmt.{decimal}
-use Rattle.suit_edge.specs.Flash.{Flash, IsSame}
+use Rattle.suit_edge.specs.Flash.{IsSame}
 use Rattle.suit_envelope.specs.Payloads.{HasPayloads}
 use Rattle.suit_envelope.specs.Trimmed.{trimmed}
 use Rattle.suit_envelope.specs.WrapperParts.{WrapperSays}
@@ -31,6 +31,7 @@ use Rattle.suit_cli.specs.Outside.{Outside}
 use Rattle.suit_cli.specs.Inputs.{longest_file, IsRead, file}
 use Rattle.suit_cli.specs.Installed.{config_in}
 use Rattle.suit_cli.specs.Launching.{Launching, LeavesAlone, cause_status, cause_text, stopped_line}
+use Rattle.suit_cli.specs.Surroundings.{Surroundings}
 use Rattle.suit_cli.specs.Acceptance.{Accepted, IsAccepted}
 
 -- ---- the lines
@@ -147,25 +148,25 @@ pub record Updates (name : List ℕ) (uris : List (List ℕ × List ℕ)) (launc
 
 -- Where the host and the launcher tell, the update procedure of what was accepted is played to its end, and makes those
 -- contents.
-abbrev pub IsDone : Offer → List (List ℕ × List ℕ) → Launching → Launching → Outside
-    → Option Record → List ℕ → List ℕ → Type 0
-IsDone o uris launched later before held reads made =
-    IsTrue before.told → IsTrue launched.told
-    → PlaysToEnd o.layout o.accepted.places (tree_of o.accepted) held o.bytes uris before.files
-    reads launched.launches later.launches made
+abbrev pub IsDone : Offer → List (List ℕ × List ℕ) → Surroundings → Surroundings → Option Record
+    → List ℕ → Type 0
+IsDone o uris before after held made =
+    IsTrue before.outside.told → IsTrue before.launcher.told
+    → PlaysToEnd o.layout o.accepted.places (tree_of o.accepted) held o.bytes uris
+    before.outside.files before.flash.reads before.launcher.launches after.launcher.launches made
 
 -- At each moment of an update that ended so, the flash had the old record, and no content changed but those of slots that
 -- may be written; or it had the new record, and the contents that its procedure made, which was done. Where it was not done
 -- the old record stood at each moment, and where it was not run nothing changed.
-abbrev pub KeepsOffer : Offer → List (List ℕ × List ℕ) → Launching → Launching → Outside
-    → UpdateEnd → Flash → Flash → Type 0
-KeepsOffer o uris launched later before end old now =
-    ForOffer o.frame old.reads o.accepted.said.wrapper (λ held digest.
+abbrev pub KeepsOffer : Offer → List (List ℕ × List ℕ) → Surroundings → Surroundings → UpdateEnd
+    → Type 0
+KeepsOffer o uris before after end =
+    ForOffer o.frame before.flash.reads o.accepted.said.wrapper (λ held digest.
     KeptSo
     (KeepsUpdate o.frame o.layout o.accepted.places (tree_of o.accepted)
-    (IsDone o uris launched later before held old.reads) held
-    (new_of o.frame o.accepted held old.reads digest) old now end)
-    (IsSame old now) end)
+    (IsDone o uris before after held) held
+    (new_of o.frame o.accepted held before.flash.reads digest) before.flash after.flash end)
+    (IsSame before.flash after.flash) end)
 
 -- the flash holds a record, or none, and the wrapper states a digest
 abbrev pub HasOffer : Frame → List ℕ → List ℕ → Type 0
@@ -175,15 +176,15 @@ HasOffer frame image wrapper =
     × WrapperSays wrapper digest blocks
 
 -- The file with that name was accepted, and so the flash was kept. This holds of a settled flash.
-pub record KeepsFlash (name : List ℕ) (uris : List (List ℕ × List ℕ)) (launched later : Launching)
-    (before : Outside) (end : UpdateEnd) (old now : Flash) : Type 0 where
+pub record KeepsFlash (name : List ℕ) (uris : List (List ℕ × List ℕ))
+    (before after : Surroundings) (end : UpdateEnd) : Type 0 where
   pub o : Offer
   pub config :
-      ConfigOf before.flash.size old.reads (Configured o.layout o.key o.frame)
-  pub read : IsRead longest_file name before o.bytes
+      ConfigOf before.outside.flash.size before.flash.reads (Configured o.layout o.key o.frame)
+  pub read : IsRead longest_file name before.outside o.bytes
   pub is_accepted : IsAccepted o.frame o.layout o.key o.bytes o.accepted
-  pub offered : HasOffer o.frame old.reads o.accepted.said.wrapper
-  pub kept : KeepsOffer o uris launched later before end old now
+  pub offered : HasOffer o.frame before.flash.reads o.accepted.said.wrapper
+  pub kept : KeepsOffer o uris before after end
 
 -- ---- inside
 

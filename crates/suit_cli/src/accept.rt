@@ -1,4 +1,4 @@
-//! Envelopes are opened and accepted, or it is told what they are refused for.
+//! Opens and accepts envelopes, or says why they are refused.
 
 ghost use Rattle.std.specs.Prelude.{◌≡◌, ◌<◌, ◌≤◌, ◌^◌, IfOk, codes, length};
 ghost use Rattle.flash_layout.specs.Frames.{bank_size};
@@ -30,7 +30,7 @@ use std::alloc::{AllocError, Global};
 use suit_envelope::MemberName;
 use suit_manifest::{MemberFault, Members, members_of};
 
-// ---- how refusals are told
+// ---- refusals
 
 fn name_text(name: MemberName) -> &'static str
     ensures { result.now ≡ name_text name }
@@ -42,7 +42,7 @@ fn name_text(name: MemberName) -> &'static str
     }
 }
 
-// The lines before those of a path.
+// The lines that stand before those of an unsafe path.
 fn unsafe_lines(procedure: Procedure) -> &'static str
     ensures { result.now ≡ unsafe_lines procedure }
 {
@@ -52,14 +52,14 @@ fn unsafe_lines(procedure: Procedure) -> &'static str
     }
 }
 
-// The reply that a member is not there.
+// The reply for a member that is missing.
 fn severed(alloc: Global, name: MemberName) -> Result<Reply, AllocError>
     ensures { Makes result outcomes.Severed (severed_line name) }
 {
     Reply::named(alloc, Outcome::Severed, "severed ", name_text(name))
 }
 
-/// The reply that a member differs.
+/// The reply for a member with another digest.
 pub(crate) fn differs(alloc: Global, name: MemberName) -> Result<Reply, AllocError>
     ensures { Makes result outcomes.Differs (differs_line name) }
 {
@@ -71,7 +71,7 @@ pub(crate) fn differs(alloc: Global, name: MemberName) -> Result<Reply, AllocErr
     })
 }
 
-// The reply that the layout lacks a component.
+// The reply for a component that the layout does not have.
 fn unknown(alloc: Global, component: u32) -> Result<Reply, AllocError>
     ensures { Makes result outcomes.UnknownComponent
         (number_line (codes "unknown component") component) }
@@ -83,7 +83,7 @@ fn unknown(alloc: Global, component: u32) -> Result<Reply, AllocError>
     })
 }
 
-// The reply that a procedure is too wide.
+// The reply for a procedure that is too wide to judge.
 fn too_wide(alloc: Global, width: u64) -> Result<Reply, AllocError>
     ensures { Makes result outcomes.TooWide (too_wide_line width) }
 {
@@ -94,7 +94,7 @@ fn too_wide(alloc: Global, width: u64) -> Result<Reply, AllocError>
     })
 }
 
-/// The stop that tells why bytes are refused.
+/// Stops with the reason why bytes are refused.
 pub(crate) fn refusal_stop(alloc: Global, refusal: NotAdmitted<'_>) -> Stop
     ensures { StopsAs refusal.entry result }
 {
@@ -129,7 +129,7 @@ pub(crate) fn refusal_stop(alloc: Global, refusal: NotAdmitted<'_>) -> Stop
 /// The longest trimmed envelope that is checked or shown, in bytes.
 const LONGEST_SHOWN: u32 = 65_536;
 
-/// The envelope that a file's bytes spell, which is short enough, and its manifest.
+/// The envelope in a file's bytes, if it is short enough, and its manifest.
 pub(crate) fn opened_in(alloc: Global, bytes: &[u8]) -> Result<Opened<'_>, Stop>
     ensures { Opens bytes.now result }
 {
@@ -139,14 +139,14 @@ pub(crate) fn opened_in(alloc: Global, bytes: &[u8]) -> Result<Opened<'_>, Stop>
     }
 }
 
-// Why members were not taken.
+// Stops because a member is missing or wrong.
 fn lack(alloc: Global, fault: MemberFault) -> Stop
     ensures { StopsAs (of_members fault) result }
 {
     refusal_stop(alloc, NotAdmitted::from(fault))
 }
 
-/// The members that were taken, or why they were not.
+/// The members, or the stop that says what is wrong with one.
 pub(crate) fn taken(alloc: Global, members: Result<Members, MemberFault>) -> Result<Members, Stop>
     ensures { IsTaken members result }
 {
@@ -156,7 +156,7 @@ pub(crate) fn taken(alloc: Global, members: Result<Members, MemberFault>) -> Res
     }
 }
 
-/// The members that stand apart, payload-fetch judged whole before install.
+/// The members that stand apart. `payload-fetch` is judged completely before `install`.
 pub(crate) fn members_in(alloc: Global, file: &Opened<'_>) -> Result<Members, Stop>
     requires few { length file.now.manifest.components < 2 ^ 32 }
     requires places { MembersEndBelow (2 ^ 64) (said_by file.now.envelope) }
@@ -165,7 +165,7 @@ pub(crate) fn members_in(alloc: Global, file: &Opened<'_>) -> Result<Members, St
     taken(alloc, members_of(alloc, &file.envelope, &file.manifest))
 }
 
-// The longest trimmed envelope that a flash takes, in bytes: its banks hold it.
+// The longest trimmed envelope that a bank of the flash holds, in bytes.
 fn longest_trimmed(frame: Frame) -> u32
     ensures { result ≡ bank_size frame }
 {

@@ -1,4 +1,4 @@
-//! The lines of a boot. They are written into room reserved before, so that memory cannot run out.
+//! The lines of a boot. They are written into reserved room, so memory cannot run out.
 
 ghost use Rattle.std.specs.Prelude.{◌≡◌, ◌≤◌, ◌+◌, ◌++◌, length, string_bytes};
 ghost use Rattle.std.specs.String.{string_capacity, string_len};
@@ -12,7 +12,7 @@ use invoke_proc::{BootEnd, Lacking};
 use itoa::Buffer;
 use path_model::Cause;
 
-/// The room for any of these lines, in bytes: as much as for a refusal's, which is the longest.
+/// The room for any of these lines, in bytes. The line of a refusal is the longest.
 pub(crate) const BOOT_ROOM: usize = REFUSAL_ROOM;
 
 /// Appends a text that fits.

@@ -5,9 +5,10 @@ ghost use Rattle.suit_edge.specs.Flash.{IsSame};
 ghost use Rattle.flash_layout.specs.declared.frame.Frame.{Frame};
 ghost use Rattle.flash_layout.specs.Layouts.{IsEntry};
 ghost use Rattle.flash_layout.specs.Slots.{LiesWithin, slot_content};
+ghost use Rattle.step_machine.specs.InUse.{slot_in_use};
 ghost use Rattle.suit_cli.specs.Outside.{Outside, with_flash};
 ghost use Rattle.suit_cli.specs.Stages.{Does};
-ghost use Rattle.suit_cli.specs.Installed.{FlashCounts, slot_in_use, slot_line, ram_line, component_line, component_lines, lines_in};
+ghost use Rattle.suit_cli.specs.Installed.{FlashCounts, slot_line, ram_line, component_line, component_lines, lines_in};
 
 use crate::outside::SeenDisk;
 use crate::reply::{Object, Stop};
@@ -42,7 +43,7 @@ fn ram_line(alloc: Global, component: usize) -> Result<String, AllocError>
     format!(in alloc; "component {component} ram\n")
 }
 
-// A component has room for two starts.
+// Shows the prover that there are two starts.
 fn room(starts: &[u64; 2])
     ensures { length starts.now ≡ 2 }
 {

@@ -12,7 +12,7 @@ use crate::reply::{Stop, refused_by};
 use flash_layout::{Frame, Key, Layout, LayoutFault, layout_of};
 use std::alloc::{AllocError, Global};
 
-/// A line of a word and the place of a value.
+/// A line with a word and the JSON pointer to a value.
 pub(crate) fn pointed_line(alloc: Global, word: &str, pointer: &str) -> Result<String, AllocError>
     ensures { IfOk result (λ t. string_bytes t ≡ pointed_line word.now pointer.now) }
 {

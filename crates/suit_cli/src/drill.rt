@@ -2,7 +2,7 @@
 
 ghost use Rattle.std.specs.Prelude.{◌≡◌, [], IfOk, string_bytes};
 ghost use Rattle.suit_cli.specs.Commands.{drills};
-ghost use Rattle.suit_cli.specs.Drilling.{DrillsTo, drill_line, line_of, rounds_text};
+ghost use Rattle.suit_cli.specs.Drilling.{DrillsTo, drill_line, rounds_text, tally_line};
 ghost use Rattle.suit_cli.specs.Stages.{Tells};
 
 mod device;
@@ -34,15 +34,15 @@ fn rounds_text(alloc: Global, tally: &Tally) -> Result<String, AllocError>
     format!(in alloc; "rounds 200, installed {installed}, stopped {stopped}, cut {cut}")
 }
 
-// The line, with a text on the rounds.
-fn line_of(
+// The line, with this text about the rounds.
+fn tally_line(
     alloc: Global,
     number: u64,
     rounds: &str,
     launches: u64,
     wrong: u64,
 ) -> Result<String, AllocError>
-    ensures { IfOk result (λ t. string_bytes t ≡ line_of number rounds.now launches wrong) }
+    ensures { IfOk result (λ t. string_bytes t ≡ tally_line number rounds.now launches wrong) }
 {
     format!(in alloc; "drill {number}: {rounds}, launches {launches}, wrong {wrong}\n")
 }
@@ -58,7 +58,7 @@ fn drill_line(
     ensures { IfOk result (λ t. string_bytes t ≡ drill_line number tally.now launches wrong) }
 {
     let rounds = rounds_text(alloc, tally)?;
-    line_of(alloc, number, rounds.as_str(), launches, wrong)
+    tally_line(alloc, number, rounds.as_str(), launches, wrong)
 }
 
 // Runs the rounds.

@@ -21,7 +21,7 @@ use rollback_record::sound_laws;
 use std::alloc::Global;
 use suit_edge::{Disk, Host};
 
-// The size of a flash that has no open gate.
+// The size of the flash, if it has no open gate.
 fn unused<D: Disk>(alloc: Global, flash: &mut D) -> Result<u64, Stop>
     requires { HEAD_SIZE ≤ D.extent flash.old }
     ensures finds { (here : Outside) → Does unused
@@ -39,7 +39,7 @@ fn unused<D: Disk>(alloc: Global, flash: &mut D) -> Result<u64, Stop>
     }
 }
 
-// Formats the flash. The reply is made before the first write, so that memory cannot run out later.
+// Formats the flash. The reply is made before the first write, so memory cannot run out later.
 fn formats<D: Disk>(
     alloc: Global,
     layout: &Layout,

@@ -136,8 +136,9 @@ pub fn run_laws()
     members_laws();
 }
 
-/// Does nothing. Its contract has the law of `drill NUMBER`: the line's counts of rounds add up to 200, and no launch is
-/// wrong.
+/// Does nothing. Its contract has the laws of `drill NUMBER`: the line's counts of rounds add up to 200, and no launch is
+/// wrong; and where the update of a round is cut, the image that is left holds the same as before, or an update that had
+/// begun left it.
 pub fn drill_laws()
     ensures { DrillLaws }
 {}

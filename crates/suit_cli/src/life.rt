@@ -1,4 +1,4 @@
-//! Laws of the whole life of a flash that this program alone writes. The calls here do nothing: their contracts are the
+//! Laws of the whole life of a flash that only this program writes. The functions do nothing; their contracts are the
 //! laws.
 
 ghost use Rattle.suit_edge.specs.Flash.{IsSettled};
@@ -12,9 +12,9 @@ use invoke_proc::boot_laws;
 use rollback_record::{installed_laws, record_laws, sound_laws};
 use suit_edge::Disk;
 
-/// A life begins with a flash of zero bytes, or with a sound one, and each next image is sound and goes on from the one
-/// before it, as `run` says of each image that a power loss may leave. Then every image is sound, each goes on from all
-/// earlier ones, and the number that is recorded never goes down.
+/// A life begins with a flash of zero bytes or with a sound one. Each next image is sound and goes on from the one before
+/// it, as `run` says of each image that a power loss may leave. Then every image is sound, each goes on from all earlier
+/// ones, and the recorded number never goes down.
 pub fn life_laws()
     ensures { LifeLaws }
 {
@@ -33,14 +33,14 @@ pub fn soundness_laws()
     installed_laws();
 }
 
-/// A flash of zero bytes with nothing pending is settled, as a new disk in memory is: `run` may begin on it.
+/// A flash of zero bytes with nothing pending, such as a new disk in memory, is settled: `run` may begin on it.
 pub fn new_flash_laws<D: Disk>(flash: &D)
     ensures { IsSettled (D.flash flash.now) → AreZeros (D.flash flash.now).reads
         → Settled (D.flash flash.now) }
 {}
 
-/// A flash that reads a sound image and has nothing pending is settled, as a disk is that was started again on what a power
-/// loss left: `run` may go on from each image of a life.
+/// A flash that reads a sound image and has nothing pending, such as a disk started again after a power loss, is settled:
+/// `run` may go on from each image of a life.
 pub fn restart_laws<D: Disk>(flash: &D)
     ensures { IsSettled (D.flash flash.now) → Sound (D.flash flash.now).reads
         → Settled (D.flash flash.now) }

@@ -101,7 +101,7 @@ fn made_reply(alloc: Global, envelope: &[u8]) -> Result<Reply, AllocError>
     })
 }
 
-// Stores an envelope. The reply is made before, so that memory cannot run out after the store.
+// Stores an envelope. The reply is made first, so memory cannot run out after the store.
 fn store<H: Host>(alloc: Global, out: &str, envelope: &[u8], host: &mut H) -> Result<Reply, Stop>
     ensures { (flash : Flashed) → stores out.now envelope.now
         (⟦<H as SeenHost>⟧.seen host.old flash) (⟦<H as SeenHost>⟧.seen host.new flash)

@@ -43,8 +43,7 @@ fn told(alloc: Global, migrated: Migrated, done: Reply) -> Result<Reply, Stop>
     }
 }
 
-/// The reply to `run migrate BASE`. That of a migration is made before the first write, so that memory cannot run out
-/// later.
+/// The reply to `run migrate BASE`. It is made before the first write, so memory cannot run out later.
 pub(crate) fn run_migrate<D: Disk>(alloc: Global, base: u64, flash: &mut D) -> Result<Reply, Stop>
     ensures answer { (here : Outside) → migrates base
         (with_flash here (⟦<D as SeenDisk>⟧.seen flash.old))

@@ -1,4 +1,4 @@
-//! The outside as contracts see it: a host beside a flash, a launcher, and a sink, each at a moment as one record.
+//! The outside as contracts see it: host and flash, launcher, and sink, each as one record at a moment.
 
 ghost use Rattle.suit_cli.specs.Launching.{Launching};
 ghost use Rattle.suit_cli.specs.Outside.{Outside, Flashed, Sunk};

@@ -68,10 +68,16 @@ fn perform<H: Host, D: Disk, L: Launcher>(
     ensures unasked { IfBoots (Some (said command.entry)) (host.new ≡ host.old) }
     ensures extent { D.extent flash.new ≡ D.extent flash.old }
     ensures flash { IsTrue D.told → FlashPasses (Some (said command.entry))
-        (⟦<L as SeenLauncher>⟧.seen launcher.old) (⟦<L as SeenLauncher>⟧.seen launcher.new)
-        (⟦<H as SeenHost>⟧.seen host.old (⟦<D as SeenDisk>⟧.seen flash.old))
-        (⟦<H as SeenHost>⟧.seen host.new (⟦<D as SeenDisk>⟧.seen flash.new))
-        (ended_of result) (D.flash flash.old) (D.flash flash.new) }
+        (record {
+          outside = ⟦<H as SeenHost>⟧.seen host.old (⟦<D as SeenDisk>⟧.seen flash.old);
+          launcher = ⟦<L as SeenLauncher>⟧.seen launcher.old;
+          flash = D.flash flash.old;
+        })
+        (record {
+          outside = ⟦<H as SeenHost>⟧.seen host.new (⟦<D as SeenDisk>⟧.seen flash.new);
+          launcher = ⟦<L as SeenLauncher>⟧.seen launcher.new;
+          flash = D.flash flash.new;
+        }) (ended_of result) }
 {
     match command {
         Command::Make {
@@ -109,10 +115,16 @@ fn answer<H: Host, D: Disk, L: Launcher>(
     ensures unasked { IfBoots (task_of words.now) (host.new ≡ host.old) }
     ensures extent { D.extent flash.new ≡ D.extent flash.old }
     ensures flash { IsTrue D.told → FlashPasses (task_of words.now)
-        (⟦<L as SeenLauncher>⟧.seen launcher.old) (⟦<L as SeenLauncher>⟧.seen launcher.new)
-        (⟦<H as SeenHost>⟧.seen host.old (⟦<D as SeenDisk>⟧.seen flash.old))
-        (⟦<H as SeenHost>⟧.seen host.new (⟦<D as SeenDisk>⟧.seen flash.new))
-        (ended_of result) (D.flash flash.old) (D.flash flash.new) }
+        (record {
+          outside = ⟦<H as SeenHost>⟧.seen host.old (⟦<D as SeenDisk>⟧.seen flash.old);
+          launcher = ⟦<L as SeenLauncher>⟧.seen launcher.old;
+          flash = D.flash flash.old;
+        })
+        (record {
+          outside = ⟦<H as SeenHost>⟧.seen host.new (⟦<D as SeenDisk>⟧.seen flash.new);
+          launcher = ⟦<L as SeenLauncher>⟧.seen launcher.new;
+          flash = D.flash flash.new;
+        }) (ended_of result) }
 {
     sound_laws();
     let words = match lent(alloc, words) {

@@ -147,7 +147,7 @@ impl Reply {
         Ok(Reply { outcome, text })
     }
 
-    /// A reply of one line, with the place of a refusal in the file and what is wrong there.
+    /// A reply of one line: where in the file the input is refused, and what is wrong there.
     pub(crate) fn refused(alloc: Global, refusal: &Refusal) -> Result<Reply, AllocError>
         ensures { Makes result outcomes.Refused (refusal_line refusal.now) }
     {
@@ -159,7 +159,7 @@ impl Reply {
         })
     }
 
-    /// A reply of these lines and of those of a path.
+    /// A reply of these lines, followed by those of a path.
     pub(crate) fn with_path(alloc: Global, lines: &str, path: &BadPath) -> Result<Reply, AllocError>
         ensures { Makes result outcomes.Unsafe (lines.now ++ path_lines path.now) }
     {
@@ -191,7 +191,7 @@ impl From<AllocError> for Stop {
     }
 }
 
-/// The stop that a reply tells.
+/// Stops with this reply.
 pub(crate) fn declined(made: Result<Reply, AllocError>) -> Stop
     ensures { result ≡ stop_of made }
 {
@@ -201,7 +201,7 @@ pub(crate) fn declined(made: Result<Reply, AllocError>) -> Stop
     }
 }
 
-/// The stop that refuses by a line.
+/// Stops with this line: the input is refused.
 pub(crate) fn refused_by(line: Result<String, AllocError>) -> Stop
     ensures { result ≡ refused_by line }
 {

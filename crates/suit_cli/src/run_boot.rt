@@ -17,7 +17,7 @@ use rollback_record::sound_laws;
 use std::alloc::Global;
 use suit_edge::{Disk, Host, Launcher};
 
-// Starts by the configuration. All memory is taken before anything is started.
+// Boots with this configuration. All memory is taken before anything is started.
 fn boot_by<H: Host, D: Disk, L: Launcher>(
     alloc: Global,
     host: &mut H,

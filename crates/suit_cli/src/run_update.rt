@@ -70,9 +70,16 @@ fn update_by<H: Host, D: Disk, L: Launcher>(
         → KeepsAccepted
         (offer config.now.2 config.now.0 config.now.1 accepted.now.envelope.whole.now
         (admission_of accepted.now)) uris.now
-        (⟦<L as SeenLauncher>⟧.seen launcher.old) (⟦<L as SeenLauncher>⟧.seen launcher.new)
-        (⟦<H as SeenHost>⟧.seen host.old (⟦<D as SeenDisk>⟧.seen flash.old))
-        (ended_of result) (D.flash flash.old) (D.flash flash.new) }
+        (record {
+          outside = ⟦<H as SeenHost>⟧.seen host.old (⟦<D as SeenDisk>⟧.seen flash.old);
+          launcher = ⟦<L as SeenLauncher>⟧.seen launcher.old;
+          flash = D.flash flash.old;
+        })
+        (record {
+          outside = ⟦<H as SeenHost>⟧.seen host.new (⟦<D as SeenDisk>⟧.seen flash.new);
+          launcher = ⟦<L as SeenLauncher>⟧.seen launcher.new;
+          flash = D.flash flash.new;
+        }) (ended_of result) }
     ensures extent { D.extent flash.new ≡ D.extent flash.old }
     ensures flash { IsTrue D.told → StaysInOrder (D.flash flash.old) (D.flash flash.new)
         (D.faults flash.old) (D.faults flash.new) }
@@ -126,9 +133,16 @@ pub(crate) fn run_update<H: Host, D: Disk, L: Launcher>(
         (D.faults flash.old) (D.faults flash.new) }
     ensures keeps { IsTrue D.told → Settled (D.flash flash.old)
         → StaysOrKeeps name.now uris.now
-        (⟦<L as SeenLauncher>⟧.seen launcher.old) (⟦<L as SeenLauncher>⟧.seen launcher.new)
-        (⟦<H as SeenHost>⟧.seen host.old (⟦<D as SeenDisk>⟧.seen flash.old))
-        (ended_of result) (D.flash flash.old) (D.flash flash.new) }
+        (record {
+          outside = ⟦<H as SeenHost>⟧.seen host.old (⟦<D as SeenDisk>⟧.seen flash.old);
+          launcher = ⟦<L as SeenLauncher>⟧.seen launcher.old;
+          flash = D.flash flash.old;
+        })
+        (record {
+          outside = ⟦<H as SeenHost>⟧.seen host.new (⟦<D as SeenDisk>⟧.seen flash.new);
+          launcher = ⟦<L as SeenLauncher>⟧.seen launcher.new;
+          flash = D.flash flash.new;
+        }) (ended_of result) }
 {
     sound_laws();
     config_laws();
@@ -166,9 +180,16 @@ pub(crate) fn run_update_by<H: Host, D: Disk, L: Launcher>(
         (D.faults flash.old) (D.faults flash.new) }
     ensures keeps { IsTrue D.told → Settled (D.flash flash.old)
         → StaysOrKeeps name.now (pairs_of words.now)
-        (⟦<L as SeenLauncher>⟧.seen launcher.old) (⟦<L as SeenLauncher>⟧.seen launcher.new)
-        (⟦<H as SeenHost>⟧.seen host.old (⟦<D as SeenDisk>⟧.seen flash.old))
-        (ended_of result) (D.flash flash.old) (D.flash flash.new) }
+        (record {
+          outside = ⟦<H as SeenHost>⟧.seen host.old (⟦<D as SeenDisk>⟧.seen flash.old);
+          launcher = ⟦<L as SeenLauncher>⟧.seen launcher.old;
+          flash = D.flash flash.old;
+        })
+        (record {
+          outside = ⟦<H as SeenHost>⟧.seen host.new (⟦<D as SeenDisk>⟧.seen flash.new);
+          launcher = ⟦<L as SeenLauncher>⟧.seen launcher.new;
+          flash = D.flash flash.new;
+        }) (ended_of result) }
 {
     sound_laws();
     match uris_named(alloc, words.as_slice()) {

@@ -57,7 +57,7 @@ fn block_line(alloc: Global, number: u64, kind: &str) -> Result<String, AllocErr
     format!(in alloc; "block {number} {kind}\n")
 }
 
-// Whether a block is a Mac0 block, under whatever key.
+// Whether a block is a COSE_Mac0 block, under any key.
 fn is_mac(block: &[u8]) -> bool
     ensures { HasKind block.now result }
 {

@@ -51,8 +51,8 @@ fn description_text(
     manifest: &Manifest,
     members: &Members,
 ) -> Result<String, AllocError>
-    ensures { IfOk result (λ text. IsDescription
-        envelope.now.whole.now (said_by envelope.now) manifest.now members.now (string_bytes text)) }
+    ensures { IfOk result (λ text. IsDescription envelope.now.whole.now
+        (said_by envelope.now) manifest.now members.now (string_bytes text)) }
 {
     describe_laws();
     describe(alloc, envelope, manifest, members)?.to_string(alloc)

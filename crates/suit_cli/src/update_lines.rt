@@ -1,4 +1,4 @@
-//! The lines of an update. They are written into room reserved before, so that memory cannot run out.
+//! The lines of an update. They are written into reserved room, so memory cannot run out.
 
 ghost use Rattle.std.specs.Prelude.{◌≡◌, ◌≤◌, ◌+◌, ◌++◌, length};
 ghost use Rattle.std.specs.Fmt.{decimal};

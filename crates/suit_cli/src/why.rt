@@ -1,4 +1,4 @@
-//! Why input is refused, in a line. It is written into room reserved before, so that memory cannot run out.
+//! Why input is refused, in a line. It is written into reserved room, so memory cannot run out.
 
 ghost use Rattle.std.specs.Prelude.{◌≡◌, ◌≤◌, ◌+◌, ◌++◌, length, string_bytes};
 ghost use Rattle.std.specs.Fmt.{decimal};

@@ -10,7 +10,7 @@ use det_cbor::{Names, Text};
 use std::alloc::{AllocError, Global};
 use step_machine::Uris;
 
-/// The words, lent one by one.
+/// The words, borrowed.
 pub(crate) fn lent<'a>(alloc: Global, words: &'a Names) -> Result<Vec<&'a str>, AllocError>
     ensures { IfOk result (λ lent. texts lent.items ≡ words.entry.now) }
 {
@@ -21,7 +21,7 @@ pub(crate) fn lent<'a>(alloc: Global, words: &'a Names) -> Result<Vec<&'a str>, 
     Ok(lent)
 }
 
-/// The names of files by their URIs, in the order of their words.
+/// The file names by URI, in the order of the words.
 pub(crate) fn uris_named(alloc: Global, words: &[UriWord<'_>]) -> Result<Uris, AllocError>
     ensures { IfOk result (λ uris. uris ≡ pairs_of (map answer_said words.now)) }
 {

@@ -4,7 +4,7 @@ ghost use Rattle.std.specs.Prelude.{◌≡◌, ◌∷◌, [], IfOk};
 ghost use Rattle.flash_layout.specs.Layouts.{IsLayout};
 ghost use Rattle.suit_edge.specs.MemoryDisk.{memory_flash};
 ghost use Rattle.suit_cli.specs.DrillDevice.{IsFirst, device_layout, entry_of, flash_size};
-ghost use Rattle.suit_cli.specs.DrillRounds.{IsReady};
+ghost use Rattle.suit_cli.specs.DrillRounds.{IsAtRest};
 
 use crate::device::key_of;
 use det_cbor::Bytes;
@@ -66,7 +66,7 @@ fn device_layout(alloc: Global) -> Result<Layout, AllocError>
 /// A flash with that layout and that key, on which nothing is installed.
 pub(crate) fn new_flash(alloc: Global) -> Result<MemoryDisk, AllocError>
     ensures first { IfOk result (λ disk. IsFirst (memory_flash disk).reads) }
-    ensures ready { IfOk result IsReady }
+    ensures ready { IfOk result IsAtRest }
 {
     sound_laws();
     let mut disk = MemoryDisk::new(alloc, FLASH_SIZE, &[])?;
@@ -75,7 +75,7 @@ pub(crate) fn new_flash(alloc: Global) -> Result<MemoryDisk, AllocError>
     match format(&mut disk, &layout, &key, VERSION_1) {
         Formatted::Done => Ok(disk),
         Formatted::NotBlank => unreachable!(),
-        // No call is to fail, so memory ran out.
+        // No call is set to fail, so memory ran out.
         Formatted::FlashFault => Err(AllocError),
     }
 }

@@ -16,8 +16,8 @@ ghost use Rattle.suit_cli.specs.DrillRounds.{
   AsksUpdate,
   BootsRound,
   HostsRound,
-  IsReady,
-  LivesOn,
+  IsAtRest,
+  IsNextImage,
   RunsRound,
   UpdatesRound,
   ends_so,
@@ -77,7 +77,7 @@ fn host_of(alloc: Global, round: &Round) -> Result<MemoryHost, AllocError>
     Ok(host)
 }
 
-// The names of files by their URIs, of an update.
+// The file names by URI, if the command is an update.
 fn uris_asked(alloc: Global, command: Option<Command<'_>>) -> Result<Option<Uris>, AllocError>
     ensures { IfOk result (λ uris. uris ≡ uris_asked (option_map said command.entry)) }
 {
@@ -98,7 +98,7 @@ fn uris_asked(alloc: Global, command: Option<Command<'_>>) -> Result<Option<Uris
     })
 }
 
-// The names of files by their URIs, as `run update` with these words has them.
+// The file names by URI that `run update` gets with these words.
 fn uris_of(alloc: Global, words: &Names) -> Result<Uris, AllocError>
     requires { AreWords words.now }
     ensures { IfOk result (AsksUpdate words.now) }
@@ -118,14 +118,14 @@ fn uris_of(alloc: Global, words: &Names) -> Result<Uris, AllocError>
     }
 }
 
-// Whether no object failed and memory sufficed, by the status of an answer.
+// Whether a status says that no object failed and memory did not run out.
 fn is_whole(status: u8) -> bool
     ensures { result ≡ is_whole status }
 {
     !matches!(status, 7 | 8 | 10 | 11)
 }
 
-// Ends a drill whose objects failed: no call of them is to fail but those that a fuse refuses, so memory ran out.
+// Ends the drill if an object failed. Only a fuse makes calls fail; otherwise memory ran out.
 fn ends_whole(answer: &Answer) -> Result<(), AllocError>
     ensures { OnOk result (IsTrue (is_whole (ended_status (ended_of answer.now)))) }
 {
@@ -136,7 +136,7 @@ fn ends_whole(answer: &Answer) -> Result<(), AllocError>
     }
 }
 
-// How an update ended in which nothing failed.
+// How an update ended, if nothing failed in it.
 fn end_of(answer: &Answer) -> Result<RoundEnd, AllocError>
     ensures { IfOk result (ends_so (ended_of answer.now)) }
 {
@@ -148,7 +148,7 @@ fn end_of(answer: &Answer) -> Result<RoundEnd, AllocError>
     }
 }
 
-// Whether memory ran out in a call of one of these.
+// Whether one of these ran out of memory in a call.
 fn have_starved(host: &MemoryHost, fuse: &FuseDisk, launcher: &MemoryLauncher) -> bool
     ensures { result
         ≡ have_starved
@@ -157,7 +157,7 @@ fn have_starved(host: &MemoryHost, fuse: &FuseDisk, launcher: &MemoryLauncher) -
     host.starved() > 0 || fuse.starved() > 0 || launcher.starved() > 0
 }
 
-// Whether the power was lost, as it was to be, by an answer.
+// Whether the round wanted a power loss and the answer shows it.
 fn is_cut(round: &Round, answer: &Answer) -> bool
     ensures { OnTrue result
         (IsSome round.now.cut × (ended_status (ended_of answer.now) ≡ 8)) }
@@ -165,8 +165,8 @@ fn is_cut(round: &Round, answer: &Answer) -> bool
     round.cut.is_some() && answer_status(answer) == FLASH_FAULT
 }
 
-// Runs the update of a round. The flash takes as many calls as the round wants, and refuses all others: then the round is cut,
-// whatever the update answered, and goes on with what the loss of power leaves.
+// Runs the update of a round. The flash takes as many calls as the round drew and refuses the others. If the update fails
+// by that, the round is cut, and goes on with what the power loss leaves.
 fn update_on(
     alloc: Global,
     round: &Round,
@@ -174,12 +174,12 @@ fn update_on(
     flash: MemoryDisk,
 ) -> Result<(MemoryDisk, RoundEnd), AllocError>
     requires words { AreWords round.now.words }
-    requires ready { IsReady flash }
+    requires ready { IsAtRest flash }
     ensures updates { IfOk result (λ left. UpdatesRound (said_by round.now)
         (file_in host.old.files) (memory_flash flash).reads (memory_flash left.0).reads left.1) }
     ensures lives { IfOk result
-        (λ left. LivesOn (memory_flash flash).reads (memory_flash left.0).reads) }
-    ensures ready { IfOk result (λ left. IsReady left.0) }
+        (λ left. IsNextImage (memory_flash flash).reads (memory_flash left.0).reads) }
+    ensures ready { IfOk result (λ left. IsAtRest left.0) }
     ensures files { OnOk result (file_in host.new.files ≡ file_in host.old.files) }
 {
     sound_laws();
@@ -199,20 +199,20 @@ fn update_on(
     Ok((flash, end))
 }
 
-// Boots. No call of the flash is refused, so an object fails for want of memory alone.
+// Boots. The flash refuses no call, so an object fails only if memory runs out.
 fn boot_on(
     alloc: Global,
     host: &mut MemoryHost,
     flash: MemoryDisk,
     launcher: &mut MemoryLauncher,
 ) -> Result<MemoryDisk, AllocError>
-    requires { IsReady flash }
+    requires { IsAtRest flash }
     ensures boots { IfOk result (λ left. BootsRound (file_in host.old.files)
         (memory_flash flash).reads (memory_flash left).reads
         launcher.old.launches launcher.new.launches) }
     ensures lives { IfOk result
-        (λ left. LivesOn (memory_flash flash).reads (memory_flash left).reads) }
-    ensures ready { IfOk result IsReady }
+        (λ left. IsNextImage (memory_flash flash).reads (memory_flash left).reads) }
+    ensures ready { IfOk result IsAtRest }
 {
     sound_laws();
     let mut fuse = FuseDisk::new(flash, u64::MAX);
@@ -232,10 +232,19 @@ pub(crate) fn run_round(
     flash: MemoryDisk,
     launcher: &mut MemoryLauncher,
 ) -> Result<(MemoryDisk, RoundEnd), AllocError>
-    requires { IsReady flash }
-    ensures runs { IfOk result (λ left. RunsRound sequence draw.old (memory_flash flash).reads
-        launcher.old.launches draw.new (memory_flash left.0).reads launcher.new.launches left.1) }
-    ensures ready { IfOk result (λ left. IsReady left.0) }
+    requires { IsAtRest flash }
+    ensures runs { IfOk result (λ left. RunsRound sequence
+        (record {
+          draws = draw.old;
+          image = (memory_flash flash).reads;
+          launches = launcher.old.launches;
+        })
+        (record {
+          draws = draw.new;
+          image = (memory_flash left.0).reads;
+          launches = launcher.new.launches;
+        }) left.1) }
+    ensures ready { IfOk result (λ left. IsAtRest left.0) }
 {
     let round = round(alloc, draw, sequence)?;
     let mut host = host_of(alloc, &round)?;

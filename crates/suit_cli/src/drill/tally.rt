@@ -50,7 +50,7 @@ impl Tally {
     }
 }
 
-// Whether a launch has no digest, or bytes of another one.
+// Whether a launch has no digest, or one that its bytes do not have.
 fn is_wrong(launch: &Launch) -> bool
     ensures { result ≡ is_wrong launch.now }
 {

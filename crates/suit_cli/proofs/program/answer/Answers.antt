@@ -57,4 +57,4 @@ returns-in-Ok-Some-clause-flash g c told =
     flash_by _ _
     (sym (ap task_of (ap texts c.as_slice.ensures.value ∙ c.in-Ok.ensures)) ∙ sym c.in-Ok-Some.ensures.table
     ∙ ap (λ (o : Option Command). option_map said o) c.in-Ok-Some.field-0-is)
-    _ _ _ _ _ _ _ (c.perform.ensures.flash told)
+    _ _ _ (c.perform.ensures.flash told)

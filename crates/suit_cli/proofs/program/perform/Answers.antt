@@ -39,22 +39,22 @@ returns-in-Update-clause-answer g c = comes_same c.args.command _ c.in-Update.is
 
 pub returns-in-Init-clause-flash : goal.returns-in-Init-clause-flash
 returns-in-Init-clause-flash g c told =
-    flash_as c.args.command _ c.in-Init.is _ _ _ _ _ _ _
+    flash_as c.args.command _ c.in-Init.is _ _ _
     (record { any_moment = c.init.ensures.any_moment told; sound = tt; settled = c.init.ensures.settled told; keeps = tt })
 
 pub returns-in-Update-clause-flash : goal.returns-in-Update-clause-flash
 returns-in-Update-clause-flash g c told =
-    flash_as c.args.command _ c.in-Update.is _ _ _ _ _ _ _
+    flash_as c.args.command _ c.in-Update.is _ _ _
     (record { any_moment = (c.run_update_by.ensures.flash told).any_moment; sound = (c.run_update_by.ensures.flash told).sound; settled = (c.run_update_by.ensures.flash told).settled; keeps = c.run_update_by.ensures.keeps told })
 
 pub returns-in-Boot-clause-flash : goal.returns-in-Boot-clause-flash
 returns-in-Boot-clause-flash g c told =
-    flash_as c.args.command _ c.in-Boot.is _ _ _ _ _ _ _
+    flash_as c.args.command _ c.in-Boot.is _ _ _
     (record { any_moment = (c.run_boot.ensures.flash told).any_moment; sound = (c.run_boot.ensures.flash told).sound; settled = (c.run_boot.ensures.flash told).settled; keeps = c.run_boot.ensures.keeps told })
 
 pub returns-in-Status-clause-flash : goal.returns-in-Status-clause-flash
 returns-in-Status-clause-flash g c told =
-    flash_as c.args.command _ c.in-Status.is _ _ _ _ _ _ _
+    flash_as c.args.command _ c.in-Status.is _ _ _
     (record { any_moment = (c.status.ensures.same told).images; sound = tt; settled = looked _ _ _ _ _ (g.met.D.Disk.obeys c.status.new.flash told) (c.status.ensures.same told); keeps = tt })
 
 pub returns-in-Migrate-clause-answer : goal.returns-in-Migrate-clause-answer
@@ -65,7 +65,7 @@ returns-in-Migrate-clause-answer g c =
 
 pub returns-in-Migrate-clause-flash : goal.returns-in-Migrate-clause-flash
 returns-in-Migrate-clause-flash g c told =
-    flash_as c.args.command _ c.in-Migrate.is _ _ _ _ _ _ _
+    flash_as c.args.command _ c.in-Migrate.is _ _ _
     (record { any_moment = c.run_migrate.ensures.any_moment told; sound = c.run_migrate.ensures.sound told; settled = c.run_migrate.ensures.settled told; keeps = c.run_migrate.ensures.keeps told })
 
 pub returns-in-Drill-clause-answer : goal.returns-in-Drill-clause-answer
@@ -73,20 +73,20 @@ returns-in-Drill-clause-answer g c = comes_command c.args.command _ c.in-Drill.i
 
 pub returns-in-Make-clause-flash : goal.returns-in-Make-clause-flash
 returns-in-Make-clause-flash g c told =
-    flash_as c.args.command _ c.in-Make.is _ _ _ _ _ _ _ (record { any_moment = still _; sound = tt; settled = λ settled never. settled; keeps = tt })
+    flash_as c.args.command _ c.in-Make.is _ _ _ (record { any_moment = still _; sound = tt; settled = λ settled never. settled; keeps = tt })
 
 pub returns-in-Describe-clause-flash : goal.returns-in-Describe-clause-flash
 returns-in-Describe-clause-flash g c told =
-    flash_as c.args.command _ c.in-Describe.is _ _ _ _ _ _ _ (record { any_moment = still _; sound = tt; settled = λ settled never. settled; keeps = tt })
+    flash_as c.args.command _ c.in-Describe.is _ _ _ (record { any_moment = still _; sound = tt; settled = λ settled never. settled; keeps = tt })
 
 pub returns-in-Show-clause-flash : goal.returns-in-Show-clause-flash
 returns-in-Show-clause-flash g c told =
-    flash_as c.args.command _ c.in-Show.is _ _ _ _ _ _ _ (record { any_moment = still _; sound = tt; settled = λ settled never. settled; keeps = tt })
+    flash_as c.args.command _ c.in-Show.is _ _ _ (record { any_moment = still _; sound = tt; settled = λ settled never. settled; keeps = tt })
 
 pub returns-in-Check-clause-flash : goal.returns-in-Check-clause-flash
 returns-in-Check-clause-flash g c told =
-    flash_as c.args.command _ c.in-Check.is _ _ _ _ _ _ _ (record { any_moment = still _; sound = tt; settled = λ settled never. settled; keeps = tt })
+    flash_as c.args.command _ c.in-Check.is _ _ _ (record { any_moment = still _; sound = tt; settled = λ settled never. settled; keeps = tt })
 
 pub returns-in-Drill-clause-flash : goal.returns-in-Drill-clause-flash
 returns-in-Drill-clause-flash g c told =
-    flash_as c.args.command _ c.in-Drill.is _ _ _ _ _ _ _ (record { any_moment = still _; sound = tt; settled = λ settled never. settled; keeps = tt })
+    flash_as c.args.command _ c.in-Drill.is _ _ _ (record { any_moment = still _; sound = tt; settled = λ settled never. settled; keeps = tt })

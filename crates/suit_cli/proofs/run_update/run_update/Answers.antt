@@ -1,6 +1,7 @@
 use Rattle.std.proofs.Common.{List, ℕ, ◌<◌, ◌^◌, length, arith, refl, sym, subst, ◌∙◌}
 use Rattle.suit_edge.specs.Flash.{IsFlash}
 use Rattle.suit_cli.specs.Launching.{Launching}
+use Rattle.suit_cli.specs.Surroundings.{Surroundings}
 use Rattle.suit_cli.specs.Coming.{ended_of}
 use Rattle.admission.specs.Admission.{admission_of}
 use Rattle.step_machine.proofs.Fitting.{few_entries}
@@ -84,13 +85,17 @@ returns-clause-keeps g c told settled =
     let before = outside_at h.told (h.file c.args.host.now) (h.pulled c.args.host.now) (h.asked c.args.host.now) (h.faults c.args.host.now) (flash_at d.told (d.extent c.args.flash.now) (d.flash c.args.flash.now).reads (d.faults c.args.flash.now)) in
     let middle = outside_at h.told (h.file c.read.new.host) (h.pulled c.read.new.host) (h.asked c.read.new.host) (h.faults c.read.new.host) (flash_at d.told (d.extent c.config_in.new.flash) (d.flash c.config_in.new.flash).reads (d.faults c.config_in.new.flash)) in
     let l : Launching = record { told = g.L.Launcher.told; launches = g.L.Launcher.launches c.args.launcher.now; faults = g.L.Launcher.faults c.args.launcher.now } in
-    let m : Launching = record { told = g.L.Launcher.told; launches = g.L.Launcher.launches c.update_by.new.launcher; faults = g.L.Launcher.faults c.update_by.new.launcher } in
-    keeps_since c.args.name.now c.args.uris.now l m before middle refl (c.in-Ok-read.ensures anywhere.flash).0.quiet.files (g.D.Disk.extent c.args.flash.now) refl
-    (g.D.Disk.flash c.args.flash.now) (g.D.Disk.flash c.config_in.new.flash) (g.D.Disk.flash c.update_by.new.flash)
+    let since : Surroundings = record { outside = middle; launcher = l; flash = d.flash c.config_in.new.flash } in
+    let after : Surroundings = record {
+      outside = outside_at h.told (h.file c.update_by.new.host) (h.pulled c.update_by.new.host) (h.asked c.update_by.new.host) (h.faults c.update_by.new.host) (flash_at d.told (d.extent c.update_by.new.flash) (d.flash c.update_by.new.flash).reads (d.faults c.update_by.new.flash));
+      launcher = record { told = g.L.Launcher.told; launches = g.L.Launcher.launches c.update_by.new.launcher; faults = g.L.Launcher.faults c.update_by.new.launcher };
+      flash = d.flash c.update_by.new.flash;
+    } in
+    keeps_since c.args.name.now c.args.uris.now l before middle after refl (c.in-Ok-read.ensures anywhere.flash).0.quiet.files (g.D.Disk.extent c.args.flash.now) refl
+    (g.D.Disk.flash c.args.flash.now) (g.D.Disk.flash c.config_in.new.flash)
     (g.met.D.Disk.obeys c.args.flash.now told) law same c.in-Ok.config.0 c.in-Ok.config.1 c.in-Ok.config.2 c.in-Ok.ensures.allowed ((c.in-Ok.ensures.finds anywhere).1 told) settled c.in-Ok-read.bytes (c.in-Ok-read.ensures _).1
     (admission_of c.in-Ok-accept.accepted) (accepted_as c.in-Ok.config.2 c.in-Ok.config.0 c.in-Ok.config.1 _ _ c.as_slice.ensures (admission_of c.in-Ok-accept.accepted) (c.in-Ok-accept.ensures.finds anywhere).1)
-    c.config_laws.ensures.answer (ended_of c.update_by.result) (keeps_as c.in-Ok.config.2 c.in-Ok.config.0 c.in-Ok.config.1 _ _ (c.in-Ok-accept.ensures.whole ∙ c.as_slice.ensures) (admission_of c.in-Ok-accept.accepted) c.args.uris.now l m middle (ended_of c.update_by.result)
-    (g.D.Disk.flash c.config_in.new.flash) (g.D.Disk.flash c.update_by.new.flash)
+    c.config_laws.ensures.answer (ended_of c.update_by.result) (keeps_as c.in-Ok.config.2 c.in-Ok.config.0 c.in-Ok.config.1 _ _ (c.in-Ok-accept.ensures.whole ∙ c.as_slice.ensures) (admission_of c.in-Ok-accept.accepted) c.args.uris.now since after (ended_of c.update_by.result)
     (c.update_by.ensures.keeps told (settled_later _ _ _ law same settled)))
 
 pub returns-in-Err-clause-flash : goal.returns-in-Err-clause-flash

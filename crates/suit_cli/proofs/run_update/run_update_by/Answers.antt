@@ -11,7 +11,7 @@ returns-in-Ok-clause-answer g c = c.run_update.ensures.answer c.args.words.now (
 
 pub returns-in-Ok-clause-keeps : goal.returns-in-Ok-clause-keeps
 returns-in-Ok-clause-keeps g c told settled =
-    keeps_named c.args.name.now _ _ (c.in-Ok.ensures ∙ ap pairs_of c.as_slice.ensures) _ _ _ (ended_of c.run_update.result) _ _ (c.run_update.ensures.keeps told settled)
+    keeps_named c.args.name.now _ _ (c.in-Ok.ensures ∙ ap pairs_of c.as_slice.ensures) _ _ (ended_of c.run_update.result) (c.run_update.ensures.keeps told settled)
 
 pub returns-in-Err-clause-answer : goal.returns-in-Err-clause-answer
 returns-in-Err-clause-answer g c = starved_update c.args.name.now c.args.words.now _ _

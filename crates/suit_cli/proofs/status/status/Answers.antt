@@ -6,7 +6,7 @@ use Rattle.flash_layout.specs.declared.layout.Entry.{Entry}
 use Rattle.flash_layout.specs.Layouts.{IsEntry}
 use Rattle.step_machine.proofs.Fitting.{few_entries}
 use Rattle.suit_cli.specs.Stages.{Goes, Ends}
-use Rattle.suit_cli.specs.Installed.{IsStatus}
+use Rattle.suit_cli.specs.Installed.{TellsStatus}
 use Rattle.suit_cli.proofs.Chains.{anywhere, ends_there, lacks_last}
 use Rattle.suit_cli.proofs.Sounding.{allowed_after, held_after}
 use Rattle.suit_cli.proofs.StatusLines.{lines_of, same_twice}
@@ -68,7 +68,7 @@ pub returns-clause-answer : goal.returns-clause-answer
 returns-clause-answer g c here =
     Goes c.in_ok-config.config _ _ (c.in_ok-config.ensures.finds here) (Goes c.in_ok-installed.installed _ _ (c.in_ok-installed.ensures.finds here)
     (Goes c.in_ok-lines.lines _ _ (lines_of _ _ c.as_slice.ensures c.in_ok-installed.installed (Ok c.in_ok-lines.lines) _ _ (c.in_ok-lines.ensures.finds here))
-    (Ends c.in_ok-status_lines.field-0 refl (subst (λ (l : List ℕ). IsStatus c.in_ok-installed.installed l c.in_ok-status_lines.field-0) c.as_str.ensures c.in_ok-status_lines.ensures))))
+    (Ends c.in_ok-status_lines.field-0 refl (subst (λ (l : List ℕ). TellsStatus c.in_ok-installed.installed l c.in_ok-status_lines.field-0) c.as_str.ensures c.in_ok-status_lines.ensures))))
 
 pub returns-clause-same : goal.returns-clause-same
 returns-clause-same g c t =

@@ -13,7 +13,7 @@ returns-then-is_cut-clause-updates c =
     update_lost (said_by c.args.round.now) c.in_ok-uris.ensures.named c.in_ok-uris.ensures.asks c.args.flash _ c.args.host.now run.new.host c.new-fuse.result run.new.flash c.in_ok-launcher.launcher run.new.launcher _ c.new-fuse.ensures
     (run.ensures.answer c.in_ok-uris.ensures.named c.in_ok-uris.ensures.uris_are) c.requires.ready c.into_disk-flash.result c.into_disk-flash.ensures c.unwrap_or.ensures (sym c.have_starved.ensures ∙ c.if-have_starved.false)
     (is_so _ _ c.is_cut.ensures c.if-is_cut.true).0 (is_so _ _ c.is_cut.ensures c.if-is_cut.true).1
-    (keeps_named _ _ _ c.in_ok-uris.ensures.uris_are _ _ _ _ _ _ (run.ensures.keeps refl (begins_settled c.args.flash _ c.new-fuse.result c.new-fuse.ensures c.requires.ready))) c.in_ok-left.left lost.left lost.may
+    (keeps_named _ _ _ c.in_ok-uris.ensures.uris_are _ _ _ (run.ensures.keeps refl (begins_settled c.args.flash _ c.new-fuse.result c.new-fuse.ensures c.requires.ready))) c.in_ok-left.left lost.left lost.may
 
 pub returns-then-is_cut-clause-lives : goal.returns-then-is_cut-clause-lives
 returns-then-is_cut-clause-lives c =
