@@ -53,7 +53,7 @@ pub record IsPlayed {flash : List ℕ} (config : HasConfig flash) (end : BootEnd
       (after ≡ flash) [] launches end
   pub never : NeverHost end
 
--- it ended, and the one image that it launched is not told
+-- the boot ended, but the one image that it launched cannot be told
 abbrev pub IsUntold : Answer → BootEnd → List Launch → Type 0
 IsUntold answer end launches =
     (answer ≡ answers.LaunchFault) × (end ≡ ends.Ended)
@@ -68,7 +68,7 @@ pub record Ends (flash : List ℕ) (answer : Answer) : Type 0 where
   pub played : IsPlayed config end launches
   pub told : (answer ≡ boot_answer end) ⊎ IsUntold answer end launches
 
--- the flash has no configuration; it did not read, or memory ran out for that; or a boot ended so
+-- the flash has no configuration, a read failed, memory ran out, or a boot ended so
 abbrev pub IsAnswer : List ℕ → Answer → Type 0
 IsAnswer flash answer =
     ((answer ≡ answers.Unconfigured) × HasNoConfig flash)

@@ -11,7 +11,7 @@ use Rattle.step_machine.specs.Invoking.{launched_as}
 use Rattle.step_machine.specs.declared.plan_end.PlanEnd.TheVariants as plays
 use Rattle.suit_edge.specs.declared.launch.Launch.{Launch}
 
--- the bytes of its digest
+-- the bytes of an image's digest
 abbrev pub image_digest : SuitImage → List ℕ
 image_digest image = take image.digest_length image.digest
 
@@ -26,11 +26,11 @@ pub record IsNoted (note : NotedImage) (image : SuitImage) : Type 0 where
 abbrev pub image_bytes : List ℕ → SuitImage → List ℕ
 image_bytes flash image = slice_range flash image.place (image.place + image.length)
 
--- they lie in it
+-- the image's bytes lie in the flash
 abbrev pub ImageLiesIn : List ℕ → SuitImage → Type 0
 ImageLiesIn flash image = image.place + image.length ≤ length flash
 
--- an image is that of a launch
+-- the image is the one of this launch
 pub record IsLaunched (flash : List ℕ) (image : SuitImage) (launch : Launch) : Type 0 where
   pub component : launch.component ≡ image.component
   pub bytes : launch.bytes ≡ image_bytes flash image
@@ -43,11 +43,14 @@ pub record Starts (flash : List ℕ) (image : SuitImage) : Type 0 where
   pub launch : Launch
   pub launched : IsLaunched flash image launch
   pub after : List ℕ
-  pub plays : PlaysBoot config.frame config.layout config.key (λ _. None) flash after [] (launch ∷ []) plays.Done
+  pub plays :
+      PlaysBoot config.frame config.layout config.key (λ _. None) flash after [] (launch ∷ [])
+      plays.Done
   pub safe : Sound flash → HasItsDigest (launched_as launch)
 
--- it was, and launched nothing
+-- the procedure was played to its end, and launched nothing
 pub record StartsNone (flash : List ℕ) : Type 0 where
   pub config : HasConfig flash
   pub after : List ℕ
-  pub plays : PlaysBoot config.frame config.layout config.key (λ _. None) flash after [] [] plays.Done
+  pub plays :
+      PlaysBoot config.frame config.layout config.key (λ _. None) flash after [] [] plays.Done

@@ -13,7 +13,7 @@ pub record LacksComponent (flash : List ℕ) (component : ℕ) : Type 0 where
   pub config : HasConfig flash
   pub none : (length config.layout ≤ component) ⊎ StandsIn config.layout component memory.Ram
 
--- it has one in flash, and the flash has no record
+-- the layout has the component in flash, and the flash has no record
 pub record LacksRecord (flash : List ℕ) (component : ℕ) : Type 0 where
   pub config : HasConfig flash
   pub stands : StandsIn config.layout component memory.Flash
@@ -30,7 +30,7 @@ pub data IsHeldAnswer (flash : List ℕ) (component : ℕ) (answer : Answer) : T
   NoRecord : LacksRecord flash component → answer ≡ answers.NothingInstalled
       → IsHeldAnswer flash component answer
 
--- the flash did not read, or memory ran out
+-- a read failed, or memory ran out
 abbrev pub IsFaultAnswer : Answer → Type 0
 IsFaultAnswer answer = (answer ≡ answers.FlashFault) ⊎ (answer ≡ answers.NoMemory)
 

@@ -13,7 +13,7 @@ use Rattle.flash_layout.specs.declared.slot.Slot.{Slot}
 use Rattle.invoke_proc.specs.Banks.{record_in}
 use Rattle.step_machine.specs.InUse.{slot_in_use}
 
--- where a component of a layout has its slot of this number
+-- the slot of this number of a component in a layout
 abbrev pub slot_of : Entry → ℕ → Slot
 slot_of entry number = slot_at entry (slice_index (slot_starts entry) number)
 
@@ -24,7 +24,7 @@ pub record IsSlotOf (entry : Entry) (number : ℕ) (flash : List ℕ) (slot : Su
   pub length_is : slot.length ≡ length (slot_content (slot_of entry number) flash)
   pub capacity : slot.capacity ≡ entry.capacity
 
--- as many bytes as it may have lie in the flash, and it has no more
+-- the whole capacity lies in the flash, and the content is not longer
 abbrev pub SlotLiesIn : List ℕ → SuitSlot → Type 0
 SlotLiesIn flash slot = (slot.length ≤ slot.capacity) × (slot.place + slot.capacity ≤ length flash)
 

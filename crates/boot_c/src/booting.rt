@@ -3,7 +3,7 @@
 ghost use Rattle.boot_c.specs.BootAnswers.{IsAnswer, boot_answer, cause_answer};
 ghost use Rattle.boot_c.specs.Images.{ImageLiesIn, Starts, StartsNone};
 ghost use Rattle.flash_layout.specs.Configs.{ConfigOf, Configured, IsAllowed};
-ghost use Rattle.std.specs.Prelude.{◌≡◌, ◌≢◌, ◌⊎◌, IfSome, IsNone, length};
+ghost use Rattle.std.specs.Prelude.{◌≡◌, ◌≢◌, ◌⊎◌, IfSome, IsNone, None, length};
 ghost use Rattle.suit_answers.specs.Answers.{code_of};
 ghost use Rattle.suit_answers.specs.declared.answer.Answer.{Answer};
 ghost use Rattle.suit_answers.specs.declared.answer.Answer.TheVariants as answers;
@@ -21,6 +21,18 @@ use suit_answers::Answer;
 struct Told {
     answer: Answer,
     image: Option<SuitImage>,
+}
+
+impl Told {
+    // An answer without an image.
+    fn without(answer: Answer) -> Told
+        ensures { result ≡ record { answer = answer; image = None } }
+    {
+        Told {
+            answer,
+            image: None,
+        }
+    }
 }
 
 // The answer where a directive failed.
@@ -62,10 +74,7 @@ fn boot_by(alloc: Global, flash: &[u8], layout: &Layout, frame: Frame, key: &Key
     ensures none { result.answer ≡ answers.Done → IsNone result.image → StartsNone flash.now }
 {
     let Ok(buffer) = BootBuffer::new(alloc, layout, frame) else {
-        return Told {
-            answer: Answer::NoMemory,
-            image: None,
-        };
+        return Told::without(Answer::NoMemory);
     };
     let mut disk = ViewDisk::new(flash);
     let mut host = NoFiles::new();
@@ -82,28 +91,17 @@ fn boot_by(alloc: Global, flash: &[u8], layout: &Layout, frame: Frame, key: &Key
     let answer = boot_answer(&end);
     match end {
         BootEnd::Ended => {}
-        _ => {
-            return Told {
-                answer,
-                image: None,
-            };
-        }
+        _ => return Told::without(answer),
     }
     let Some(note) = launcher.noted() else {
-        return Told {
-            answer,
-            image: None,
-        };
+        return Told::without(answer);
     };
     match image_in(note, launcher.flash(), flash) {
         Some(image) => Told {
             answer,
             image: Some(image),
         },
-        None => Told {
-            answer: Answer::LaunchFault,
-            image: None,
-        },
+        None => Told::without(Answer::LaunchFault),
     }
 }
 
@@ -116,23 +114,17 @@ fn boot_from(alloc: Global, flash: &[u8]) -> Told
     ensures none { result.answer ≡ answers.Done → IsNone result.image → StartsNone flash.now }
 {
     let mut disk = ViewDisk::new(flash);
-    let answer = match load_config(alloc, &mut disk) {
-        Loaded::Config(layout, key, frame) => {
-            return boot_by(alloc, flash, &layout, frame, &key);
-        }
-        Loaded::Blank | Loaded::BadConfig => Answer::Unconfigured,
-        Loaded::FlashFault => Answer::FlashFault,
-        Loaded::NoMemory => Answer::NoMemory,
-    };
-    Told {
-        answer,
-        image: None,
+    match load_config(alloc, &mut disk) {
+        Loaded::Config(layout, key, frame) => boot_by(alloc, flash, &layout, frame, &key),
+        Loaded::Blank | Loaded::BadConfig => Told::without(Answer::Unconfigured),
+        Loaded::FlashFault => Told::without(Answer::FlashFault),
+        Loaded::NoMemory => Told::without(Answer::NoMemory),
     }
 }
 
-/// Boots from a flash that stands in memory, and tells the image that is to be started: 0 where the invocation procedure of what
-/// is installed ran to its end, and `out.found` is 1 where it invoked an image. Otherwise it is the program's status for the same,
-/// and `out.found` is 0. Nothing is written: a procedure that writes the flash is stopped by a fault of the flash.
+/// Boots from a flash in memory, and tells the image to be started. Returns 0 where the invocation procedure of what is installed
+/// ran to its end; `out.found` is 1 if it invoked an image. Otherwise returns the program's status for the same, and `out.found`
+/// is 0. Nothing is written: a procedure that writes the flash is stopped by a fault of the flash.
 #[unsafe(no_mangle)]
 pub extern "C" fn suit_boot(alloc: Global, flash: &[u8], out: &mut SuitImage) -> i32
     ensures answers { (answer : Answer) × (result ≡ code_of answer) × IsAnswer flash.now answer }

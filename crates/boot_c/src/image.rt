@@ -41,7 +41,7 @@ impl SuitImage {
     }
 }
 
-// What was noted, for a caller in C; none where the note names no digest, or a longer one.
+// The note for a caller in C, unless it names no digest or one of more than 64 bytes.
 fn image_of(note: &NotedImage) -> Option<SuitImage>
     ensures noted { IfSome result (IsNoted note.now) }
     ensures found { IfSome result (λ image. image.found ≡ 1) }
@@ -62,7 +62,7 @@ fn image_of(note: &NotedImage) -> Option<SuitImage>
     })
 }
 
-// Whether a note is of the same bytes in both, and these lie in the flash.
+// Whether the noted bytes lie in the flash and are the same in both.
 fn is_same(note: &NotedImage, seen: &[u8], flash: &[u8]) -> bool
     ensures same { IsTrue result → noted_bytes seen.now note.now ≡ noted_bytes flash.now note.now }
     ensures within { IsTrue result → note.now.place + note.now.length ≤ length flash.now }
@@ -73,8 +73,8 @@ fn is_same(note: &NotedImage, seen: &[u8], flash: &[u8]) -> bool
     }
 }
 
-/// The image of a flash that was noted of what a launcher had seen; none where the note names no digest, or one
-/// longer than 64 bytes.
+/// The noted image, if the flash has the bytes that the launcher saw. None if the note names no digest, or one of more
+/// than 64 bytes.
 pub(crate) fn image_in(note: &NotedImage, seen: &[u8], flash: &[u8]) -> Option<SuitImage>
     ensures found { IfSome result (λ image. image.found ≡ 1) }
     ensures launched { IfSome result (λ image.

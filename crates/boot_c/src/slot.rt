@@ -49,7 +49,7 @@ fn number_of(entry: &Entry, active: u8) -> u32
     }
 }
 
-// A component has room for two starts.
+// Shows the prover that there are two starts.
 fn room(starts: &[u64; 2])
     ensures { length starts.now ≡ 2 }
 {
@@ -154,9 +154,9 @@ fn slot_told(alloc: Global, flash: &[u8], component: u32, out: &mut SuitSlot) ->
     }
 }
 
-/// Tells where the content of a component stands that is in use, by its index in the layout: 0, and otherwise `out` stays as it
-/// was: 13 where the flash has no configuration, 18 where its layout has no such component in flash, and then 15 where it has no
-/// record; 8 where the flash failed and 11 where memory ran out.
+/// Tells where the content of the component with this index in the layout stands. Returns 0, or leaves `out` as it was and
+/// returns 13 where the flash has no configuration, 18 where its layout has no such component in flash, else 15 where it has
+/// no record; 8 where the flash failed, and 11 where memory ran out.
 #[unsafe(no_mangle)]
 pub extern "C" fn suit_slot(alloc: Global, flash: &[u8], component: u32, out: &mut SuitSlot) -> i32
     ensures slot { result ≡ code_of answers.Done → IsInUse flash.now component out.new }

@@ -4,6 +4,7 @@ use Rattle.step_machine.specs.declared.plan_end.PlanEnd.TheVariants as plays
 use Rattle.boot_c.specs.BootAnswers.{boot_answer}
 use Rattle.boot_c.proofs.Ends.{ended_so}
 use Rattle.boot_c.proofs.Images.{one_safe, only_ended}
+use Rattle.boot_c.proofs.Without.{same_answer, told_answers}
 use Rattle.flash_view.specs.Noting.{launches_in, launches_of, noted_launch}
 use Rattle.flash_view.specs.ViewDisk.{ViewState}
 use Rattle.invoke_proc.specs.Booting.{PlayedSo, PlaysBoot}
@@ -13,17 +14,19 @@ use Rattle.suit_answers.specs.declared.answer.Answer.TheVariants as answers
 use Rattle.suit_edge.specs.declared.launch.Launch.{Launch}
 use Rattle.boot_c.proofs.booting.boot_by.Goals as goal
 
-pub returns-in_default-end : goal.returns-in_default-end
-returns-in_default-end c = record {
-  answers = ended_so c.args.flash.now c.args.layout.now c.args.key.now c.args.frame c.new-disk.result c.new-disk.ensures c.requires.held c.boot-end.new.disk.bytes (launches_of c.new-launcher.result) (ap launches_of c.new-launcher.ensures) (launches_of c.boot-end.new.launcher) c.boot-end.result (c.boot-end.ensures.answers refl) (c.boot-end.ensures.plays refl refl) (c.boot-end.ensures.host refl refl) c.boot_answer-answer.result (inl c.boot_answer-answer.ensures);
-  image = tt;
-  within = tt;
-  none = λ done. λ none. absurd (c.in_default-end.not-Ended (only_ended c.boot-end.result (sym c.boot_answer-answer.ensures ∙ done)));
-}
+pub returns-in_default-end-clause-answers : goal.returns-in_default-end-clause-answers
+returns-in_default-end-clause-answers c =
+    told_answers _ _ c.without-in_default-end.ensures c.args.flash.now
+    (ended_so c.args.flash.now c.args.layout.now c.args.key.now c.args.frame c.new-disk.result c.new-disk.ensures c.requires.held c.boot-end.new.disk.bytes (launches_of c.new-launcher.result) (ap launches_of c.new-launcher.ensures) (launches_of c.boot-end.new.launcher) c.boot-end.result (c.boot-end.ensures.answers refl) (c.boot-end.ensures.plays refl refl) (c.boot-end.ensures.host refl refl) c.boot_answer-answer.result (inl c.boot_answer-answer.ensures))
+
+pub returns-in_default-end-clause-none : goal.returns-in_default-end-clause-none
+returns-in_default-end-clause-none c = λ done. λ none.
+    absurd (c.in_default-end.not-Ended (only_ended c.boot-end.result (sym c.boot_answer-answer.ensures ∙ (sym (same_answer _ _ c.without-in_default-end.ensures) ∙ done))))
 
 pub returns-in_default-noted-clause-answers : goal.returns-in_default-noted-clause-answers
 returns-in_default-noted-clause-answers c =
-    ended_so c.args.flash.now c.args.layout.now c.args.key.now c.args.frame c.new-disk.result c.new-disk.ensures c.requires.held c.boot-end.new.disk.bytes (launches_of c.new-launcher.result) (ap launches_of c.new-launcher.ensures) (launches_of c.boot-end.new.launcher) c.boot-end.result (c.boot-end.ensures.answers refl) (c.boot-end.ensures.plays refl refl) (c.boot-end.ensures.host refl refl) c.boot_answer-answer.result (inl c.boot_answer-answer.ensures)
+    told_answers _ _ c.without-in_default-noted.ensures c.args.flash.now
+    (ended_so c.args.flash.now c.args.layout.now c.args.key.now c.args.frame c.new-disk.result c.new-disk.ensures c.requires.held c.boot-end.new.disk.bytes (launches_of c.new-launcher.result) (ap launches_of c.new-launcher.ensures) (launches_of c.boot-end.new.launcher) c.boot-end.result (c.boot-end.ensures.answers refl) (c.boot-end.ensures.plays refl refl) (c.boot-end.ensures.host refl refl) c.boot_answer-answer.result (inl c.boot_answer-answer.ensures))
 
 pub returns-in_default-noted-clause-none : goal.returns-in_default-noted-clause-none
 returns-in_default-noted-clause-none c = λ done. λ none.
@@ -46,7 +49,8 @@ returns-in-Some-image_in-clause-answers c =
 -- an image without a digest is no image
 pub returns-in-None-clause-answers : goal.returns-in-None-clause-answers
 returns-in-None-clause-answers c =
-    ended_so c.args.flash.now c.args.layout.now c.args.key.now c.args.frame c.new-disk.result c.new-disk.ensures c.requires.held c.boot-end.new.disk.bytes (launches_of c.new-launcher.result) (ap launches_of c.new-launcher.ensures) (launches_of c.boot-end.new.launcher) c.boot-end.result (c.boot-end.ensures.answers refl) (c.boot-end.ensures.plays refl refl) (c.boot-end.ensures.host refl refl) answers.LaunchFault (inr (refl, c.in-Ended.is, (noted_launch c.boot-end.new.launcher.flash c.in-Some.note.now, ap (launches_in c.boot-end.new.launcher.flash) (sym c.in-Some.ensures))))
+    told_answers _ _ c.without-in-None.ensures c.args.flash.now
+    (ended_so c.args.flash.now c.args.layout.now c.args.key.now c.args.frame c.new-disk.result c.new-disk.ensures c.requires.held c.boot-end.new.disk.bytes (launches_of c.new-launcher.result) (ap launches_of c.new-launcher.ensures) (launches_of c.boot-end.new.launcher) c.boot-end.result (c.boot-end.ensures.answers refl) (c.boot-end.ensures.plays refl refl) (c.boot-end.ensures.host refl refl) answers.LaunchFault (inr (refl, c.in-Ended.is, (noted_launch c.boot-end.new.launcher.flash c.in-Some.note.now, ap (launches_in c.boot-end.new.launcher.flash) (sym c.in-Some.ensures)))))
 
 pub returns-in-Some-image_in-clause-image : goal.returns-in-Some-image_in-clause-image
 returns-in-Some-image_in-clause-image c =
