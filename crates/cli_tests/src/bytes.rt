@@ -2,7 +2,7 @@
 
 use std::alloc::{AllocError, Global};
 
-/// What stands before the first of these letters, and what behind it.
+/// The text before the first such letter, and the text after it.
 pub(crate) fn halves(text: &str, letter: char) -> (&str, &str) {
     text.split_once(letter).unwrap_or((text, ""))
 }
@@ -12,7 +12,7 @@ pub(crate) fn are_same(one: &[u8], other: &[u8]) -> bool {
     one == other
 }
 
-// The bytes of digits. Digits that are none end a test as running out of memory does.
+// The bytes of hexadecimal digits. Wrong digits end a test, as running out of memory does.
 fn bytes_of(alloc: Global, digits: &str) -> Result<Vec<u8>, AllocError> {
     match hex::decode(alloc, digits) {
         Ok(bytes) => Ok(bytes),
@@ -31,7 +31,7 @@ fn push_times(bytes: &mut Vec<u8>, piece: &[u8], times: u32) -> Result<(), Alloc
     Ok(())
 }
 
-// Adds a piece, behind which may stand how often it is repeated.
+// Adds a piece, as often as it says.
 fn push_piece(alloc: Global, bytes: &mut Vec<u8>, piece: &str) -> Result<(), AllocError> {
     let (digits, times) = piece.split_once('*').unwrap_or((piece, "1"));
     let once = bytes_of(alloc, digits)?;
@@ -71,7 +71,7 @@ fn replaced(
     joined(alloc, front, middle.as_slice(), back)
 }
 
-// The bytes after a change: its place, how many bytes are taken out, and the pieces that come there.
+// The bytes after a change: its place, how many bytes it takes out, and the pieces that it puts there.
 fn changed_once(alloc: Global, bytes: &[u8], change: &str) -> Result<Vec<u8>, AllocError> {
     let (place, rest) = halves(change, ' ');
     let (count, pieces) = halves(rest, ' ');
@@ -81,7 +81,7 @@ fn changed_once(alloc: Global, bytes: &[u8], change: &str) -> Result<Vec<u8>, Al
     }
 }
 
-/// The bytes after changes, each in a line, as `50 1 02`. They are done in turn.
+/// The bytes after some changes, one a line, such as `50 1 02`.
 pub(crate) fn changed(alloc: Global, bytes: &[u8], changes: &str) -> Result<Vec<u8>, AllocError> {
     let mut changed = bytes.to_vec(alloc)?;
     for change in changes.split('\n') {

@@ -1,4 +1,4 @@
-//! The first command that is not done where calls of the objects fail.
+//! The first of some commands to fail where calls of the objects fail.
 
 ghost use Rattle.std.specs.Prelude.{◌≡◌, ◌≤◌};
 
@@ -7,7 +7,7 @@ use crate::session::status_of;
 use std::alloc::{AllocError, Global};
 use suit_edge::{Disk, Host, Launcher, MemoryLauncher, MemorySink, Sink};
 
-// The status of the first command that is not done, or 0.
+// The status of the first command that fails, or 0.
 fn first_fault<H: Host, D: Disk, L: Launcher, K: Sink>(
     alloc: Global,
     host: &mut H,
@@ -43,7 +43,7 @@ fn fault_with_launcher<H: Host, D: Disk, L: Launcher>(
     first_fault(alloc, host, flash, commands, launcher, &mut sink)
 }
 
-/// The status of the first of these commands that is not done where these calls of the launcher and the sink fail, or 0.
+/// The status of the first of these commands that fails, or 0, where these calls of the launcher and the sink fail.
 pub(crate) fn fault_with<H: Host, D: Disk>(
     alloc: Global,
     commands: &str,

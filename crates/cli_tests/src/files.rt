@@ -1,4 +1,4 @@
-//! The files of the sessions: devices, keys, images, and descriptions of updates. And the flash.
+//! The files of the sessions: devices, keys, images, and descriptions of updates; and the flash.
 
 ghost use Rattle.std.specs.Prelude.{◌≡◌, IfOk, length};
 
@@ -93,7 +93,7 @@ fn add_update(alloc: Global, row: &str, host: &mut MemoryHost) -> Result<(), All
     host.add(name, text.as_bytes())
 }
 
-// Adds the files that are no text.
+// Adds the files that are not text.
 fn add_images(host: &mut MemoryHost) -> Result<(), AllocError> {
     host.add("empty.img", b"")?;
     host.add("full.img", &[b'f'; 1024])?;
@@ -125,21 +125,21 @@ fn add_all(alloc: Global, host: &mut MemoryHost) -> Result<(), AllocError> {
     add_updates(alloc, UPDATES, host)
 }
 
-/// A host with the files, of which these calls fail.
+/// A host with the files, where these calls fail.
 pub(crate) fn with_files(alloc: Global, fails: &[u64]) -> Result<MemoryHost, AllocError> {
     let mut host = MemoryHost::new(alloc, fails)?;
     add_all(alloc, &mut host)?;
     Ok(host)
 }
 
-// A flash of so many zero bytes, of which these calls fail. Over any size the prover counts no zeros.
+// A flash of so many zero bytes, where these calls fail. The size is a parameter, so that the prover counts no zeros.
 fn zeros(alloc: Global, size: usize, fails: &[u64]) -> Result<MemoryDisk, AllocError>
     ensures { IfOk result (λ flash. length flash.first ≡ size) }
 {
     MemoryDisk::new(alloc, size, fails)
 }
 
-/// A flash of 65,536 zero bytes, of which these calls fail.
+/// A flash of 65,536 zero bytes, where these calls fail.
 pub(crate) fn blank(alloc: Global, fails: &[u64]) -> Result<MemoryDisk, AllocError>
     ensures { IfOk result (λ flash. length flash.first ≡ 65536) }
 {

@@ -1,5 +1,5 @@
-//! Tests of the program: sessions of commands, through its top call on objects in memory, and the real objects; and of the draws of
-//! `conformance`. They stand apart: a crate that holds its own tests is proved twice.
+//! Tests of the program: sessions of commands through `run`, on objects in memory and on the real ones; and tests of the draws
+//! of `conformance`. They are a crate of their own, since a crate with tests is proved twice.
 #![tactic(auto)]
 
 #[cfg(test)]

@@ -1,12 +1,12 @@
-//! Sessions: steps that are done in turn on the same objects, and what each ends with.
+//! Sessions: steps on the same objects, one after another, and how each is to end.
 //!
-//! A step is a few lines, of which the first says what is done:
+//! A step is a few lines. The first says what to do:
 //!
-//! - `text NAME` stores a file of the lines behind it, and `file NAME` one of bytes in hexadecimal;
-//! - `change NAME OTHER` stores another file after changes, as `50 1 02`: place, how many bytes are taken out, and the new ones;
-//! - `holds NAME` is done if the file is just these bytes, and `lacks NAME` if there is none;
-//! - `flash PLACE` writes bytes to the flash, and `stands PLACE` is done if it gives these;
-//! - any other line is a command: behind it stand its status, and the lines that are put.
+//! - `text NAME` stores a file of the lines that follow, and `file NAME` one of bytes in hexadecimal;
+//! - `change NAME OTHER` stores a changed copy of another file; `50 1 02` puts 02 in place of 1 byte at 50;
+//! - `holds NAME` passes if the file has exactly these bytes, and `lacks NAME` if there is none;
+//! - `flash PLACE` writes bytes to the flash, and `stands PLACE` passes if it reads these;
+//! - any other line is a command; its status and its output follow.
 
 ghost use Rattle.std.specs.Prelude.{◌≡◌, ◌≤◌};
 
@@ -34,20 +34,20 @@ bank 0
 digest 2ede1de95a655c3dae8ceff0cb6a7dab3112f7110678df0ef8653bf63c795c99
 component 0 slot 1 length 3";
 
-/// What wrong words are answered. A row names the line `USAGE`.
+/// The answer to wrong words. A row names the line `USAGE`.
 const USAGE: &str =
     "usage: suit make DESCRIPTION KEY OUT | show FILE [KEY] | check FILE | run init DEVICE KEY | run update FILE [URI=NAME]... | run boot | run status | run migrate BASE | drill NUMBER";
 
-/// A command, and what it ends with.
+/// A command, and how it is to end.
 #[derive(Clone, Copy)]
 struct Row<'a> {
     command: &'a str,
     status: u32,
-    /// The lines that are put, without the end of the last one; none where the sink fails.
+    /// The output without its last line feed; none if the sink is to fail.
     lines: Option<&'a str>,
 }
 
-// The lines that a row names or has.
+// The lines that a row names, or its own.
 fn named(lines: &str) -> &str {
     match lines {
         "FIRST UPDATE" => FIRST_UPDATE,
@@ -101,7 +101,7 @@ pub(crate) fn status_of<H: Host, D: Disk, L: Launcher, K: Sink>(
     Ok(run_by_laws(alloc, &words, host, flash, launcher, sink).0)
 }
 
-// Whether these lines were put.
+// Whether this is the output.
 fn are_put(put: &[u8], lines: Option<&str>) -> bool {
     match (put.strip_suffix(b"\n"), lines) {
         (Some(text), Some(lines)) => are_same(text, lines.as_bytes()),
@@ -127,7 +127,7 @@ fn ends_so<H: Host, D: Disk, L: Launcher>(
     Ok(status as u32 == row.status && are_put(sink.bytes(), row.lines))
 }
 
-// Whether a step goes so.
+// Whether a step passes.
 fn goes<H: Host, D: Disk, L: Launcher>(
     alloc: Global,
     host: &mut H,
@@ -154,7 +154,7 @@ fn goes<H: Host, D: Disk, L: Launcher>(
     }
 }
 
-// Whether each step of a session goes so. Between two steps there is an empty line.
+// Whether each step of a session passes. An empty line stands between two steps.
 fn goes_so<H: Host, D: Disk, L: Launcher>(
     alloc: Global,
     host: &mut H,
@@ -173,7 +173,7 @@ fn goes_so<H: Host, D: Disk, L: Launcher>(
     Ok(true)
 }
 
-/// Whether a session goes so, and then another one.
+/// Whether one session passes, and then another.
 pub(crate) fn goes_after<H: Host, D: Disk, L: Launcher>(
     alloc: Global,
     host: &mut H,
@@ -190,7 +190,7 @@ pub(crate) fn goes_after<H: Host, D: Disk, L: Launcher>(
     )
 }
 
-// Whether the digest of this image is named.
+// Whether this is the SHA-256 of the image.
 fn is_digest_of(digest: &Option<Bytes>, image: &[u8]) -> bool {
     match digest {
         Some(digest) => are_same(digest.as_slice(), Sha256::digest(image).as_slice()),
@@ -198,7 +198,7 @@ fn is_digest_of(digest: &Option<Bytes>, image: &[u8]) -> bool {
     }
 }
 
-// Whether this image was launched by its digest and size, and without arguments.
+// Whether this image was launched, with its digest and size and without arguments.
 fn is_launched(launch: &Launch, image: &[u8]) -> bool {
     launch.component == 0
         && are_same(launch.bytes.as_slice(), image)
@@ -207,7 +207,7 @@ fn is_launched(launch: &Launch, image: &[u8]) -> bool {
         && launch.args.is_none()
 }
 
-/// Whether these images were launched as component 0, and nothing else.
+/// Whether exactly these images were launched, as component 0.
 pub(crate) fn are_launched(launches: &Launches, images: &[&[u8]]) -> bool {
     let found = launches.as_slice();
     if found.len() != images.len() {

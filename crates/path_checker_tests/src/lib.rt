@@ -1,4 +1,5 @@
-//! Tests of `path_checker`, over public calls alone: a crate that holds its own tests is proved twice.
+//! Tests of `path_checker` that use only its public calls. They have their own crate, since a crate that holds its
+//! tests is proved twice.
 #![tactic(auto)]
 
 #[cfg(test)]

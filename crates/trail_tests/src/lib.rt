@@ -1,4 +1,4 @@
-//! A trail in memory, which meets `Trail` and tells its list: so the trait's contract can be met.
+//! A trail in memory that meets `Trail` and tells its list. It shows that the trait's contract can be met.
 #![tactic(auto)]
 
 mod memory_trail;

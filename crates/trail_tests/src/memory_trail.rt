@@ -10,7 +10,7 @@ use suit_edge::{Disk, Edge};
 /// The most outcomes that a trail in memory holds.
 pub const MOST_OUTCOMES: usize = 64;
 
-/// Outcomes in memory, of which the first were recalled. They do not outlive a loss of power.
+/// Outcomes in memory, of which the first few are recalled. They do not outlive a power loss.
 #[derive(Drop)]
 pub struct MemoryTrail {
     outcomes: ArrayVec<bool, MOST_OUTCOMES>,

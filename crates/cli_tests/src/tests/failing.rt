@@ -1,4 +1,4 @@
-//! A first update and its boot, told before and after, where each call of each object fails in turn.
+//! A first update and its boot, where each call of each object fails in turn.
 
 use crate::fails::{Fails, Object};
 use crate::faults::fault_with;
@@ -21,13 +21,13 @@ fn fault_by<H: Host>(alloc: Global, fails: &Fails<'_>, host: &mut H) -> Result<u
     fault_with(alloc, COMMANDS, fails, host, &mut flash)
 }
 
-// The status of the first command that is not done where these calls fail.
+// The status of the first command that fails where these calls fail.
 fn fault(alloc: Global, fails: &Fails<'_>) -> Result<u8, AllocError> {
     let mut host = with_files(alloc, fails.host)?;
     fault_by(alloc, fails, &mut host)
 }
 
-// Whether each of so many calls of an object ends a command with this status where it fails, and no later one does.
+// Whether a command fails with this status at each of so many calls of an object, and at no later one.
 fn each_is_told(alloc: Global, object: Object, calls: u64, status: u8) -> Result<bool, AllocError> {
     for call in 0..calls {
         if fault(alloc, &Fails::of(object, &[call]))? != status {
@@ -37,7 +37,7 @@ fn each_is_told(alloc: Global, object: Object, calls: u64, status: u8) -> Result
     Ok(fault(alloc, &Fails::of(object, &[calls]))? == 0)
 }
 
-/// As many calls as the commands make of each object.
+/// How many calls the commands make of each object.
 const HOST_CALLS: u64 = 34;
 
 const FLASH_CALLS: u64 = 48;

@@ -6,7 +6,7 @@ use crate::session::{BEGUN, are_launched, goes_after};
 use std::alloc::{AllocError, Global};
 use suit_edge::{Host, Launcher, MemoryLauncher};
 
-// Whether two sessions go so, one after the other, on a blank flash, of which these calls fail.
+// Whether two sessions pass one after the other on a blank flash, where these calls of the flash fail.
 fn goes_on_blank<H: Host, L: Launcher>(
     alloc: Global,
     sessions: (&str, &str),
@@ -18,7 +18,7 @@ fn goes_on_blank<H: Host, L: Launcher>(
     goes_after(alloc, host, &mut flash, launcher, sessions)
 }
 
-// Whether they do with the files, where these calls fail.
+// The same with the files, where these calls fail.
 fn goes_with_files<L: Launcher>(
     alloc: Global,
     sessions: (&str, &str),
@@ -29,7 +29,7 @@ fn goes_with_files<L: Launcher>(
     goes_on_blank(alloc, sessions, fails.flash, &mut host, launcher)
 }
 
-/// Whether they do where these calls of the host, the flash and the launcher fail, and launch these images.
+/// Whether two sessions pass on a blank flash and launch these images, where these calls of host, flash and launcher fail.
 pub(crate) fn both_launch(
     alloc: Global,
     sessions: (&str, &str),
@@ -46,7 +46,7 @@ pub(crate) fn both_go(alloc: Global, sessions: (&str, &str)) -> Result<bool, All
     both_launch(alloc, sessions, Fails::of(Object::Host, &[]), &[])
 }
 
-/// The same of one session after what begins.
+/// The same for one session after `BEGUN`.
 pub(crate) fn launches_past(
     alloc: Global,
     session: &str,
@@ -80,7 +80,7 @@ fn goes_on_large_with_files<L: Launcher>(
     goes_on_large(alloc, sessions, &mut host, launcher)
 }
 
-/// Whether two sessions go so on a blank flash with room for layout version 2, and launch these images.
+/// Whether two sessions pass on a blank flash with room for layout version 2, and launch these images.
 pub(crate) fn both_launch_on_large(
     alloc: Global,
     sessions: (&str, &str),

@@ -84,7 +84,7 @@ run update 1.suit img=abc.img
 0
 installed 1";
 
-// The call of the host by which the envelope's first piece is pulled.
+// The call of the host that pulls the envelope's first piece.
 const ENVELOPE_PULL: u64 = 17;
 
 const FAILED_WRITE: &str = "run update 1.suit img=abc.img
@@ -114,7 +114,7 @@ run update 1.suit img=abc.img
 0
 installed 1";
 
-// The last call of the flash without which nothing is recorded.
+// The last call of the flash that the record needs.
 const LAST_OF_RECORD: u64 = 28;
 
 const FAILED_LAUNCH: &str = "make 1-at-once.json k u.suit
@@ -133,7 +133,7 @@ run update u.suit img=abc.img
 0
 installed 1";
 
-// The call of the host by which this fetch pulls its first piece.
+// The call of the host that pulls the first piece of this fetch.
 const FIRST_PULL: u64 = 20;
 
 const FAILED_FETCH: &str = "run status
@@ -180,7 +180,7 @@ run boot
 0
 ended";
 
-// Whether the session goes so after the update where one call of the flash fails, whichever that is.
+// Whether the session passes after the update if some call of the flash fails.
 fn one_call_fails_so(alloc: Global, session: &str) -> Result<bool, AllocError> {
     for call in 0..100u64 {
         let calls = [call];
@@ -243,7 +243,7 @@ run boot
 0
 ended";
 
-// The call of the host by which that fetch pulls its third piece.
+// The call of the host that pulls the third piece of that fetch.
 const THIRD_PULL: u64 = 24;
 
 #[test]

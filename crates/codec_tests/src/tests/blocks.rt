@@ -1,12 +1,12 @@
-//! Mac0 blocks, against blocks of another program.
+//! Compares Mac0 blocks with those of another program.
 
 use crate::tests::rows::{fields_of, split_field};
 use hmac_mac0::{MacKind, MacVerdict, make_block, verify};
 use lane_bytes::same;
 use std::alloc::{AllocError, Global};
 
-// Kids (`-` for none), keys, payloads and their blocks by HMAC 256/256, computed by Python's hmac. The keys are of 16, 64, 65, 128
-// and 129 bytes.
+// Kids (`-` for none), keys, payloads, and their blocks by HMAC 256/256, computed by Python's hmac. The keys have 16,
+// 64, 65, 128 and 129 bytes.
 const BY_SHA_256: &str = "
 - 000102030405060708090a0b0c0d0e0f 822f582005b3abf2579a5eb66403cd78be557fd860633a1fe2103c7642030defe32c657f d18443a10105a0f658200e5ed827dd49a8aece6e5d7be1c52b0b6b91e1241cdd57415c0f3d4fd2263774
 dev1 000102030405060708090a0b0c0d0e0f101112131415161718191a1b1c1d1e1f202122232425262728292a2b2c2d2e2f303132333435363738393a3b3c3d3e3f 822f582005b3abf2579a5eb66403cd78be557fd860633a1fe2103c7642030defe32c657f d18443a10105a1044464657631f65820c81b9565d11fde8d363e26a6dddb4f83ab2423184329ee94b8e9295215cc4feb
@@ -24,8 +24,9 @@ dev1 000102030405060708090a0b0c0d0e0f101112131415161718191a1b1c1d1e1f20212223242
 dev1 000102030405060708090a0b0c0d0e0f101112131415161718191a1b1c1d1e1f202122232425262728292a2b2c2d2e2f303132333435363738393a3b3c3d3e3f404142434445464748494a4b4c4d4e4f505152535455565758595a5b5c5d5e5f606162636465666768696a6b6c6d6e6f707172737475767778797a7b7c7d7e7f80 822f582005b3abf2579a5eb66403cd78be557fd860633a1fe2103c7642030defe32c657f d18443a10107a1044464657631f6584053d051cc18ea4e7a043db95db9cf7fcb33153120dc6066554edb07270a452beaeb45cca6d3c231cd5b88787cb843d60a42bd969933aed2951016caf4d1c73387
 ";
 
-// A key, a payload, blocks with other tags, the tags that are expected and those of the blocks. By HMAC 512/512 the tag cut to 32
-// bytes and the tag of HMAC 256/256; by HMAC 256/256 the tag of HMAC 512/512, and that cut to 32 bytes; a byte behind the tag.
+// A key, a payload, a block with another tag, the tag that is expected, and that of the block. By HMAC 512/512: the tag
+// cut to 32 bytes, and the tag of HMAC 256/256. By HMAC 256/256: the tag of HMAC 512/512, and that cut to 32 bytes.
+// Last, one more byte after the tag.
 const DIFFERING: &str = "
 000102030405060708090a0b0c0d0e0f 822f582005b3abf2579a5eb66403cd78be557fd860633a1fe2103c7642030defe32c657f d18443a10107a0f658208df3995709105ed0d33f9ca3b5b993df942eafb0940b3a30c3f1509804e00630 8df3995709105ed0d33f9ca3b5b993df942eafb0940b3a30c3f1509804e006307a3349d40b9402b4f85e784eb7689b47580c999aee0229699e669e5b2d4ffd9d 8df3995709105ed0d33f9ca3b5b993df942eafb0940b3a30c3f1509804e00630
 000102030405060708090a0b0c0d0e0f 822f582005b3abf2579a5eb66403cd78be557fd860633a1fe2103c7642030defe32c657f d18443a10107a0f65820ff22a32eec3575440b501fc0e55b706371617ddf1277e4b96363cc966934f299 8df3995709105ed0d33f9ca3b5b993df942eafb0940b3a30c3f1509804e006307a3349d40b9402b4f85e784eb7689b47580c999aee0229699e669e5b2d4ffd9d ff22a32eec3575440b501fc0e55b706371617ddf1277e4b96363cc966934f299
@@ -42,7 +43,7 @@ fn kid_of(text: &str) -> Option<&[u8]> {
     }
 }
 
-// Whether a block verifies and is made.
+// Whether a block verifies, and is the one that is made.
 fn is_block(
     alloc: Global,
     mac: MacKind,
@@ -55,7 +56,7 @@ fn is_block(
     Ok(same(made.as_slice(), block) && matches!(verify(block, key, payload), MacVerdict::Verified))
 }
 
-// Whether a row's block does.
+// Whether the block of a row is.
 fn is_made(alloc: Global, mac: MacKind, row: &str) -> Result<bool, AllocError> {
     let (kid, rest) = split_field(row);
     let fields = fields_of(alloc, rest)?;
@@ -72,7 +73,7 @@ fn is_made(alloc: Global, mac: MacKind, row: &str) -> Result<bool, AllocError> {
     }
 }
 
-// Whether a verdict tells these tags as differing.
+// Whether a verdict says that these tags differ.
 fn tells(verdict: MacVerdict<'_>, expected_tag: &[u8], found_tag: &[u8]) -> bool {
     match verdict {
         MacVerdict::Differs { expected, found } => {
@@ -82,7 +83,7 @@ fn tells(verdict: MacVerdict<'_>, expected_tag: &[u8], found_tag: &[u8]) -> bool
     }
 }
 
-// Whether a row's block differs as it says.
+// Whether the block of a row differs as the row says.
 fn is_differing(alloc: Global, row: &str) -> Result<bool, AllocError> {
     let fields = fields_of(alloc, row)?;
     match fields.as_slice() {

@@ -1,10 +1,10 @@
-//! Comparisons by lanes beside plain loops, at each length up to 130.
+//! Compares `lane_bytes` with plain loops, for each length up to 130.
 
 ghost use Rattle.std.specs.Prelude.{◌≡◌, ◌<◌, ◌≤◌, length};
 
 use lane_bytes::{first_other, only_clears, same};
 
-/// The index of the first byte that differs, byte by byte.
+/// Returns the index of the first other byte, found byte by byte.
 fn plain_first_other(a: &[u8], byte: u8) -> Option<usize> {
     for i in 0..a.len() {
         if a[i] != byte {
@@ -14,7 +14,7 @@ fn plain_first_other(a: &[u8], byte: u8) -> Option<usize> {
     None
 }
 
-/// Whether bits are only cleared, byte by byte.
+/// Whether bits are only cleared, judged byte by byte.
 fn plain_only_clears(old: &[u8], new: &[u8]) -> bool {
     for i in 0..old.len().min(new.len()) {
         if new[i] & !old[i] != 0 {
@@ -24,7 +24,7 @@ fn plain_only_clears(old: &[u8], new: &[u8]) -> bool {
     true
 }
 
-/// Whether all three agree with the plain loops at bytes that differ at most in one place.
+/// Whether all three functions agree with the plain loops, for bytes that differ in one place at most.
 fn agree(old: &[u8], new: &[u8], differ: bool) -> bool {
     old.len() == new.len()
         && same(old, new) != differ
@@ -32,7 +32,7 @@ fn agree(old: &[u8], new: &[u8], differ: bool) -> bool {
         && only_clears(old, new) == plain_only_clears(old, new)
 }
 
-/// Whether all agree where a byte is changed. It is as it was then.
+/// Whether all agree once a byte is changed. The byte is then restored.
 fn agree_with(old: &[u8], new: &mut [u8], place: usize, byte: u8) -> bool
     requires { place < length new.old }
     ensures { length new.new ≡ length new.old }
@@ -57,7 +57,7 @@ fn agree_each(old: &[u8], new: &mut [u8]) -> bool {
     true
 }
 
-/// Whether all agree at this length.
+/// Whether all agree for this length.
 fn agree_at(n: usize) -> bool
     requires { n ≤ 130 }
 {

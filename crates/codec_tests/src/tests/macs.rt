@@ -1,12 +1,12 @@
-//! Codes of messages, against vectors from outside.
+//! Compares message authentication codes with vectors from outside.
 
 use crate::tests::rows::fields_of;
 use hmac_mac0::{Mac, Mac512, hmac, hmac512};
 use lane_bytes::same;
 use std::alloc::{AllocError, Global};
 
-// Keys, messages and their codes by SHA-256 and SHA-512 in hexadecimal (RFC 4231, section 4, which gives one code cut to 16 bytes).
-// Then keys of 63 to 65 and 127 to 129 bytes: one that is longer than a block is hashed.
+// Keys, messages, and their codes by SHA-256 and SHA-512, in hexadecimal (RFC 4231, section 4, which gives one code cut
+// to 16 bytes). After them, keys of 63 to 65 and of 127 to 129 bytes: a key that is longer than a block is hashed.
 const VECTORS: &str = "
 0b0b0b0b0b0b0b0b0b0b0b0b0b0b0b0b0b0b0b0b 4869205468657265 b0344c61d8db38535ca8afceaf0bf12b881dc200c9833da726e9376c2e32cff7 87aa7cdea5ef619d4ff0b4241a1d6cb02379f4e2ce4ec2787ad0b30545e17cdedaa833b7d6b8a702038b274eaea3f4e4be9d914eeb61f1702e696c203a126854
 4a656665 7768617420646f2079612077616e7420666f72206e6f7468696e673f 5bdcc146bf60754e6a042426089575c75a003f089d2739839dec58b964ec3843 164b7a7bfcf819e2e395fbe73b56e0a387bd64222e831fd610270cd7ea2505549758bf75c05a994a6d034f65f8f0e6fdcaeab1a34d4a6b4b636e070a38bce737
@@ -39,7 +39,7 @@ fn in_two_pieces_512(key: &[u8], message: &[u8]) -> [u8; 64] {
     mac.finish()
 }
 
-// Whether a code is this one, which may be cut.
+// Whether a code is this one, or begins with it if it is cut.
 fn is_code(found: &[u8], code: &[u8]) -> bool {
     code.len() >= 16 && found.starts_with(code)
 }

@@ -1,4 +1,4 @@
-//! Maps of parameters (draft-ietf-suit-manifest-25, section 8.4.8), laid out by hand. The first byte has the place 100.
+//! Maps of parameters (draft-ietf-suit-manifest-25, section 8.4.8), made by hand. The first byte has the place 100.
 
 use crate::tests::rows::bytes_of;
 use det_cbor::{Bytes, Cursor};
@@ -8,7 +8,7 @@ use suit_params::{
     Digest, Fault, ParamList, Refusal, Why, push_digest, read_digest, read_params, write_params,
 };
 
-// Each parameter, by the numbers of the draft.
+// A map with each parameter, by the numbers of the draft.
 const EACH: &str =
     "ac015001010101010101010101010101010101025002020202020202020202020202020202035824822f5820030303030303030303030303030303030303030303030303030303030303030305050cf50df40e0312420102156423696d67160117422d7618185018181818181818181818181818181818";
 
@@ -31,7 +31,7 @@ fn copied(alloc: Global, list: &ParamList) -> Result<ParamList, AllocError> {
     Ok(copies)
 }
 
-// Whether a copy of the list is written so.
+// Whether a copy of the list is written as these bytes.
 fn is_written(alloc: Global, list: &ParamList, bytes: &[u8]) -> Result<bool, AllocError> {
     let copies = copied(alloc, list)?;
     let mut written = Bytes::new(alloc);
@@ -39,7 +39,7 @@ fn is_written(alloc: Global, list: &ParamList, bytes: &[u8]) -> Result<bool, All
     Ok(same(written.as_slice(), bytes))
 }
 
-// Whether the bytes are each parameter, and written again.
+// Whether the bytes are read as a list of each parameter, and written again.
 fn are_each(alloc: Global, bytes: &[u8]) -> Result<bool, AllocError> {
     let mut cursor = Cursor::new(bytes, 100);
     match read_params(alloc, &mut cursor, 2) {
@@ -72,14 +72,14 @@ fn other_maps_are_refused(rt: HostRuntime) {
     assert!(rt; is_refused(rt.alloc(), b"\xa1\x03\x43\x82\x2e\x40", 103, Why::Algorithm));
 }
 
-// The arrays of digests by each hash function (RFC 9054, section 2), and a byte behind each.
+// The arrays of digests by each hash function (RFC 9054, section 2), each with one more byte.
 const DIGESTS: &str = "
 822f5820070707070707070707070707070707070707070707070707070707070707070700
 82382a583007070707070707070707070707070707070707070707070707070707070707070707070707070707070707070707070700
 82382b58400707070707070707070707070707070707070707070707070707070707070707070707070707070707070707070707070707070707070707070707070707070700
 ";
 
-// Digests of another length than that of their hash function, and two numbers of no hash function.
+// Digests whose length is not that of their hash function, and two numbers that are not those of a hash function.
 const OTHERS: &str = "
 822f5830070707070707070707070707070707070707070707070707070707070707070707070707070707070707070707070707
 82382a58200707070707070707070707070707070707070707070707070707070707070707
@@ -89,7 +89,7 @@ const OTHERS: &str = "
 82182b584007070707070707070707070707070707070707070707070707070707070707070707070707070707070707070707070707070707070707070707070707070707
 ";
 
-// Whether a digest and the byte behind it are written so.
+// Whether a digest and the byte after it are written as these bytes.
 fn is_written_so(alloc: Global, digest: &Digest, bytes: &[u8]) -> Result<bool, AllocError> {
     let mut out = Bytes::new(alloc);
     push_digest(&mut out, digest)?;
@@ -97,7 +97,7 @@ fn is_written_so(alloc: Global, digest: &Digest, bytes: &[u8]) -> Result<bool, A
     Ok(same(out.as_slice(), bytes))
 }
 
-// Whether a row's digest is read up to the byte behind it, and written as it was.
+// Whether the digest of a row is read up to the last byte, and written again.
 fn is_read(alloc: Global, row: &str) -> Result<bool, AllocError> {
     let bytes = bytes_of(alloc, row)?;
     let mut cursor = Cursor::new(bytes.as_slice(), 100);
@@ -115,7 +115,7 @@ fn digests_of_three_lengths_are_read(rt: HostRuntime) -> Result<(), AllocError> 
     Ok(())
 }
 
-// Whether a row's digest is refused for its algorithm, at its array.
+// Whether the digest of a row is refused for its algorithm, at the place of its array.
 fn is_of_no_algorithm(alloc: Global, row: &str) -> Result<bool, AllocError> {
     let bytes = bytes_of(alloc, row)?;
     let mut cursor = Cursor::new(bytes.as_slice(), 100);

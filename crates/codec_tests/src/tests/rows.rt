@@ -1,9 +1,9 @@
-//! The fields of table rows.
+//! The fields of rows.
 
 use det_cbor::Reason;
 use std::alloc::{AllocError, Global};
 
-/// The bytes of a text in hexadecimal. Another text is an error.
+/// The bytes that a text spells in hexadecimal. Any other text returns an error.
 pub(crate) fn bytes_of(alloc: Global, text: &str) -> Result<Vec<u8>, AllocError> {
     match hex::decode(alloc, text) {
         Ok(bytes) => Ok(bytes),
@@ -11,12 +11,12 @@ pub(crate) fn bytes_of(alloc: Global, text: &str) -> Result<Vec<u8>, AllocError>
     }
 }
 
-/// A row's field up to the first space, and what stands behind it.
+/// A row's first field, up to a space, and what comes after it.
 pub(crate) fn split_field(row: &str) -> (&str, &str) {
     row.split_once(' ').unwrap_or((row, ""))
 }
 
-/// The fields of a row between spaces, in hexadecimal.
+/// The fields of a row, in hexadecimal, with spaces between them.
 pub(crate) fn fields_of(alloc: Global, row: &str) -> Result<Vec<Vec<u8>>, AllocError> {
     let mut fields = Vec::new(alloc);
     for text in row.split(' ') {
@@ -25,7 +25,7 @@ pub(crate) fn fields_of(alloc: Global, row: &str) -> Result<Vec<Vec<u8>>, AllocE
     Ok(fields)
 }
 
-/// The name of a reason in a row.
+/// The name that rows have for a reason.
 pub(crate) fn name_of(reason: Reason) -> &'static str {
     match reason {
         Reason::Truncated => "truncated",

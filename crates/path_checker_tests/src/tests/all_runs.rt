@@ -1,11 +1,11 @@
-//! All runs of a small procedure for fixed identities, one after another, as a yardstick for the judgement.
+//! Makes all runs of a small procedure for fixed identities, one by one, to compare the judgement with.
 
 use path_model::{Event, Events, Identity};
 use std::alloc::{AllocError, Global};
 use suit_commands::{ActKind, Branches, Command, Plan, Selection, Sequence, Step, TestKind};
 use suit_params::{Digest, Param, ParamKey, ParamList};
 
-// How a run stands. A failure of an inner sequence that ended softly is passed over by the sequence round it.
+// Where a run is. `Softly` is a soft failure of an inner sequence, which the outer sequence passes over.
 #[derive(Clone, Copy, PartialEq, Eq)]
 enum End {
     Going,
@@ -14,7 +14,7 @@ enum End {
     Directive,
 }
 
-/// A run so far: what happened, the parameters that were set, the last one last, and the running sequence's own.
+/// A run so far: its events, the parameters that were set in order, and the selection and soft failure of the sequence.
 #[derive(Drop)]
 pub(crate) struct Run<'a> {
     pub events: Events,
@@ -26,10 +26,10 @@ pub(crate) struct Run<'a> {
 
 type Runs<'a> = Vec<Run<'a>>;
 
-// The result of runs: nothing, or memory ran out.
+// Nothing, or memory ran out.
 type Done = Result<(), AllocError>;
 
-/// For whom the runs are, how deep an inner sequence may still be, and where a command is done.
+/// The identities of a run, how many levels of inner sequences are still allowed, and where a command is done.
 #[derive(Clone, Copy)]
 pub(crate) struct At<'s> {
     pub alloc: Global,
@@ -40,7 +40,7 @@ pub(crate) struct At<'s> {
 }
 
 impl<'a> Run<'a> {
-    // The same with other events.
+    // A copy of the run with other events.
     fn with(&self, alloc: Global, events: Events) -> Result<Run<'a>, AllocError> {
         Ok(Run {
             events,
@@ -51,7 +51,7 @@ impl<'a> Run<'a> {
         })
     }
 
-    // The same after one more event.
+    // A copy of the run with one more event.
     fn and(&self, alloc: Global, event: Event) -> Result<Run<'a>, AllocError> {
         let mut events = self.events.copy(alloc)?;
         events.push(event)?;
@@ -62,7 +62,7 @@ impl<'a> Run<'a> {
         self.with(alloc, self.events.copy(alloc)?)
     }
 
-    // The run as it enters an inner sequence after these events.
+    // The run as it enters an inner sequence, with these events.
     fn entering(
         &self,
         at: At<'_>,
@@ -75,7 +75,8 @@ impl<'a> Run<'a> {
         Ok(run)
     }
 
-    // A run of an inner sequence, as the sequence round it goes on.
+    // The run as it leaves an inner sequence: a soft failure is passed over, and selection and soft failure are
+    // restored.
     fn leaving(mut self, alloc: Global, outer: &Run<'a>) -> Result<Run<'a>, AllocError> {
         if self.end == End::Condition && self.soft_failure {
             self.end = End::Softly;
@@ -86,7 +87,7 @@ impl<'a> Run<'a> {
         Ok(self)
     }
 
-    // A parameter of a component, as it was set last.
+    // The parameter of a component that was set last.
     fn get(&self, component: u32, key: ParamKey) -> Option<&'a Param> {
         let mut found = None;
         for (of, param) in &self.set {
@@ -112,7 +113,7 @@ impl<'a> Run<'a> {
     }
 }
 
-// A failure ends a run.
+// Ends a run with a failure.
 fn fail<'a>(at: At<'_>, run: Run<'a>, end: End, out: &mut Runs<'a>) -> Done {
     let mut run = run;
     run.events.push(Event::Failed { place: at.place })?;
@@ -285,7 +286,7 @@ fn sequence<'a>(at: At<'_>, held: &'a Sequence, from: Runs<'a>) -> Result<Runs<'
     Ok(runs)
 }
 
-// The runs after one more step.
+// The runs after one more command of a sequence.
 #[cycle(runs)]
 fn after_step<'a>(at: At<'_>, step: &'a Step, runs: Runs<'a>) -> Result<Runs<'a>, AllocError> {
     let mut at = at;
@@ -308,7 +309,7 @@ fn select<'a>(at: At<'_>, selection: &Selection, run: Run<'a>, out: &mut Runs<'a
     Ok(())
 }
 
-// A command, at each selected component.
+// Does a command at each selected component.
 #[cycle(runs)]
 fn each<'a>(at: At<'_>, command: &'a Command, run: Run<'a>, out: &mut Runs<'a>) -> Done {
     if let Command::Index(selection) = command {
@@ -339,7 +340,7 @@ fn at_one<'a>(at: At<'_>, command: &'a Command, runs: Runs<'a>) -> Result<Runs<'
     Ok(out)
 }
 
-// A command, at one component.
+// Does a command at one component.
 #[cycle(runs)]
 fn one<'a>(at: At<'_>, command: &'a Command, run: Run<'a>, out: &mut Runs<'a>) -> Done {
     match command {
@@ -356,7 +357,7 @@ fn one<'a>(at: At<'_>, command: &'a Command, run: Run<'a>, out: &mut Runs<'a>) -
     }
 }
 
-// The runs behind an inner sequence, whose soft failure is passed over.
+// Goes on after an inner sequence, whose soft failures are passed over.
 fn go_on<'a>(runs: Runs<'a>, out: &mut Runs<'a>) -> Done {
     for run in runs {
         let mut run = run;
@@ -368,7 +369,7 @@ fn go_on<'a>(runs: Runs<'a>, out: &mut Runs<'a>) -> Done {
     Ok(())
 }
 
-// The runs of an inner sequence after these events, as the sequence round it goes on.
+// The runs of an inner sequence with these events before it, as they leave it.
 #[cycle(runs)]
 fn inner<'a>(
     at: At<'_>,
@@ -394,7 +395,7 @@ fn all_leaving<'a>(alloc: Global, runs: Runs<'a>, outer: &Run<'a>) -> Result<Run
     Ok(out)
 }
 
-// The branches in order, each after those before it failed softly.
+// Tries the branches in order, each one after the soft failures of those before it.
 #[cycle(runs)]
 fn try_each<'a>(at: At<'_>, branches: &'a Branches, outer: &Run<'a>, out: &mut Runs<'a>) -> Done {
     let mut waiting = Vec::new(at.alloc);
@@ -408,7 +409,7 @@ fn try_each<'a>(at: At<'_>, branches: &'a Branches, outer: &Run<'a>, out: &mut R
     end_all(at.alloc, waiting, outer, End::Condition, out)
 }
 
-// The events after which a branch failed softly. Its other runs are done with the try.
+// The events of the runs in which a branch failed softly. All other runs are done with the try each.
 #[cycle(runs)]
 fn after_branch<'a>(
     at: At<'_>,
@@ -424,7 +425,7 @@ fn after_branch<'a>(
     Ok(rest)
 }
 
-// Sets the events of runs that failed softly apart.
+// Separates the events of runs that failed softly.
 fn set_apart<'a>(runs: Runs<'a>, softly: &mut Vec<Events>, out: &mut Runs<'a>) -> Done {
     for run in runs {
         if run.end == End::Softly {
@@ -436,7 +437,7 @@ fn set_apart<'a>(runs: Runs<'a>, softly: &mut Vec<Events>, out: &mut Runs<'a>) -
     Ok(())
 }
 
-// A run with each of these events, which ends so.
+// Ends a run with each of these lists of events.
 fn end_all<'a>(
     alloc: Global,
     all: Vec<Events>,
@@ -464,7 +465,7 @@ fn begun<'a>(alloc: Global) -> Run<'a> {
     }
 }
 
-// A part of a procedure begins with component 0 selected.
+// Begins a part of a procedure, with component 0 selected.
 fn enter_part(alloc: Global, runs: &mut Runs<'_>) -> Done {
     for run in runs.iter_mut() {
         run.selection = Vec::from_slice(alloc, &[0])?;
@@ -473,8 +474,8 @@ fn enter_part(alloc: Global, runs: &mut Runs<'_>) -> Done {
     Ok(())
 }
 
-/// All runs of a procedure for these identities, where its inner sequences are at most three deep. Deeper ones end as
-/// running out of memory does.
+/// All runs of a procedure for these identities. Its inner sequences may be nested three levels deep; deeper ones
+/// return an error.
 pub(crate) fn all_runs<'a>(
     alloc: Global,
     identities: &[Identity],

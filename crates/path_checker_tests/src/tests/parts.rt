@@ -1,4 +1,4 @@
-//! The parts of procedures.
+//! Parts of procedures.
 
 ghost use Rattle.std.specs.Prelude.{IfOk, IfSome, true, false};
 ghost use Rattle.suit_commands.specs.Allowed.{IsSequence, IsShared, IsMember, levels_allowed};
@@ -7,7 +7,7 @@ ghost use Rattle.suit_commands.specs.Plans.{lent_tree};
 use std::alloc::{AllocError, Global};
 use suit_commands::{Sequence, decode_sequence, sequence_laws};
 
-/// The shared sequence or the member that the bytes spell. Others end a test as running out of memory does.
+/// The shared sequence or the member that the bytes spell. Other bytes return an error.
 pub(crate) fn part(
     alloc: Global,
     bytes: &[u8],

@@ -25,7 +25,7 @@ fn is_same_param(one: &Param, other: &Param) -> bool {
     }
 }
 
-// Whether the other sets the same.
+// Whether the other event sets the same parameter.
 fn is_same_set(of: u32, param: &Param, other: &Event) -> bool {
     match other {
         Event::Set {
@@ -50,7 +50,7 @@ fn is_same_digest(one: &Option<Digest>, other: &Option<Digest>) -> bool {
     }
 }
 
-// Whether the other tells the same attempt.
+// Whether the other event is the same attempt at a condition.
 fn is_same_attempt(of: u32, kind: TestKind, passed: bool, other: &Event) -> bool {
     match other {
         Event::Tried {
@@ -62,7 +62,7 @@ fn is_same_attempt(of: u32, kind: TestKind, passed: bool, other: &Event) -> bool
     }
 }
 
-// Whether the other tells the same match.
+// Whether the other event is the same match.
 fn is_same_match(of: u32, digest: &Digest, size: Option<u64>, other: &Event) -> bool {
     match other {
         Event::Matched {
@@ -74,7 +74,7 @@ fn is_same_match(of: u32, digest: &Digest, size: Option<u64>, other: &Event) -> 
     }
 }
 
-// Whether the other tells the same invoke.
+// Whether the other event is the same invoke.
 fn is_same_invoke(
     of: u32,
     digest: &Option<Digest>,
@@ -98,7 +98,7 @@ fn is_same_invoke(
     }
 }
 
-/// Whether both are the same event.
+/// Whether both events are the same.
 pub(crate) fn is_same_event(one: &Event, other: &Event) -> bool {
     match one {
         Event::Set { component, param } => is_same_set(*component, param, other),

@@ -1,4 +1,4 @@
-//! The judgement of small procedures that are drawn, beside all their runs.
+//! Compares the judgement of small drawn procedures with all their runs.
 
 ghost use Rattle.std.specs.Prelude.{◌<◌, IfOk, IfSome, true, false};
 ghost use Rattle.suit_commands.specs.Allowed.{IsMember, IsPlan, IsSequence, IsShared, levels_allowed};
@@ -12,7 +12,7 @@ use path_model::{BadPath, Event, Identity, first_uncovered};
 use std::alloc::{AllocError, Global};
 use suit_commands::{Plan, Sequence, width};
 
-// Each with two values. The digests are by SHA-256 and SHA-384, of the same letters.
+// Parameters, each with two values. The digests are by SHA-256 and SHA-384, of the same letters.
 const PARAMS: [[&[u8]; 2]; 8] = [
     [b"\x01\x50aaaaaaaaaaaaaaaa", b"\x01\x50bbbbbbbbbbbbbbbb"],
     [
@@ -75,7 +75,7 @@ impl Draws {
     }
 }
 
-// A byte string that holds a sequence.
+// Appends a byte string that holds a sequence.
 fn push_held(bytes: &mut Vec<u8>, held: &[u8]) -> Result<(), AllocError> {
     let length = held.len();
     if length < 24 {
@@ -88,7 +88,7 @@ fn push_held(bytes: &mut Vec<u8>, held: &[u8]) -> Result<(), AllocError> {
     Ok(bytes.extend_from_slice(held)?)
 }
 
-// An override of some parameters. The first value of each is likelier.
+// Appends an override of some parameters. The first value of each is more likely.
 fn push_override(draws: &mut Draws, bytes: &mut Vec<u8>) -> Result<(), AllocError> {
     let mut params = Vec::new(draws.alloc);
     let mut head: u8 = 0xa0;
@@ -105,7 +105,7 @@ fn push_override(draws: &mut Draws, bytes: &mut Vec<u8>) -> Result<(), AllocErro
     Ok(bytes.extend_from_slice(&params)?)
 }
 
-// A command, with inner sequences of at most so many levels.
+// Appends a command, with at most `levels` levels of inner sequences.
 #[cycle(drawing)]
 fn push_command(
     draws: &mut Draws,
@@ -136,7 +136,7 @@ fn push_command(
     }
 }
 
-// A sequence: this command first, then one to three that are drawn, and this one last, where they have bytes.
+// Draws a sequence: the first command, then one to three that are drawn, and the last command, if these two have bytes.
 #[cycle(drawing)]
 fn drawn(
     draws: &mut Draws,
@@ -159,7 +159,7 @@ fn drawn(
     Ok(bytes)
 }
 
-// An identity by its number: one of three vendors and one of three slots.
+// An identity, by number: one of three vendors and one of three slots.
 fn identity(number: u64) -> Identity {
     Identity {
         vendor: match number % 3 {
@@ -173,7 +173,7 @@ fn identity(number: u64) -> Identity {
     }
 }
 
-// Whether an invoke of some run is not covered, for some identities.
+// Whether some run for some identities has an uncovered invoke.
 fn has_uncovered(alloc: Global, plan: &Plan<'_>) -> Result<bool, AllocError> {
     for number in 0..81 {
         let identities = [identity(number), identity(number / 9)];
@@ -199,7 +199,7 @@ fn begin_with(events: &[Event], path: &[Event]) -> bool {
     true
 }
 
-// Whether a run for the told identities begins with the told path, which ends in its first invoke that is not covered.
+// Whether a run for the given identities begins with the given path, and this ends in its first uncovered invoke.
 fn is_path(alloc: Global, plan: &Plan<'_>, bad: &BadPath) -> Result<bool, AllocError> {
     for run in all_runs(alloc, bad.identities.as_slice(), plan)? {
         if begin_with(run.events.as_slice(), bad.events.as_slice()) {
@@ -219,7 +219,7 @@ enum Found {
     Wrong,
 }
 
-// The verdict on a procedure, beside all its runs.
+// The verdict on a procedure, compared with all its runs.
 fn compared(alloc: Global, plan: &Plan<'_>) -> Result<Found, AllocError>
     requires { IsPlan (plan_tree plan.now) }
 {
@@ -241,7 +241,7 @@ fn drawn_shared(draws: &mut Draws) -> Result<Option<Sequence>, AllocError>
     part(draws.alloc, bytes.as_slice(), true, 2)
 }
 
-// A member, which ends with this command.
+// Draws a member that ends with this command.
 fn drawn_member(draws: &mut Draws, last: &[u8]) -> Result<Option<Sequence>, AllocError>
     ensures { IfOk result (λ part. IfSome part (IsSequence false 2 levels_allowed)) }
 {
@@ -275,7 +275,7 @@ fn with_shared(draws: &mut Draws, shared: Option<&Sequence>) -> Result<Found, Al
     with_first(draws, shared, lend_member(&first, 2))
 }
 
-// The verdict on a procedure that is drawn.
+// The verdict on a drawn procedure.
 fn drawn_verdict(draws: &mut Draws) -> Result<Found, AllocError> {
     let shared = drawn_shared(draws)?;
     with_shared(draws, lend_shared(&shared, 2))

@@ -1,4 +1,4 @@
-//! A device of three components: two in the flash, and one in working memory.
+//! A device with three components: two in flash, and one in working memory.
 
 ghost use Rattle.std.specs.Prelude.{◌≡◌, ◌≤◌, ◌+◌, [], ℕ, IfSome, IsTrue, List, length};
 ghost use Rattle.step_machine.specs.Programs.{program_tree};
@@ -37,7 +37,7 @@ fn identifier_of(alloc: Global, byte: u8) -> Result<Identifier, AllocError> {
     Ok(identifier)
 }
 
-// Adds a component that has the identifier of this one byte.
+// Adds a component whose identifier is this one byte.
 fn push_component(
     alloc: Global,
     byte: u8,
@@ -82,7 +82,7 @@ fn layout_of_three(alloc: Global) -> Result<Layout, AllocError> {
     Ok(layout)
 }
 
-// The one file is named as its URI.
+// The one file has the name of its URI.
 fn uris_of_one(alloc: Global) -> Result<Uris, AllocError> {
     let uri = Text::from_str(alloc, FILE.0)?;
     let mut uris = Uris::new(alloc);
@@ -90,19 +90,19 @@ fn uris_of_one(alloc: Global) -> Result<Uris, AllocError> {
     Ok(uris)
 }
 
-/// A host with the one file.
+/// A host with one file.
 pub(crate) fn host_of_one(alloc: Global) -> Result<MemoryHost, AllocError> {
     let mut host = MemoryHost::new(alloc, &[])?;
     host.add(FILE.0, FILE.1)?;
     Ok(host)
 }
 
-/// A disk without contents.
+/// An empty disk.
 pub(crate) fn empty_disk(alloc: Global) -> Result<MemoryDisk, AllocError> {
     MemoryDisk::new(alloc, SIZE, &[])
 }
 
-// Runs a procedure on components of this layout.
+// Runs a procedure on the components of this layout.
 fn run_on<H: Host, D: Disk, L: Launcher, T: Trail>(
     alloc: Global,
     program: Program<'_>,
@@ -145,7 +145,7 @@ pub(crate) fn run<H: Host, D: Disk, L: Launcher>(
     run_on(alloc, program, &layout, host, disk, launcher, &mut NoTrail)
 }
 
-/// Whether the slot of a component in the flash has this content.
+/// Whether the slot of a component in flash has this content.
 pub(crate) fn has<D: Disk>(disk: &mut D, component: usize, content: &[u8]) -> bool {
     let Some(start) = STARTS.get(component) else {
         return false;

@@ -1,10 +1,10 @@
-//! Procedures that are drawn: command sequences of three components, in bytes.
+//! Draws procedures: command sequences for three components, in bytes.
 
 ghost use Rattle.std.specs.Prelude.{◌<◌};
 
 use std::alloc::{AllocError, Global};
 
-// Each with two values. The digests are those of the bytes "abc" by SHA-256 and "a" by SHA-512.
+// Parameters, each with two values. The digests are those of "abc" by SHA-256 and of "a" by SHA-512.
 const PARAMS: [[&[u8]; 2]; 8] = [
     [b"\x01\x50aaaaaaaaaaaaaaaa", b"\x01\x50bbbbbbbbbbbbbbbb"],
     [
@@ -46,7 +46,7 @@ const DIRECTIVES: [&[u8]; 7] = [
     b"\x17\x0f",
 ];
 
-// All parameters of all components, as they are likeliest.
+// Sets all parameters of all components, with the values that are most likely.
 const SETS: &[u8] = b"\x0c\xf5\x14\xa5\x05\x00\x0e\x03\x12\x41a\x15\x61a\x16\x01";
 
 /// A linear congruential generator.
@@ -69,7 +69,7 @@ impl Draws {
     }
 }
 
-// Sequences that a command may have inside; none where there are no bytes.
+// Sequences that a command may have inside. Without bytes there is none.
 #[derive(Clone, Copy)]
 struct Inner<'a> {
     one: &'a [u8],
@@ -81,7 +81,7 @@ const NO_INNER: Inner<'static> = Inner {
     other: b"",
 };
 
-// A byte string that holds a sequence of fewer than 65,536 bytes.
+// Appends a byte string that holds a sequence of fewer than 65,536 bytes.
 fn push_held(bytes: &mut Vec<u8>, held: &[u8]) -> Result<(), AllocError> {
     let length = held.len();
     if length < 24 {
@@ -94,7 +94,7 @@ fn push_held(bytes: &mut Vec<u8>, held: &[u8]) -> Result<(), AllocError> {
     Ok(bytes.extend_from_slice(held)?)
 }
 
-// One of two values, or nothing.
+// Draws one of two values, or nothing.
 fn value_of(draws: &mut Draws, values: &[&'static [u8]; 2]) -> &'static [u8] {
     match draws.below(8) {
         0..5 => b"",
@@ -103,7 +103,7 @@ fn value_of(draws: &mut Draws, values: &[&'static [u8]; 2]) -> &'static [u8] {
     }
 }
 
-// Some parameters, and the head of a map of them.
+// Appends some parameters. Returns the head of a map of them.
 fn push_params(draws: &mut Draws, params: &mut Vec<u8>) -> Result<u8, AllocError> {
     let mut head: u8 = 0xa0;
     for values in &PARAMS {
@@ -116,7 +116,7 @@ fn push_params(draws: &mut Draws, params: &mut Vec<u8>) -> Result<u8, AllocError
     Ok(head)
 }
 
-// An override of some parameters.
+// Appends an override of some parameters.
 fn push_override(draws: &mut Draws, bytes: &mut Vec<u8>) -> Result<(), AllocError> {
     let mut params = Vec::new(draws.alloc);
     let head = push_params(draws, &mut params)?;
@@ -153,7 +153,7 @@ fn push_command(
     }
 }
 
-// These commands, and one to four that are drawn.
+// Draws a sequence: these commands, and one to four that are drawn.
 fn drawn(
     draws: &mut Draws,
     shared: bool,
@@ -173,7 +173,7 @@ fn drawn(
     Ok(bytes)
 }
 
-/// A shared sequence that sets parameters of all components, with inner sequences.
+/// Draws a shared sequence that sets parameters of all components, with inner sequences.
 pub(crate) fn drawn_shared(draws: &mut Draws) -> Result<Vec<u8>, AllocError> {
     let one = drawn(draws, true, b"", NO_INNER)?;
     let inner = Inner {
@@ -198,7 +198,7 @@ fn drawn_beside(draws: &mut Draws, one: &[u8]) -> Result<Vec<u8>, AllocError> {
     drawn_around(draws, inner)
 }
 
-/// A member, with inner sequences inside others.
+/// Draws a member with nested inner sequences.
 pub(crate) fn drawn_member(draws: &mut Draws) -> Result<Vec<u8>, AllocError> {
     let one = drawn(draws, false, b"", NO_INNER)?;
     drawn_beside(draws, &one)

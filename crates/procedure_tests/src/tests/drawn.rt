@@ -1,4 +1,4 @@
-//! Procedures that are drawn, run over their bytes beside a plain player of their trees.
+//! Runs drawn procedures over their bytes, and compares them with a plain player of their trees.
 
 ghost use Rattle.std.specs.Prelude.{◌<◌};
 
@@ -10,7 +10,7 @@ use std::alloc::{AllocError, Global};
 use step_machine::PlanEnd;
 use suit_edge::{Disk, Host, Launch, MemoryLauncher};
 
-// The end of a procedure that the player ended so.
+// The end of a procedure, by how the player ended it.
 fn end_of(ended: Result<(), Stop>) -> PlanEnd {
     match ended {
         Ok(()) => PlanEnd::Done,
@@ -72,13 +72,13 @@ fn end_with<H: Host>(
     end_on(alloc, spelled, host, &mut disk)
 }
 
-// The end of a procedure on an empty device, where it, the contents and the launches are those of the player.
+// The end of a procedure on an empty device, or `None` if the player comes to another end, contents or launches.
 fn beside(alloc: Global, spelled: &Spelled<'_>) -> Result<Option<PlanEnd>, AllocError> {
     let mut host = host_of_one(alloc)?;
     end_with(alloc, spelled, &mut host)
 }
 
-// The bytes of a procedure's four parts.
+// Draws the bytes of a procedure's four parts.
 fn drawn_parts(draws: &mut Draws) -> Result<Vec<Vec<u8>>, AllocError> {
     let mut parts = Vec::new(draws.alloc);
     parts.push(drawn_shared(draws)?)?;
@@ -104,7 +104,7 @@ fn drawn_beside(draws: &mut Draws) -> Result<Option<PlanEnd>, AllocError> {
     }
 }
 
-// The kind of an end.
+// The kind of an end, as a number.
 fn kind(end: PlanEnd) -> usize
     ensures { result < 3 }
 {
@@ -115,7 +115,7 @@ fn kind(end: PlanEnd) -> usize
     }
 }
 
-// How many of 300 procedures that are drawn end in each kind; none where one is not played so.
+// How many of 300 drawn procedures end in each kind, or zeros if the player disagrees about one.
 fn counts(alloc: Global) -> Result<[u32; 3], AllocError> {
     let mut draws = Draws { alloc, state: 1 };
     let mut counts = [0u32; 3];
@@ -132,7 +132,7 @@ fn counts(alloc: Global) -> Result<[u32; 3], AllocError> {
 #[test]
 fn procedures_run_as_their_trees_are_played(rt: HostRuntime) -> Result<(), AllocError> {
     let [done, conditions, directives] = counts(rt.alloc())?;
-    // each kind of end is among them
+    // Each kind of end is among them.
     assert!(rt; done > 20);
     assert!(rt; conditions > 20);
     assert!(rt; directives > 20);

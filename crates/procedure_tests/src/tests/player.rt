@@ -1,4 +1,4 @@
-//! A plain player of trees, as a yardstick for the machine that goes over bytes. Its contents are lent.
+//! A plain player of trees, to compare the machine over bytes with. Its contents are borrowed.
 
 ghost use Rattle.std.specs.Prelude.{◌<◌};
 
@@ -8,16 +8,16 @@ use suit_commands::{ActKind, Branches, Command, Selection, Sequence, Step, TestK
 use suit_edge::Launch;
 use suit_params::{Digest, Param, ParamKey, Params};
 
-/// How many components there are.
+/// The number of components.
 pub(crate) const COUNT: usize = 3;
 
 /// How many bytes each component has room for.
 pub(crate) const CAPACITIES: [u64; COUNT] = [3, 2, 4];
 
-/// The vendor of each component. They have no class and no device, and stand for the slots 0.
+/// The vendor of each component. They have no class and no device identifier, and stand for slot 0.
 pub(crate) const VENDOR: [u8; 16] = [97; 16];
 
-/// The URI of the one file that there is, and its content. It fits the first component and the last.
+/// The URI of the only file, and its content. It fits the first component and the last one.
 pub(crate) const FILE: (&str, &[u8]) = ("a", b"abc");
 
 const ALONE: [[u32; 1]; COUNT] = [[0], [1], [2]];
@@ -31,16 +31,16 @@ pub(crate) enum Stop {
     Directive { place: u64, cause: Cause },
 }
 
-/// The contents, and the launches of the machine that are not played yet.
+/// The contents, and those launches of the machine that are not played yet.
 #[derive(Clone, Copy)]
 pub(crate) struct Stage<'a> {
     pub contents: [&'a [u8]; COUNT],
     pub launches: &'a [Launch],
-    /// Whether each launch so far was the machine's.
+    /// Whether each launch so far was the machine's, too.
     pub alike: bool,
 }
 
-// What belongs to a running sequence.
+// The parameters, selection and soft failure of a running sequence.
 #[derive(Drop)]
 struct Frame<'a> {
     params: Params<'a>,
@@ -48,7 +48,7 @@ struct Frame<'a> {
     soft_failure: bool,
 }
 
-// Where a command is done, and how deep an inner sequence may still be.
+// Where a command is done, and how many levels of inner sequences are still allowed.
 #[derive(Clone, Copy)]
 struct At {
     levels: u8,
@@ -172,7 +172,7 @@ fn write<'a>(stage: &mut Stage<'a>, frame: &Frame<'a>, component: u32) -> Result
     }
 }
 
-// A file that is too large leaves nothing.
+// A file that is too large leaves the content empty.
 fn fetch<'a>(stage: &mut Stage<'a>, frame: &Frame<'a>, component: u32) -> Result<(), Cause> {
     let Some(Param::Uri(uri)) = frame.get(component, ParamKey::Uri) else {
         return Err(Cause::Missing);
@@ -274,7 +274,7 @@ fn sequence<'a>(
     Ok(())
 }
 
-// A command, at each selected component.
+// Does a command at each selected component.
 #[cycle(playing)]
 fn each<'a>(
     stage: &mut Stage<'a>,
@@ -299,7 +299,7 @@ fn each<'a>(
     Ok(())
 }
 
-// A command, at one component.
+// Does a command at one component.
 #[cycle(playing)]
 fn one<'a>(
     stage: &mut Stage<'a>,
@@ -347,7 +347,7 @@ fn one<'a>(
     }
 }
 
-// An inner sequence. Its parameters stay where it completes.
+// Runs an inner sequence. If it is done, its parameters stay.
 #[cycle(playing)]
 fn inner<'a>(
     stage: &mut Stage<'a>,
@@ -367,7 +367,7 @@ fn inner<'a>(
     Ok(())
 }
 
-// The branches in order, each after those before it failed softly.
+// Tries the branches in order, each one after those before it failed softly.
 #[cycle(playing)]
 fn try_each<'a>(
     stage: &mut Stage<'a>,
@@ -395,7 +395,7 @@ fn try_each<'a>(
     })
 }
 
-// A failure of an inner sequence, to the sequence round it.
+// Passes a failure of an inner sequence to the outer one.
 fn passed_on(ended: Result<(), Stop>, frame: &Frame<'_>) -> Result<(), Stop> {
     match ended {
         Err(Stop::Condition { place, .. }) => Err(Stop::Condition {
@@ -406,7 +406,8 @@ fn passed_on(ended: Result<(), Stop>, frame: &Frame<'_>) -> Result<(), Stop> {
     }
 }
 
-/// Plays a procedure whose inner sequences are at most eight deep: the shared sequence before each of its three members.
+/// Plays a procedure: the shared sequence before each of its three members. Inner sequences may be nested eight levels
+/// deep.
 pub(crate) fn play<'a>(
     stage: &mut Stage<'a>,
     shared: &'a Sequence,

@@ -1,11 +1,11 @@
-//! A disk that tells nothing, so that a test need not prove what it holds.
+//! A disk that tells nothing, so that tests need not prove what it holds.
 
 ghost use Rattle.std.specs.Prelude.{◌≡◌, false, length};
 ghost use Rattle.suit_edge.specs.MemoryDisk.{memory_flash};
 
 use suit_edge::{Disk, Edge, FuseDisk};
 
-/// A disk whose power fails, behind calls that say nothing of its bytes.
+/// A disk whose power fails, behind calls that say nothing about its bytes.
 #[derive(Drop)]
 pub(crate) struct Quiet {
     pub(crate) disk: FuseDisk,

@@ -1,4 +1,4 @@
-//! Procedures by the bytes of their parts: over the bytes, and as trees.
+//! Procedures by the bytes of their parts, as programs and as trees.
 
 ghost use Rattle.procedure_tests.specs.Procedures.{AreReadAs, IsReadAs};
 ghost use Rattle.std.specs.Prelude.{◌≡◌, IfOk, IsTrue, false};
@@ -30,7 +30,7 @@ pub(crate) struct Trees {
     pub third: Sequence,
 }
 
-// What is refused ends a test as running out of memory does.
+// Decodes a part. Bytes that are refused return an error.
 fn tree(alloc: Global, bytes: &[u8], shared: bool) -> Result<Sequence, AllocError>
     ensures { IfOk result (IsReadAs shared bytes.now) }
 {
@@ -71,7 +71,7 @@ impl<'a> Spelled<'a> {
         })
     }
 
-    /// The procedure over the bytes. What is refused is left out.
+    /// The procedure over its bytes. Parts that are refused are left out.
     pub(crate) fn program(&self) -> Program<'a>
         ensures plan { IsPlan (program_tree result) }
         ensures count { result.count ≡ 3 }

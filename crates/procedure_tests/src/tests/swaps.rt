@@ -13,10 +13,10 @@ const SIZE: usize = 24_576;
 
 const TAG: u64 = 7;
 
-// No pending write is kept, each is, or every second one.
+// A loss keeps no pending write, every one, or every second one.
 const CHOICES: [u64; 3] = [0, u64::MAX, 0xAAAA_AAAA_AAAA_AAAA];
 
-// A journal, and a swap beside it.
+// A journal and a swap.
 fn swap(first_length: u64, second_length: u64) -> (Journal, Swap)
     requires first { first_length ≤ 4097 }
     requires second { second_length ≤ 4097 }
@@ -45,7 +45,7 @@ fn swap(first_length: u64, second_length: u64) -> (Journal, Swap)
     (journal, swap)
 }
 
-// A content of so many bytes.
+// A content of `size` bytes.
 fn content(alloc: Global, size: u64, mask: u8) -> Result<Vec<u8>, AllocError>
     ensures { IfOk result (λ bytes. length bytes.items ≡ size) }
 {
@@ -93,7 +93,7 @@ fn holds(alloc: Global, disk: &mut Quiet, slot: Slot, bytes: &[u8]) -> Result<bo
     }
 }
 
-// A disk that takes so many calls.
+// A disk whose power fails after `passes` calls.
 fn quiet(disk: MemoryDisk, passes: u64) -> Quiet
     ensures { result.disk.disk ≡ disk }
 {
@@ -102,7 +102,7 @@ fn quiet(disk: MemoryDisk, passes: u64) -> Quiet
     }
 }
 
-// Whether a swap comes to its end.
+// Whether a swap is done.
 fn exchanges(disk: &mut Quiet, journal: &Journal, swap: &Swap) -> bool
     requires size { length disk.old.disk.disk.first ≡ SIZE }
     requires journal { IsJournal journal.now SIZE }
@@ -123,7 +123,7 @@ fn both_slots(journal: &Journal, swap: &Swap) -> [Slot; 2]
     [swap.second, swap.first]
 }
 
-// A disk on which the slots have these contents.
+// A disk whose slots have these contents.
 fn prepared(
     alloc: Global,
     swap: &Swap,
@@ -140,7 +140,7 @@ fn prepared(
     disk.after_loss(alloc, u64::MAX)
 }
 
-// The tag of the swap that was completed, if one stood open. None where a call fails.
+// The tag of the swap that was completed, if one was open. `None` if a call fails.
 fn completed(disk: &mut Quiet, journal: &Journal, swap: &Swap) -> Option<Option<u64>>
     requires size { length disk.old.disk.disk.first ≡ SIZE }
     requires journal { IsJournal journal.now SIZE }
@@ -172,7 +172,8 @@ fn hold(
     Ok(holds(alloc, disk, swap.first, one)? && holds(alloc, disk, swap.second, other)?)
 }
 
-// Whether a swap of these contents, which came to its end or not, is completed and leaves both or exchanges both, as its tag tells.
+// Whether a swap of these contents, done or not, is completed, and leaves both contents or exchanges both, as its tag
+// says.
 fn is_completed(
     alloc: Global,
     disk: &mut Quiet,
@@ -196,7 +197,7 @@ fn is_completed(
     }
 }
 
-// Whether it is after a loss that makes this choice.
+// Whether the swap is completed after a loss with this choice of pending writes.
 fn is_completed_after(
     alloc: Global,
     left: &MemoryDisk,
@@ -214,7 +215,8 @@ fn is_completed_after(
     is_completed(alloc, &mut disk, &journal, &swap, first, second, is_done)
 }
 
-// Whether a swap of these contents that loses power after so many calls is completed, whatever the loss keeps.
+// Whether a swap of these contents that loses power after `passes` calls is completed, with each choice of pending
+// writes.
 fn survives(alloc: Global, first: &[u8], second: &[u8], passes: u64) -> Result<bool, AllocError>
     requires first { length first.now ≤ 4097 }
     requires second { length second.now ≤ 4097 }
@@ -231,7 +233,7 @@ fn survives(alloc: Global, first: &[u8], second: &[u8], passes: u64) -> Result<b
     Ok(true)
 }
 
-// Whether it is at each of so many calls.
+// Whether the swap is completed after a loss at each of the first `calls` calls.
 fn survives_each(alloc: Global, first: &[u8], second: &[u8], calls: u64) -> Result<bool, AllocError>
     requires first { length first.now ≤ 4097 }
     requires second { length second.now ≤ 4097 }
@@ -257,8 +259,8 @@ fn survives_beside(
     survives_each(alloc, first, second.as_slice(), calls)
 }
 
-// Whether a swap of contents of these lengths is completed that loses power at one of so many calls, which are no fewer than it
-// makes.
+// Whether a swap of contents with these lengths is completed after a loss at each of the first `calls` calls, which is
+// at least as many as it makes.
 fn cuts(
     alloc: Global,
     first_length: u64,
@@ -281,7 +283,7 @@ fn a_swap_that_is_cut_is_completed(rt: HostRuntime) -> Result<(), AllocError> {
     Ok(())
 }
 
-// Whether three pieces are copied for short contents, which are exchanged then.
+// Whether a swap of short contents copies three pieces, and exchanges the contents.
 fn are_exchanged(
     alloc: Global,
     disk: &mut Quiet,

@@ -23,7 +23,7 @@ pub(crate) enum Ending {
     Other,
 }
 
-// How it ends with this status and these lines.
+// The ending that this status and these lines tell.
 fn ending_of(status: u8, lines: &[u8]) -> Ending {
     match status {
         0 => done_of(lines),
@@ -36,7 +36,7 @@ fn ending_of(status: u8, lines: &[u8]) -> Ending {
     }
 }
 
-// How a run with these lines ended.
+// The ending of a command that was done, by its lines.
 fn done_of(lines: &[u8]) -> Ending {
     if are_same(lines, b"ended\n") {
         Ending::Booted
@@ -100,7 +100,7 @@ pub(crate) enum Slots {
     Two,
 }
 
-// Whether a boot starts the image that is recorded; or, where the only slot was written over, is stopped.
+// Whether a boot starts this image, or stops if the only slot was written over.
 fn boots<H: Host, D: Disk>(
     alloc: Global,
     host: &mut H,
@@ -133,7 +133,7 @@ fn boots_recorded<H: Host, D: Disk>(
     }
 }
 
-// Whether the update is installed now, and launches these images itself.
+// Whether the update can be installed now, and launches these images on the way.
 fn installs<H: Host, D: Disk>(
     alloc: Global,
     host: &mut H,
@@ -148,8 +148,8 @@ fn installs<H: Host, D: Disk>(
     Ok(matches!(ending, Ending::Installed) && are_launched(launcher.launches(), at_once))
 }
 
-/// Whether a boot does as is recorded; the update given again is installed, and launches these images itself; and a boot
-/// then starts its image.
+/// Whether a boot starts what is recorded, the update given again is installed and launches these images on the way, and a
+/// boot then starts the new image.
 pub(crate) fn goes_on<H: Host, D: Disk>(
     alloc: Global,
     host: &mut H,
@@ -167,7 +167,7 @@ pub(crate) fn goes_on<H: Host, D: Disk>(
     )
 }
 
-/// Whether a boot starts what is recorded; a migration is done then, unless it was; and a boot starts the same.
+/// Whether a boot starts what is recorded, a migration is done then unless it was before, and a boot starts the same again.
 pub(crate) fn stays<H: Host, D: Disk>(
     alloc: Global,
     host: &mut H,

@@ -13,9 +13,9 @@ use suit_edge::{Disk, Host};
 /// How the second update ended.
 #[derive(Clone, Copy)]
 enum Ended {
-    /// It was not begun: what stands before it failed.
+    /// It did not begin: something before it failed.
     Before,
-    /// With this status, and all goes on after it.
+    /// It ended with this status, and everything goes on after it.
     Told(u8),
     Done,
     Wrong,
@@ -55,8 +55,8 @@ fn end_by<H: Host>(alloc: Global, fails: &Fails<'_>, host: &mut H) -> Result<End
     update_ended(alloc, host, &mut flash, fails)
 }
 
-// How many calls of the object fail in the second update, each with this status, and all goes on after it; 0 where one does
-// not.
+// At how many calls of the object the second update can fail, each time with this status, and everything goes on after it; 0 if
+// it does not once.
 fn faults(alloc: Global, object: Object, status: u8) -> Result<u64, AllocError> {
     let mut told = 0u64;
     for call in 0..1_000u64 {
@@ -70,14 +70,14 @@ fn faults(alloc: Global, object: Object, status: u8) -> Result<u64, AllocError> 
     Ok(0)
 }
 
-// Whether the first call of the object in the update ends it with this status, and a second call does not come.
+// Whether the update fails with this status at its first call of the object, and makes no second call.
 fn fails_once(alloc: Global, object: Object, status: u8) -> Result<bool, AllocError> {
     let first = update_end(alloc, &Fails::of(object, &[0]))?;
     let second = update_end(alloc, &Fails::of(object, &[1]))?;
     Ok(matches!(first, Ended::Told(found) if found == status) && matches!(second, Ended::Done))
 }
 
-// The update pulls two files, each in a piece and its end.
+// The update pulls two files, each with one piece and the end of the file.
 #[test]
 fn each_call_may_fail(rt: HostRuntime) -> Result<(), AllocError> {
     let alloc = rt.alloc();

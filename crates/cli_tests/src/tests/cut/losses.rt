@@ -8,10 +8,10 @@ use crate::tests::cut::recorded::{MIGRATION, ON_ONE, ON_TWO, Sessions, UPDATE, g
 use std::alloc::{AllocError, Global};
 use suit_edge::{Disk, FuseDisk, Host, MemoryDisk};
 
-/// Which of the writes since the last sync a loss keeps: none, all, and every other one.
+/// Which writes since the last sync a power loss keeps: none, all, and every other one.
 const CHOICES: [u64; 3] = [0, u64::MAX, 0xAAAA_AAAA_AAAA_AAAA];
 
-/// What is cut off behind the first update: the second one on a device of one slot or of two, or a migration.
+/// What the power loss interrupts after the first update: a second one on a device with one slot or two, or a migration.
 #[derive(Clone, Copy)]
 enum Cut {
     UpdateOfOne,
@@ -35,7 +35,7 @@ impl Cut {
     }
 }
 
-// Whether all goes on.
+// Whether everything goes on as it should.
 fn all_goes_on<H: Host, D: Disk>(
     alloc: Global,
     host: &mut H,
@@ -51,7 +51,7 @@ fn all_goes_on<H: Host, D: Disk>(
     }
 }
 
-// Whether it does after a loss that makes this choice.
+// Whether it does after a power loss with this choice.
 fn survives<H: Host>(
     alloc: Global,
     host: &mut H,
@@ -82,7 +82,7 @@ fn survives_each<H: Host>(
     Ok(true)
 }
 
-// How it ends on this flash, if all goes on after it.
+// How the command ends on this flash, if everything goes on after each loss.
 fn ending_on<H: Host>(
     alloc: Global,
     host: &mut H,
@@ -101,7 +101,7 @@ fn ending_on<H: Host>(
     }
 }
 
-// After how many calls of the flash it is done, where each cut before is told as a fault and survived; otherwise none.
+// After how many calls of the flash the command is done, if each earlier cut is told as a fault and survived; otherwise 0.
 fn calls_survived<H: Host>(
     alloc: Global,
     first: &MemoryDisk,
@@ -144,7 +144,7 @@ fn calls_with<H: Host>(alloc: Global, host: &mut H, cut: Cut) -> Result<u64, All
     }
 }
 
-// How many calls of the flash it makes, if a cut at each is survived.
+// How many calls of the flash the command makes, if a cut at each is survived; otherwise 0.
 fn calls(alloc: Global, cut: Cut) -> Result<u64, AllocError> {
     let mut host = with_files(alloc, &[])?;
     calls_with(alloc, &mut host, cut)

@@ -1,9 +1,9 @@
 //! How many runs end with which status.
 
-/// What a byte is changed by, by exclusive or.
+/// The changes of a byte, by exclusive or.
 pub(crate) const CHANGES: [u8; 3] = [0x01, 0x80, 0xff];
 
-// How often a status stands among these.
+// How often a status occurs.
 fn count(statuses: &[u8], status: u32) -> u64 {
     let mut count = 0u64;
     for found in statuses {
@@ -14,7 +14,7 @@ fn count(statuses: &[u8], status: u32) -> u64 {
     count
 }
 
-// How often the status of a line stands there, if that is as is said behind it.
+// How often the status of a line occurs, if that is the number in the line.
 fn counted(statuses: &[u8], line: &str) -> Option<u64> {
     let (status, times) = line.split_once(' ')?;
     match (status.parse::<u32>(), times.parse::<u32>()) {
@@ -23,7 +23,7 @@ fn counted(statuses: &[u8], line: &str) -> Option<u64> {
     }
 }
 
-/// Whether each status of these lines stands as often as is said behind it, and no other stands there.
+/// Whether each status of these lines occurs as often as the line says, and no other status occurs.
 pub(crate) fn are_counted(statuses: &[u8], lines: &str) -> bool {
     let mut all = 0u64;
     for line in lines.split('\n') {

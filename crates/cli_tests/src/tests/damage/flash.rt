@@ -1,4 +1,4 @@
-//! The flash behind a first update with a damaged byte. Each run has a flash of its own.
+//! The flash after a first update, with one damaged byte. Each run has a flash of its own.
 
 ghost use Rattle.std.specs.Prelude.{◌≡◌, ◌<◌, ◌≤◌, length};
 
@@ -49,7 +49,7 @@ const BANK: &str = "12288 run boot
 12288 run status
 0 384";
 
-/// Stands in place of a status where other images were launched than are to be.
+/// Stands for the status of a run that launched the wrong images.
 const OTHER_LAUNCHES: u8 = 255;
 
 fn damage<D: Disk>(flash: &mut D, place: u64, change: u8) -> bool
@@ -74,7 +74,7 @@ fn status_with<H: Host, D: Disk, L: Launcher>(
     status_of(alloc, host, flash, launcher, command, &mut sink)
 }
 
-// The status of a command, if it launched the image that is recorded where it is a boot that is done, and nothing else.
+// The status of a command, if it launched what it should: the recorded image in a boot that is done, and nothing otherwise.
 fn launching_status(launcher: &MemoryLauncher, command: &str, status: u8) -> u8 {
     let launches = launcher.launches();
     let is_right = if command == "run boot" && status == 0 {
@@ -133,7 +133,7 @@ fn push_damaged<H: Host>(
     Ok(())
 }
 
-// How a command ends with each byte damaged from a place on.
+// The statuses of a command with each byte from a place on damaged.
 fn damaged_statuses<H: Host>(
     alloc: Global,
     host: &mut H,
@@ -166,7 +166,7 @@ fn ends_from<H: Host>(
     Ok(are_counted(statuses.as_slice(), lines))
 }
 
-// Whether a command ends so from a place on: the place and the command, and below them a line for each status.
+// Whether a command ends as this table says: its first line has the place and the command, and each other line a status.
 fn ends_so<H: Host>(
     alloc: Global,
     host: &mut H,

@@ -4,8 +4,8 @@ use nor_flash::{FuseNor, MemoryNor, NorDisk};
 use std::alloc::{AllocError, Global};
 use suit_edge::{Disk, Edge};
 
-// How often a device of 16 blocks was to erase one where a byte is written to it, and then another one over that. A write that fails
-// ends a test as running out of memory does.
+// How often a device of 16 blocks erases one when a byte is written and then another over it. A write that fails ends a test, as
+// running out of memory does.
 fn erases(alloc: Global, first: u8, second: u8) -> Result<u64, AllocError> {
     let nor = MemoryNor::new(alloc, 16, &[])?;
     let mut disk = NorDisk::new(FuseNor::new(nor, u64::MAX));

@@ -12,20 +12,20 @@ use suit_edge::Host;
 /// What happens at a call of the device.
 #[derive(Clone, Copy)]
 enum Stop {
-    /// The power goes before it.
+    /// The power is lost before it.
     Cut,
     /// It fails, and the program goes on with the same disk.
     Failed,
-    /// It fails, and then the power goes.
+    /// It fails, and then the power is lost.
     Torn,
 }
 
 /// How the second update ended.
 #[derive(Clone, Copy)]
 enum Ended {
-    /// It was not begun: what stands before it failed.
+    /// It did not begin: something before it failed.
     Before,
-    /// With a fault of the flash, and all goes on after it.
+    /// It ended with a fault of the flash, and everything goes on after it.
     Told,
     Done,
     Wrong,
@@ -54,7 +54,7 @@ fn after_first<H: Host>(
     }
 }
 
-// Whether all goes on with this disk.
+// Whether everything goes on with this disk.
 fn goes_on_with<H: Host>(
     alloc: Global,
     host: &mut H,
@@ -66,7 +66,7 @@ fn goes_on_with<H: Host>(
     goes_on(alloc, host, &mut disk, Slots::Two, &[])
 }
 
-// How it ended that was stopped so: whether all goes on, with a disk anew if the power went.
+// How a stopped update ended: everything goes on or not, with a new disk if the power was lost.
 fn told_if_goes_on<H: Host>(
     alloc: Global,
     host: &mut H,
@@ -84,7 +84,7 @@ fn told_if_goes_on<H: Host>(
     Ok(if goes_on { Ended::Told } else { Ended::Wrong })
 }
 
-// How the second update ends on a device that takes so many calls, and whether all goes on after it.
+// How the second update ends on a device that takes so many calls.
 fn end_on<H: Host>(
     alloc: Global,
     host: &mut H,
@@ -102,7 +102,7 @@ fn end_on<H: Host>(
     }
 }
 
-// How it ends on a device of which these calls fail, and which takes so many calls of the second update.
+// How it ends on a device where these calls fail, and which takes so many calls of the second update.
 fn end_with<H: Host>(
     alloc: Global,
     host: &mut H,
@@ -116,7 +116,7 @@ fn end_with<H: Host>(
     }
 }
 
-// How it ends where it is stopped at this call: of the second update where the power goes, and else of all.
+// How it ends if it is stopped at this call, counted from the second update on for a cut, and from the start otherwise.
 fn end_at<H: Host>(
     alloc: Global,
     host: &mut H,
@@ -129,7 +129,7 @@ fn end_at<H: Host>(
     }
 }
 
-// At how many calls the second update is stopped, and all goes on after each; 0 where it does not.
+// At how many calls the second update is stopped and everything goes on after it; 0 if it does not once.
 fn stops<H: Host>(alloc: Global, host: &mut H, stop: Stop) -> Result<u64, AllocError> {
     let mut told = 0u64;
     for call in 0..100_000u64 {
@@ -143,7 +143,7 @@ fn stops<H: Host>(alloc: Global, host: &mut H, stop: Stop) -> Result<u64, AllocE
     Ok(0)
 }
 
-// At how many calls of the device the second update is stopped so, and all goes on after each; 0 where it does not.
+// The same over the files of the sessions.
 fn calls(alloc: Global, stop: Stop) -> Result<u64, AllocError> {
     let mut host = with_files(alloc, &[])?;
     stops(alloc, &mut host, stop)

@@ -1,12 +1,12 @@
-//! Items from outside, read and written: the examples of RFC 8949, appendix A, and what is no deterministic encoding. Bytes are in
-//! hexadecimal.
+//! Reads and writes items from outside: the examples of RFC 8949, appendix A, and encodings that are not deterministic.
+//! Bytes are in hexadecimal.
 
 use crate::tests::rows::{bytes_of, name_of};
 use det_cbor::{CborFault, CborRefusal, Cursor, Item, decode, encode, valid};
 use lane_bytes::same;
 use std::alloc::{AllocError, Global};
 
-/// Whether an item is valid, and spelled by these bytes.
+/// Whether an item is valid, and these bytes spell it.
 pub(crate) fn is_spelled(alloc: Global, item: &Item, bytes: &[u8]) -> Result<bool, AllocError> {
     if !valid(item) {
         return Ok(false);
@@ -15,7 +15,7 @@ pub(crate) fn is_spelled(alloc: Global, item: &Item, bytes: &[u8]) -> Result<boo
     Ok(same(spelling.as_slice(), bytes))
 }
 
-// Whether bytes are decoded as one item, which is encoded again.
+// Whether bytes are decoded as one item, which is encoded as the same bytes.
 fn is_decoded(alloc: Global, bytes: &[u8]) -> Result<bool, AllocError> {
     match decode(alloc, bytes) {
         Ok((item, used)) => Ok(used == bytes.len() && is_spelled(alloc, &item, bytes)?),
@@ -44,7 +44,7 @@ fn is_not_decoded(alloc: Global, bytes: &[u8], at: u64, why: &str) -> bool {
     }
 }
 
-// Whether skipping is refused so, and a cursor stays before the bytes.
+// Whether skipping is refused at this place for this reason, and leaves the cursor before the bytes.
 fn is_not_skipped(bytes: &[u8], at: u64, why: &str) -> bool {
     let mut cursor = Cursor::new(bytes, 100);
     match cursor.skip() {
@@ -65,14 +65,15 @@ fn is_answered(alloc: Global, bytes: &[u8], answer: &str) -> bool {
     }
 }
 
-// Whether the bytes of a row are refused at its place for its reason.
+// Whether the bytes of a row are refused at the row's place, for its reason.
 fn refuses(alloc: Global, row: &str) -> Result<bool, AllocError> {
     let (text, answer) = row.split_once(" -> ").unwrap_or((row, ""));
     let bytes = bytes_of(alloc, text)?;
     Ok(is_answered(alloc, bytes.as_slice(), answer))
 }
 
-// The examples of RFC 8949 that this encoding has. Then keys in the order of their spellings, and sixteen levels.
+// The examples of RFC 8949 that this encoding has. After them, keys in the order of their spellings, and sixteen
+// levels.
 const READ: &str = "
 00
 01
@@ -122,8 +123,8 @@ a21818012001
 818181818181818181818181c1a18081f6
 ";
 
-// Examples of RFC 8949 with floats, other simple values and lengths that are not stated. Then what is cut short or not shortest, no
-// text, keys that are not in order, and a seventeenth level.
+// The examples of RFC 8949 with floats, other simple values and indefinite lengths. After them, what is cut short or
+// not shortest, text that is not UTF-8, keys out of order, and a seventeenth level.
 const REFUSED: &str = "
 f90000 -> 0 kind
 fb3ff199999999999a -> 0 kind

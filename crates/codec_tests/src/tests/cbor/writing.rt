@@ -1,4 +1,4 @@
-//! Pieces of items, as RFC 8949 spells them. Whole items are spelled in `reading`.
+//! Parts of items, as RFC 8949 spells them. Whole items are spelled in `reading`.
 
 use det_cbor::{
     Bytes, HeadKind, push_count, push_flag, push_kind, push_null, push_number, push_string,
@@ -18,7 +18,7 @@ fn push_pieces(out: &mut Bytes) -> Result<(), AllocError> {
     push_text(out, "IETF")
 }
 
-// Whether the pieces are spelled so.
+// Whether the parts are spelled like this.
 fn are_spelled(alloc: Global, spelling: &[u8]) -> Result<bool, AllocError> {
     let mut out = Bytes::new(alloc);
     push_pieces(&mut out)?;

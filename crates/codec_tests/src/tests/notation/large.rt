@@ -1,11 +1,11 @@
-//! Notations of a megabyte, which are read in time linear in their length.
+//! Notations of a megabyte, which are read in linear time.
 
 use crate::tests::notation::refused::is_notation;
 use std::alloc::{AllocError, Global};
 
 const COUNT: u64 = 349_525;
 
-// A text of so many parts between a front and an end.
+// A text of `COUNT` parts between a front and an end.
 fn repeated(alloc: Global, front: &str, part: &str, end: &str) -> Result<String, AllocError> {
     let mut text = String::from_str(alloc, front)?;
     for _ in 0..COUNT {
@@ -15,7 +15,7 @@ fn repeated(alloc: Global, front: &str, part: &str, end: &str) -> Result<String,
     Ok(text)
 }
 
-// Whether it is the notation of an item.
+// Whether such a text is the notation of an item.
 fn is_read(alloc: Global, front: &str, part: &str, end: &str) -> Result<bool, AllocError> {
     let text = repeated(alloc, front, part, end)?;
     is_notation(alloc, text.as_str())

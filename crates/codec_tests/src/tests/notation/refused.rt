@@ -1,9 +1,9 @@
-//! Texts that are the notation of no valid item.
+//! Texts that are not the notation of a valid item.
 
 use cbor_diag::{NotationFault, read_notation};
 use std::alloc::{AllocError, Global};
 
-// Each between two bars.
+// The texts, each between two bars.
 const REFUSED: &str = r#"
 ||
 | |
@@ -57,7 +57,7 @@ const REFUSED: &str = r#"
 |[[[[[[[[[[[[[[[[[1]]]]]]]]]]]]]]]]]|
 "#;
 
-// A text with a control character that stands as it is.
+// Texts with a control character that is not escaped.
 const UNESCAPED: &str = "|\"\t\"|\n|\"\u{7f}\"|";
 
 /// Whether a text is the notation of an item.
@@ -82,7 +82,7 @@ fn refusals(rt: HostRuntime) -> Result<(), AllocError> {
     for row in UNESCAPED.split('\n') {
         assert!(rt; is_refused(rt.alloc(), row)?, "{row}");
     }
-    // one level fewer than that of the last row
+    // One level fewer than in the last row.
     assert!(rt; is_notation(rt.alloc(), "[[[[[[[[[[[[[[[[1]]]]]]]]]]]]]]]]")?);
     Ok(())
 }

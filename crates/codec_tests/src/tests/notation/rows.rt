@@ -1,5 +1,5 @@
-//! Items and their notations: the bytes of RFC 8949, appendix A, and more. The two columns are the bytes in hexadecimal
-//! and the notation.
+//! Items and their notations: the examples of RFC 8949, appendix A, and more. The two columns are the bytes in
+//! hexadecimal and the notation.
 
 use crate::tests::cbor::reading::is_spelled;
 use crate::tests::rows::bytes_of;
