@@ -1,16 +1,17 @@
-/* An arena: blocks side by side in one room, each behind its length and whether it is in use. The first that is large enough is
- * taken, and its rest is left as a block; blocks that are free side by side are joined when they are passed. */
+/* An arena: a first-fit allocator in one room. The room is a row of blocks, each with a header that says how long the block is and
+ * whether it is in use. The first free block that is large enough is taken, and what it has left over becomes a free block. Free
+ * neighbours are joined when the search comes to them. */
 #include "arena.h"
 
 #include <stdint.h>
 #include <string.h>
 
 struct block {
-  size_t length; /* of what follows, a multiple of 16 */
+  size_t length; /* of the bytes after this header, a multiple of 16 */
   size_t used;
 };
 
-/* What the proved code is given: whether there is memory, and where. */
+/* The answer to the proved code: whether there was memory, and where it is. */
 struct taken {
   uint64_t there;
   void *bytes;

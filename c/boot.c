@@ -1,8 +1,9 @@
-/* boot: tells which image of a flash is to be started; a boot loader would jump there.
+/* boot: prints which image of a flash is to be started. A boot loader would jump to it.
  *
  *     boot FLASH [IMAGE]
  *
- * The image is written to the second file. Memory is taken of 128 kB alone.
+ * Writes the image to the file IMAGE, if one is named. Allocates from 128 kB and nowhere else. Exits with what
+ * suit_boot returned, with 2 for wrong arguments, and with 70 if a file cannot be read or written.
  */
 #include "arena.h"
 #include "suit.h"

@@ -1,8 +1,8 @@
-/* check: judges an envelope, as `suit check`, and writes it trimmed to the second file.
+/* check: checks an envelope, as `suit check` does.
  *
  *     check FILE [TRIMMED]
  *
- * Memory is taken of 16 MB alone.
+ * Writes the trimmed envelope to the file TRIMMED, if one is named. Allocates from 16 MB and nowhere else.
  */
 #include "arena.h"
 #include "suit.h"
@@ -13,7 +13,7 @@
 static uint8_t bytes[1048577];
 static _Alignas(16) uint8_t room[16777216];
 
-/* Writes the envelope with its wrapper and manifest alone. */
+/* Writes the trimmed envelope to a file. */
 static int trim(size_t length, const char *name) {
   static uint8_t trimmed[16384];
   uint64_t count;

@@ -1,7 +1,8 @@
-/* costs: the stack and the memory that each call takes, in bytes: the stack by painting, and the memory by the arena. The last call does
- * nothing: its stack is a part of each figure.
+/* costs: prints how many bytes of stack and of memory each call takes. The stack is measured by painting it, the memory by the arena.
  *
  *     costs FLASH ENVELOPE KEY
+ *
+ * The last line is for a call that does nothing: its stack is part of every other figure.
  */
 #include "arena.h"
 #include "paint.h"

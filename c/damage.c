@@ -1,8 +1,11 @@
-/* damage: boots from a flash with each of its first bytes damaged in turn, and each one of its image and of the length before it: by
- * exclusive or with 01, 80 and FF. No image may be told but the one of the flash as it is, and none whose own bytes are damaged. Where
- * the flash still has the record before that, the image of the flash as it was then may be told too.
+/* damage: boots from a flash in which one byte is damaged. Each of the first COUNT bytes is damaged in turn, and then each byte of the
+ * image and of its length in front of it, by exclusive or with 01, 80 and FF.
  *
  *     damage FLASH COUNT [BEFORE]
+ *
+ * A boot may report the image of the undamaged flash or none, and must report none if a byte of the image or of its length is damaged.
+ * BEFORE is the flash before its last update: if its record is still on a page of FLASH, a boot may report its image too. Exits with 1
+ * if a boot reports any other image.
  */
 #include "arena.h"
 #include "suit.h"
@@ -26,10 +29,10 @@ static int is_same(const struct suit_image *one, const struct suit_image *other)
          memcmp(one->digest, other->digest, sizeof one->digest) == 0;
 }
 
-/* How many boots told the image of the record before. */
+/* How many boots reported the image of BEFORE. */
 static size_t told_before;
 
-/* Damages each byte from a place on, and counts the boots that tell the image. */
+/* Damages each of `count` bytes from `place` on in turn, and counts the boots that report the whole image. */
 static size_t damaged(size_t place, size_t count, const struct suit_image *whole, const struct suit_image *before) {
   static const uint8_t changes[] = {0x01, 0x80, 0xff};
   size_t told = 0;

@@ -1,4 +1,4 @@
-/* look: tells an envelope's numbers and whether it is authentic, and the record of a flash.
+/* look: prints an envelope's numbers and whether it is authentic under a key, or the record of a flash.
  *
  *     look envelope FILE KEY
  *     look flash FILE

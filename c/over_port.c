@@ -1,10 +1,11 @@
-/* over_port: runs a command of `suit` over a port. At its other end a second process has the flash in the file suit.flash, and
- * the files of the working directory.
+/* over_port: runs a command of `suit` over a port. A second process at the other end answers the messages: its flash is the file
+ * suit.flash, and its files are those of the working directory.
  *
  *     over_port [-r N] WORD...
  *
- * The exit status is that of the command. With -r the N-th message is refused, and the status is 99 where there were fewer. Built with
- * -DOVER_ARENA, over arena.c and paint.c, it also tells on standard error what the command took.
+ * The exit status is that of the command. With -r the N-th message is refused; if there were fewer than N messages, the status is 99.
+ * Built with -DOVER_ARENA, and linked with arena.c and paint.c, it also prints to standard error how much stack and memory the command
+ * took.
  */
 #define _XOPEN_SOURCE 700
 #ifdef OVER_ARENA
@@ -23,13 +24,13 @@
 
 enum { FLASH_SIZE = 4194304, FEWER = 99 };
 
-/* The end of the port that answers. */
+/* The end of the port that answers messages. */
 struct server {
   int line;
   int flash;
-  FILE *file;     /* that was started last */
-  uint64_t count; /* of the messages so far */
-  uint64_t refused;
+  FILE *file;     /* the one that was opened last, or null */
+  uint64_t count; /* how many messages have come so far */
+  uint64_t refused; /* the number of the message that is refused, counted from 1; 0 if none is */
 };
 
 static void fail(const char *what) {
@@ -37,7 +38,7 @@ static void fail(const char *what) {
   exit(70);
 }
 
-/* Reads so many bytes. Nothing at all is the end of the line. */
+/* Fills the room with `length` bytes. Returns 0 if the line ends or fails before that. */
 static int take(int line, void *room, size_t length) {
   for (size_t done = 0; done < length;) {
     ssize_t count = read(line, (uint8_t *)room + done, length - done);
@@ -48,6 +49,7 @@ static int take(int line, void *room, size_t length) {
   return 1;
 }
 
+/* Sends all the bytes. Exits if they cannot be sent. */
 static void give(int line, const void *bytes, size_t length) {
   for (size_t done = 0; done < length;) {
     ssize_t count = write(line, (const uint8_t *)bytes + done, length - done);
@@ -62,7 +64,7 @@ static void answer(struct server *server, const struct suit_message *message, ui
   give(server->line, &said, sizeof said);
 }
 
-/* What follows a message: none, its bytes, or a name before them. */
+/* How many bytes follow the head of a message: none, its bytes, or a name and its bytes. */
 static size_t follows(const struct suit_message *message) {
   switch (message->request) {
   case SUIT_PORT_WRITE:
@@ -86,7 +88,7 @@ static uint64_t store(const char *name, const uint8_t *bytes, size_t length) {
   return fclose(file) == 0 && whole ? 0 : 1;
 }
 
-/* Keeps a launched image where the program does. */
+/* Writes a launched image to the file to which the program would write it. */
 static uint64_t launch(const struct suit_message *message, const uint8_t *bytes) {
   char name[32];
   snprintf(name, sizeof name, "boot-%u.img", (unsigned)message->component);
@@ -200,7 +202,7 @@ static void serve(struct server *server) {
   }
 }
 
-/* The words with zeros between them. */
+/* Writes the words to `words`, separated by zero bytes, and returns how long they are. */
 static size_t joined(char *words, size_t room, int count, char **word) {
   size_t length = 0;
   for (int i = 0; i < count; i++) {

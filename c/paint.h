@@ -1,11 +1,11 @@
-/* paint.h: the stack that a call takes. */
+/* paint.h: measures how much stack a call takes. */
 #ifndef SUIT_PAINT_H
 #define SUIT_PAINT_H
 
 #include <stddef.h>
 
-/* Calls on a stack of its own that was painted before, and tells how many bytes of it were written, with those of what stands behind
- * the call. */
+/* Makes the call on a stack of its own, of 8 MiB, which was painted with one byte value before. Returns how many bytes of that stack
+ * were used: those from its top down to the lowest byte that no longer has that value. They include what entering the call takes. */
 size_t suit_painted(void (*call)(void));
 
 #endif

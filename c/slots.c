@@ -1,4 +1,4 @@
-/* slots: tells the contents in use of a flash, as `suit run status` does.
+/* slots: prints the contents in use of a flash, as `suit run status` does.
  *
  *     slots FLASH
  */

@@ -1,8 +1,10 @@
-/* starve: boots from a flash, and asks for each slot in use, with each block of memory that is asked for refused in turn. Each ends
- * for want of memory, tells nothing, and gives back what it took: a boot that has what it needs, and so has begun its procedure, asks
- * for none.
+/* starve: boots from a flash, and looks for the slot in use of each component, while each block of memory that is asked for is refused
+ * in turn.
  *
  *     starve FLASH
+ *
+ * Every such call must return SUIT_NO_MEMORY, report nothing, and free what it allocated. So a boot asks for no memory once its
+ * procedure has begun. Exits with 1 if a call does not.
  */
 #include "arena.h"
 #include "suit.h"
@@ -14,7 +16,7 @@
 static uint8_t flash[4194304];
 static _Alignas(16) uint8_t room[131072];
 
-/* What a call answered, and whether it told something. */
+/* What a call returned, and whether it reported anything. */
 struct told {
   int32_t answer;
   int something;
@@ -34,7 +36,7 @@ static struct told looked_for(uint32_t component) {
   return (struct told){answer, memcmp(&slot, &before, sizeof slot) != 0};
 }
 
-/* A boot is asked for before the first component. */
+/* Boots if `asked` is negative, and otherwise looks for the slot of that component. Refuses the block of that number. */
 static struct told called(int asked, size_t refused) {
   suit_arena(room, sizeof room);
   suit_arena_refuse(refused);
