@@ -1,5 +1,6 @@
-"""Plans made against the checker by reading it, of which `known.py` has those that `bench/search` begins with. Each function is one thought:
-what is kept until the judgement ends, which states are held at once, what a step costs, and what the width does not count."""
+"""Plans that were made against the checker by reading its code. `known.py` lists the plans that `bench/search` begins with, these among
+them. Each function follows one idea: what is kept until the judgement ends, which states are held at once, what a step costs, or what the
+width does not count."""
 
 from bred import ALL, EACH, IMAGE, INVOKE, MATCH, SWAP, WRITE, again, nested, pick, run, sets, size, tries
 
@@ -10,9 +11,9 @@ IDS = {1: ("bytes", 1, 16), 2: ("bytes", 2, 16), 24: ("bytes", 3, 16), 5: 7}
 ALL_IDS = (ALL, sets((3, IMAGE), *IDS.items()), pick(0))
 TWELVE = sets((3, ("digest", 9, 64)), (5, 1), (12, True), (13, True), (14, 7), (18, ("bytes", 1, 1)), (21, ("bytes", 1, 1)), (22, 0),
               (23, ("bytes", 1, 1)), *((key, ("bytes", 7, 16)) for key in (1, 2, 24)))
-# Digests of 64 bytes that begin alike, by their last eight: the fingerprints of all have the same tag, and each ends in more zeros than the
-# one before it, so each lies below it in a search tree by the bits from the last on; and all have one place among those used last. A
-# processor finds them in a minute.
+# The last eight bytes of digests of 64 bytes that begin alike. Their fingerprints all have the same tag, and each ends in more zeros than
+# the one before it, so in a search tree that goes by the bits from the last one on, each lies below the one before it. All have the same
+# place among the matches used last. It takes one processor a minute to find them.
 DEEP = (0x3eef643675ed5bc8, 0xf9fb3666dd819722, 0xdfa033420fcc6a32, 0x23b79750bda5520b, 0x9a54108127c6afb2, 0xbb10aa85c216cf6b,
         0xce17bf309e362d87, 0x72c1c6d22f300b89, 0x53ef7ca504766b59, 0x3370918b935700c3, 0xbbd3c9c4968344b2, 0x64e4a5d7f66ec891,
         0x1d5d116ff43a451b, 0xbf0f86379097bc48, 0x29ca34ea1e6a0e5a, 0x36bdbb609388c52b, 0xd84efb84400d1083, 0x548ae1127235b07e,
@@ -41,10 +42,10 @@ def alike(number):
     return sets((3, ("alike", number, 64)))
 
 
-# ---- matches: each is lent once in a judgement, and found by those used last, then among all, then among those that stand
+# ---- matches: each is lent once in a judgement, and looked for among those used last, then among all, then among those that stand
 
 def of_one_place(count):
-    """Sizes whose numbers, behind the digest of 32 bytes 0x11, end in the same ten bits."""
+    """Sizes whose hashes, with the digest of 32 bytes 0x11, end in the same ten bits."""
     def bits(size):
         product = (0x1111_1111_1111_1111 ^ size) * 0x9E37_79B9_7F4A_7C15 % 2**64
         return (product ^ product >> 32) % 1_024
@@ -101,7 +102,7 @@ def in_turn():
         yield "%d forks, then 32 identities" % count, (*ALL_IDS, forks(count), again(1, *tests)), "twice", 8
 
 
-# ---- the last branch of a try, in which conditions cost no way
+# ---- the last branch of a try, in which conditions do not add to the ways
 
 def last_branches():
     eight = tuple(pick(*range(8)) for _ in range(1))
@@ -126,7 +127,7 @@ def last_branches():
     yield "a last branch at eight in a list", (*eight, sets((3, IMAGE)), tries(LAST, (pairs(3),)), pick(0), pairs(50)), "twice", 8
 
 
-# ---- what overrides tell
+# ---- what overrides report
 
 def told():
     parts = sets(*((key, ("bytes", 1, 4_000)) for key in (18, 21, 23)))
@@ -155,7 +156,7 @@ def by_match(number):
 
 
 def in_turns(identities, matches, first):
-    """Forks by an identity, each behind a parameter of its own, and forks by a match, in turn."""
+    """Forks by an identity, each after an override of its own, alternating with forks by a match."""
     nodes, left = [], matches
     for number in range(identities):
         if number % 4 == 0:

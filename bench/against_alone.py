@@ -12,7 +12,7 @@ LAST = (size(8_888), MATCH)
 TWO = (size(1), size(2))
 TWELVE = sets((3, ("digest", 9, 64)), (5, 1), (12, True), (13, True), (14, 7), (18, ("bytes", 1, 1)), (21, ("bytes", 1, 1)), (22, 0),
               (23, ("bytes", 1, 1)), *((key, ("bytes", 7, 16)) for key in (1, 2, 24)))
-# As in `against`: those that begin alike and lie each below the one before it.
+# As in `against`: digests that begin alike, each of which lies below the one before it.
 ALIKE = (0x548ae1127235b07e, 0x829cd6c0977fd230, 0xc035d2833f7ea01c, 0x700ce38afb432a5e, 0x98af62ea15b92aab, 0xd84efb84400d1083,
          0x36bdbb609388c52b, 0x29ca34ea1e6a0e5a)
 
@@ -32,13 +32,13 @@ def looped(counts, *inner):
 
 
 def by_identity(count):
-    """Forks by identities, of the last component first."""
+    """Forks by identity, beginning with the last component."""
     keys = tuple(tries((sets((key, ("bytes", 7, 16))), ("test", key)), None) for key in (1, 2, 24)) + (
         tries((sets((5, 9)), ("test", 5)), None),)
     return tuple(node for at in range(count) for node in ((pick(7 - at // 4),) if at % 4 == 0 else ()) + (keys[at % 4],))
 
 
-# ---- what is held beside a long member of the other procedure: what is read stays until all is judged
+# ---- what is held next to a long member of the other procedure, since what was read stays until everything is judged
 
 def beside():
     for name, tail in (("writes", (WRITE,)), ("swaps", (SWAP,)), ("two sizes and a write", (*TWO, WRITE)), ("writes and sizes", (WRITE, size(1)))):
@@ -59,7 +59,7 @@ def beside():
     yield "a last branch of 12 forks, then writes, beside", (*START, tries(LAST, (forks(12), again(9, WRITE)))), "beside", 2
 
 
-# ---- what each does in its tail
+# ---- what each state does in its tail
 
 def tails():
     eight_alike = tuple(node for at in range(8) for node in (pick(at), alike(ALIKE[at]), MATCH))
@@ -116,7 +116,7 @@ def last_ones():
         *START, sets((3, IMAGE)), MATCH, again(9, tries((size(7), MATCH), (size(7), run(run(size(8), MATCH)), size(1)))), again(9, WRITE)), "twice", 2
 
 
-# ---- overrides told together, at lists
+# ---- overrides that are reported together, at lists of components
 
 def told():
     for count in (3, 8, 22):
@@ -136,7 +136,7 @@ def told():
     yield "runs of two sizes and twelve keys", (*START, *looped((100, 100), again(9, run(*TWO), TWELVE))), "twice", 2
 
 
-# ---- matches whose place is another in each state
+# ---- matches whose place differs from state to state
 
 def places():
     for count in (4, 6, 8, 10):
@@ -151,19 +151,19 @@ def places():
             *START, sets((3, IMAGE)), forks(count), again(9, size(EACH), MATCH, size(("v", 1)), MATCH, WRITE)), "twice", 2
 
 
-# ---- more matches than are kept of those used last: each component has a digest or a size of its own
+# ---- more matches than are kept as used last: each component has its own digest or size
 
 def digest(number, length=32):
     return sets((3, ("digest", number, length)))
 
 
 def at_each(count, one):
-    """Something of its own at each of so many components."""
+    """At each of `count` components what `one` makes for it."""
     return tuple(node for at in range(count) for node in (pick(at), one(at)))
 
 
 def ways_of(count, one):
-    """So many ways, in each of which each of eight components has something of its own."""
+    """`count` ways. In each of them each of eight components has something of its own."""
     return tries(*((*at_each(8, lambda at: one(8 * number + at)), MATCH) for number in range(count - 1)), None)
 
 
@@ -191,7 +191,7 @@ def distinct():
     yield "4 forks and 80 digests, then pairs", (forks(4), eightieth, again(100, size(EACH), MATCH)), "twice", 2
 
 
-# ---- identities alone: two conditions in a try each make three states of one, for three steps
+# ---- identities alone: with two conditions in a try, one state becomes three in three steps
 
 IDS = ((1, ("bytes", 7, 16)), (2, ("bytes", 7, 16)), (24, ("bytes", 7, 16)), (5, 9))
 ALL_IDS = (ALL, sets((3, IMAGE), *IDS), pick(0))
@@ -220,7 +220,7 @@ def by_three():
         *ALL_IDS, run(ALL, asked(1, 2), pick(0, 1), asked(24, 5)), pick(2, 3, 4, 5, 6, 7), ("test", 24), ("test", 5), pick(0)), "twice", 8
     yield "15 forks, then 32 identities are learnt", (
         *ALL_IDS, forks(15), ALL, *(("test", key) for key in (1, 2, 24, 5)), pick(0), again(1, WRITE)), "twice", 8
-    # Each sequence round a fork costs one step and no way, and each state behind it is put back there.
+    # Each sequence around a fork costs one step and adds no way, and each state after it is put back there.
     eight = (ALL, asked(1, 2), pick(0))
     for name, inside in (("runs", run), ("tries", lambda one: tries((one,), None))):
         deep = tuple(enclosed(tries((size(20 + number), MATCH), None), 5, inside) for number in range(3))
@@ -251,7 +251,7 @@ def made_again():
         yield "%d forks and writes in a run, severed" % count, (*START, run(forks(count), again(9, WRITE))), "severed", 2
 
 
-# ---- each procedure has a width of its own, so what is dear in one comes to what is dear in the other
+# ---- each procedure has its own width, so the costs of both add up
 
 def along():
     yield "7 forks, then sizes at eight digests, along", (forks(7), *DIGESTS, *ALL_SIZES), "along", 8

@@ -1,5 +1,5 @@
-"""Plans made against matches that are added to a list without a search, linked when one is searched, and looked for where a command told
-them last."""
+"""Plans that were made against the way matches are kept: a match is added to a list without a search, the list is linked when one is
+searched for, and a match is first looked for where a command last had it."""
 
 import random
 
@@ -18,21 +18,21 @@ def under(sizes, command):
 
 
 def mixed(count):
-    """The numbers below a count, each far from the next one."""
+    """The numbers below `count`, shuffled."""
     numbers = list(range(count))
     random.Random(1).shuffle(numbers)
     return numbers
 
 
 def told_before(count, every, back):
-    """Sizes of which some are those of so many before."""
+    """`count` sizes. Each `every`-th repeats the one that came `back` places before it."""
     sizes = []
     for number in range(count):
         sizes.append(sizes[number - back] if number % every == 0 and number >= back else number)
     return sizes
 
 
-# ---- what stands far back is searched, so that all are linked
+# ---- searches for matches that are far back, so that all are linked
 
 def far():
     for count, pairs in ((5, 32_000), (8, 4_000), (10, 1_000)):
@@ -43,7 +43,7 @@ def far():
         *START, forks(8), *under(range(2_000), MATCH), *turns), "severed", 2
 
 
-# ---- the same matches again, where their places are forgotten
+# ---- the same matches again, after their places are forgotten
 
 def repeated():
     every = tries(*((sets((3, ("digest", 300 + number, 32))), MATCH) for number in range(64)), None)
@@ -51,7 +51,7 @@ def repeated():
         every, *under(told_before(32_000, 3, 9_000), MATCH)), "severed", 2
 
 
-# ---- lists that are short, and written away
+# ---- short lists, each of which a write ends
 
 def short():
     for count in (15, 16, 17, 200, 260):

@@ -1,5 +1,6 @@
-"""Plans made against the tables of matches by computing where a match has its place there: two that take one place, so that each is put
-into its list again; those that lie deep in a list; and matches that are made anew each time, which stay until the judgement ends."""
+"""Plans that were made against the tables of matches, by computing the place that a match has in them: two matches with the same place, so
+that each is put into its list again and again; matches that lie deep in a list; and matches that are made anew each time, and stay until
+the judgement ends."""
 
 import against_lists
 from bred import ALL, EACH, IMAGE, INVOKE, MATCH, WIDEST, WRITE, again, pick, run, sets, size, tries
@@ -7,7 +8,7 @@ from bred import ALL, EACH, IMAGE, INVOKE, MATCH, WIDEST, WRITE, again, pick, ru
 CONTENT = sets((18, ("bytes", 0xAA, 1)), (22, 1), (21, ("bytes", 20, 1)))
 EIGHT = tuple(range(8))
 SEVEN = ((5, 0), (12, True), (13, True), (18, ("bytes", 1, 0)), (21, ("bytes", 97, 0)), (22, 0), (23, ("bytes", 1, 0)))
-# Sizes whose matches, behind the digest of 32 bytes 0x11, have a fingerprint that ends in fifteen zeros, and nine more in its middle: each
+# Sizes whose matches, with the digest of 32 bytes 0x11, have a fingerprint that ends in fifteen zeros and has nine more in its middle. Each
 # lies below those before it.
 DEEP = (
     10027453, 14858039, 18904430, 25039188, 43536129, 43564780, 43833288, 53992873, 58255637, 61798552, 149073047, 156870666, 157579762,
@@ -20,10 +21,10 @@ DEEP = (
     1313732628, 1319945413, 1324343853, 1339387191, 1376093828, 1389347371, 1416916257, 1433968191, 1474489493, 1509894590, 1525340603,
     1534375265, 1544656281, 1545882531, 1560798479, 1565721168, 1607264972, 1612250812, 1626932883, 1657444151, 1657629954, 1659183119,
     1660909305, 1680233698, 1695187597, 1707848127,)
-# The first at component 0 and the second at component 1 have one place.
+# In each pair, the first at component 0 and the second at component 1 have the same place.
 DEEP_PAIR, SHALLOW_PAIR = (55_752_730, 752_359_645), (528, 104)
-# Of each component two sizes that have one place among all, one among those of the component, and among those used last one with all others
-# here.
+# For each component, two sizes that have the same place among all matches and among those of the component. Among the matches used last
+# all of these have the same place.
 BOTH = (
     (6320016898366597851, 3180161213313476319),
     (1694479192922533926, 8928724347710650205),
@@ -44,10 +45,10 @@ def digest(number):
     return sets((3, ("digest", number, 32)))
 
 
-# ---- two matches, one of each of two components, that take one place: each is put again, and those that are there twice are dropped again
+# ---- two matches with the same place, one of each of two components: each is put there again, and those that are there twice are dropped
 
 def behind(count, numbers, one, other):
-    """So many matches at both components, and one more of each."""
+    """`count` matches at both components, and then one more at each of the two."""
     return ALL, sets((3, IMAGE)), *under(numbers[:count]), pick(0), *under((one,)), pick(1), *under((other,))
 
 
@@ -59,10 +60,10 @@ def of_one_place():
                     *behind(count, numbers, *pair), pick(0, 1, times=1_000), again(10, *acts)), "twice", 2
 
 
-# ---- two matches in turn by each command, which have one place among those used last too
+# ---- two matches, used in turn by each command, that have the same place among those used last too
 
 def turns(count, apart):
-    """At each of eight components the one, and behind a round the other."""
+    """Each of eight components has its first match in one round, and its second in the next."""
     first, second = (tuple(node for at in EIGHT for node in (pick(at), size(BOTH[at][one]))) for one in (0, 1))
     invokes = (again(count, pick(*EIGHT), INVOKE),) if apart else (pick(*EIGHT), again(count, INVOKE))
     return *first, pick(0, 0), run(*invokes, *second)
@@ -77,7 +78,7 @@ def in_turn():
         *matched, ALL, *under(DEEP), pick(0, times=100), run(*turns(5, True)), pick(0)), "twice", 8
 
 
-# ---- sizes at eight digests in few ways: nearly all are made, and what was read stands beside them
+# ---- sizes with eight digests in few ways: nearly all matches are made, and what was read is held next to them
 
 def digests_at_eight(first):
     return tuple(node for at in EIGHT for node in (pick(at), digest(first + at)))
@@ -94,7 +95,7 @@ def few_ways():
         again(9, size(EACH), MATCH, size(("v", 500_000)), MATCH, WRITE), pick(0)), "severed", 8
 
 
-# ---- each command sees another digest in each round, under more sizes than the tables hold
+# ---- each command meets another digest in each round, with more sizes than the tables hold
 
 def rounds():
     for count, mixed in ((5_000, False), (20_000, False), (20_000, True), (30_000, True)):

@@ -1,4 +1,4 @@
-"""What the measurements share: a program that makes a list of calls and hashes by the same library, and what a run costs."""
+"""What the measurements share: a program that makes listed calls and hashes with the same library, and functions that measure a run."""
 
 import json
 import os
@@ -15,7 +15,7 @@ TOLD = ("image", "suit.flash", "boot-0.img")
 
 
 def by_hand(folder):
-    """The program: what the environment names in BY_HAND, or one that is built now."""
+    """The program that makes the listed calls: the one that BY_HAND names, or one that is built now."""
     named = os.environ.get("BY_HAND")
     return os.path.abspath(named) if named else build(folder, "by_hand", ["sha2"], {"src/main.rt": text_of("by_hand_main.txt")})
 
@@ -36,12 +36,12 @@ def run(*words):
 
 
 def listed(calls):
-    """The list that the program takes."""
+    """The calls in the form in which the program reads them."""
     return b"".join(bytes([KINDS[kind]]) + count.to_bytes(3, "big") + place.to_bytes(4, "big") for kind, count, place in calls)
 
 
 def traced(*words):
-    """The calls that a run makes of the image, of the flash and of the file that is launched."""
+    """The calls that a run makes on the image, on the flash and on the file that is launched."""
     run("strace", "-o", "trace", "-e", "trace=openat,read,pread64,write,pwrite64,fsync", *words)
     names, found = {}, []
     with open("trace") as lines:
@@ -56,7 +56,7 @@ def traced(*words):
 
 
 def cost(*words):
-    """The seconds of one run, and those of a processor."""
+    """The seconds that one run takes, and its seconds of a processor."""
     begin = time.perf_counter()
     with open(os.devnull, "wb") as out:
         ran = subprocess.Popen(words, stdout=out)
@@ -69,14 +69,14 @@ def cost(*words):
 
 
 def held(*words):
-    """The most bytes that a run has in memory at once."""
+    """The most bytes that a run has in memory at any time."""
     run("/usr/bin/time", "-f", "%M", "-o", "held", *words)
     with open("held") as file:
         return int(file.read().split()[-1]) * 1024
 
 
 def instructions(*words):
-    """Those of a run, and those of its functions that cost most."""
+    """The instructions of a run, and those of the functions that take most of them."""
     run("valgrind", "--tool=callgrind", "--callgrind-out-file=callgrind.out", *words)
     told = subprocess.run(["callgrind_annotate", "callgrind.out"], capture_output=True, text=True).stdout
     found = re.findall(r"^ *([\d,]+) (?:\( ?[\d.]+%\) )?(.*)$", told, re.M)
@@ -86,7 +86,7 @@ def instructions(*words):
 
 
 def uses_of(names):
-    """The repository's crates that these use, with those that they use, and the lines of all in crates.txt."""
+    """These crates of the repository and all that they depend on, each with its line in crates.txt."""
     with open(os.path.join(TOP, "crates.txt")) as lines:
         uses = {line.split(":")[0].split()[0]: line.split(":")[1].split() for line in lines if ":" in line}
     found, left = {}, list(names)
@@ -99,7 +99,7 @@ def uses_of(names):
 
 
 def link(one, other):
-    """A second name for a file, which rt does not write into."""
+    """Gives a file a second name, or copies it. rt does not write to it."""
     try:
         os.link(one, other)
     except OSError:
@@ -107,7 +107,7 @@ def link(one, other):
 
 
 def build(folder, name, uses, files):
-    """Proves and builds a program beside the crates that it uses, over their libraries where ./suit has built them."""
+    """Proves and builds a program next to copies of the crates that it uses, with the libraries of those that ./suit has built."""
     lines = uses_of(uses)
     for crate in lines:
         for part in ("src", "specs", "proofs", "out/rlib"):
@@ -134,7 +134,7 @@ def text_of(name):
 
 
 def told_rounds(program, place, count, image=b""):
-    """The numbers that the program tells of each round, in a folder of its own, which has the image."""
+    """The numbers that the program prints for each round. It runs in a folder of its own, which contains the image."""
     with tempfile.TemporaryDirectory(dir=place) as folder:
         write(os.path.join(folder, "image"), image)
         ran = subprocess.run([program], cwd=folder, capture_output=True, text=True)

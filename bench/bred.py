@@ -1,12 +1,13 @@
-"""Plans that can be changed by chance: a procedure's commands as a tree in which a repetition is one node. How wide and how long a plan is
-follows from the tree, so a repetition can be filled up to what is judged. By the same numbers the same plan is made again.
+"""Plans that can be changed by chance. A plan is the commands of a procedure as a tree in which a repetition is one node. The width and the
+length of a plan are computed from the tree, so a repetition can be increased to the most that is judged. The same numbers always make the
+same plan.
 
-    ("set", ((key, value), ..))    an override; a value is a number, or a kind, a byte and a length; with "v" in front it differs in each
-                                   copy that a repetition makes
-    ("pick", indices, times)       a selection: a list so many times over, or one index alone, or "all"
+    ("set", ((key, value), ..))    an override; a value is a number, or a kind, a byte and a length; with "v" in front of it, it differs
+                                   in each copy that a repetition makes
+    ("pick", indices, times)       a selection: a list of indices, `times` times over, or a single index, or "all"
     ("test", key) ("act", key)     a condition, and a directive
     ("run", nodes) ("tries", branches)    a branch may be None
-    ("again", count, nodes)        so many times in a row"""
+    ("again", count, nodes)        the nodes, `count` times in a row"""
 
 import functools
 import hashlib
@@ -18,9 +19,9 @@ from inputs import byte_string, head, parts_of
 WIDEST, LONGEST, LONGEST_FILE = worst.WIDEST, 16_200, 1_040_000
 DEEPEST = 7
 PLACES = ("invoke", "behind", "twice", "severed", "shared", "told", "beside", "along")
-# Overrides of eight keys, which are long when they are read, and each of which takes one step.
+# How many overrides the long member has: each is of eight keys, which takes much room when it is read, but only one step.
 LONG_COUNT = 56_000
-# As many sizes, each matched in 32 states, as the width allows.
+# How many sizes the dear member matches, each in 32 states: as many as the width allows.
 PAIR_COUNT = 65_500
 TESTS, ACTS = (3, 1, 2, 24, 5, 6), (18, 23, 31, 21, 22)
 NUMBERS, IDENTITIES, BYTES = (5, 14, 22), (1, 2, 24), (18, 23, 21)
@@ -69,7 +70,7 @@ EIGHT = sets((5, 0), (12, True), (13, True), (14, 1), (18, ("bytes", 1, 0)), (21
 # ---- how wide they are, and how long
 
 def composed(one, other):
-    """The work and the ways of one behind the other."""
+    """The work and the ways of one, followed by the other."""
     return one[0] + other[0], one[1] * other[1], one[2] + one[1] * other[2]
 
 
@@ -88,7 +89,7 @@ def selected_by(node, count):
 
 
 def measured(nodes, count, selected=1):
-    """Work, ways to complete and to end by a condition, and how many are selected behind it."""
+    """The work, in how many ways the nodes complete or are ended by a condition, and how many components are selected after them."""
     all = 0, 1, 0
     for node in nodes:
         ways, selected = measured_one(node, count, selected)
@@ -158,7 +159,7 @@ def shifted(value, shift):
 
 
 def commands_of(nodes, shift=0):
-    """The commands, as `worst` spells them."""
+    """The commands in the form that `worst` spells."""
     all = []
     for node in nodes:
         kind = node[0]
@@ -184,13 +185,13 @@ def with_head(length):
 
 
 def spelled_length(nodes, shift=0):
-    """How long a sequence is, at most: a repetition counts as so many of its last copy."""
+    """How long a sequence is at most. Each copy that a repetition makes counts as long as the last one."""
     count, length = lengths(nodes, shift)
     return length + len(head(0, 2 * count))
 
 
 def lengths(nodes, shift):
-    """How many commands they are, and how long."""
+    """How many commands the nodes are, and how many bytes these take."""
     commands = length = 0
     for node in nodes:
         if node[0] == "again":
@@ -221,13 +222,13 @@ def dear_member():
 
 
 class Plan:
-    """Commands, in which member they stand, and of how many components."""
+    """Commands, the member that they are in, and the number of components."""
 
     def __init__(self, nodes, place="invoke", count=2):
         self.nodes, self.place, self.count = tuple(nodes), place, count
 
     def members(self):
-        """What stands in the shared sequence, and the members of the wider procedure, each as nodes."""
+        """The shared sequence and the members of the wider procedure, all as nodes."""
         shared, end = (sets((3, IMAGE)),), OPEN if self.place == "told" else ENDING
         if self.place == "shared":
             return shared + self.nodes, [end]
@@ -257,7 +258,7 @@ class Plan:
             pairs.append(b"\x14\x82\x2f" + byte_string(hashlib.sha256(spelled[0]).digest()))
             beside = b"\x14" + spelled[0]
         elif self.place in ("beside", "along"):
-            # A member that only the other procedure runs: a long one, or one that is dear in time.
+            # A member that only the other procedure runs: a long one, or one that takes long to judge.
             other = long_member() if self.place == "beside" else dear_member()
             pairs += [b"\x09" + spelled[0], b"\x14\x82\x2f" + byte_string(hashlib.sha256(other).digest())]
             beside = b"\x14" + other
@@ -275,7 +276,7 @@ class Plan:
         return sum(map(spelled_length, [shared, *members]))
 
     def is_judged(self, widest=WIDEST):
-        # The length is looked at last, since it takes longest.
+        # The length comes last, since it takes longest to compute.
         if depth(self.nodes) > DEEPEST or self.width() > widest:
             return False
         if steps(self.nodes) > LONGEST_FILE // 2:
@@ -284,14 +285,14 @@ class Plan:
 
 
 def steps(nodes):
-    """How many commands are spelled."""
+    """How many commands the spelled sequence has."""
     return sum(node[1] * steps(node[2]) if node[0] == "again" else 1 + sum(map(steps, inners(node))) for node in nodes)
 
 
 # ---- changes by chance
 
 def paths(nodes, path=()):
-    """Each sequence in the tree, as the way to it."""
+    """The path to each sequence in the tree."""
     yield path
     for at, node in enumerate(nodes):
         if node[0] in ("run", "again"):
@@ -309,7 +310,7 @@ def sequence_at(nodes, path):
 
 
 def replaced(nodes, path, changed):
-    """The tree with another sequence there."""
+    """The tree with another sequence at the end of this path."""
     if not path:
         return tuple(changed)
     at, branch = path[0]
@@ -322,8 +323,8 @@ def replaced(nodes, path, changed):
 
 
 def filled(plan, draw, widest=WIDEST):
-    """With some repetition filled up to what is judged, or some cut down to it: the last one where nothing is drawn. None where nothing
-    helps."""
+    """The plan with a repetition increased to the most that is judged, after repetitions were halved while it was too wide or too long.
+    Which ones is drawn; without a draw it is always the last one. None if that does not help."""
     def any_of(count):
         return draw.randrange(count) if draw else count - 1
 
@@ -392,7 +393,7 @@ def drawn_pick(draw, count):
 
 
 def drawn_fork(draw, count):
-    """Two states or more behind it."""
+    """Nodes that leave two states or more."""
     kind = draw.randrange(6)
     number = draw.randrange(10_000, 60_000)
     if kind == 0:
@@ -501,7 +502,7 @@ def changed_once(plan, draw, others):
 
 
 def bred(plan, seed, others, widest=WIDEST):
-    """The plan that a number makes of another: some changes, and then filled. None where it is not judged."""
+    """The plan that a seed makes of another one: changed a few times, and then filled. None if it is not judged."""
     draw = random.Random(seed)
     for _ in range(draw.choice((1, 1, 1, 2, 2, 3, 5))):
         plan = changed_once(plan, draw, others)
@@ -511,7 +512,7 @@ def bred(plan, seed, others, widest=WIDEST):
 
 
 def drawn(seed, widest=WIDEST):
-    """A plan by chance alone."""
+    """A plan that is drawn from a seed alone."""
     draw = random.Random(seed)
     count = draw.choice((1, 2, 2, 8))
     nodes = tuple(node for _ in range(draw.randrange(1, 5)) for node in drawn_nodes(draw, count))

@@ -1,5 +1,5 @@
-"""Envelopes of `suit check` that are drawn by chance: procedures of one to eight components, with loops over components, tries,
-overrides, matches, writes and conditions on the identity, of which many are as wide as may be judged."""
+"""Envelopes for `suit check` that are drawn by chance: procedures of one to eight components with loops over components, tries, overrides,
+matches, writes and conditions on the identity. Many of them are as wide as `check` judges."""
 
 import random
 
@@ -22,7 +22,7 @@ def digest(of):
 
 
 def parameters(draw, count):
-    """Some parameters, in the order of their keys."""
+    """A map of some parameters, in the order of their keys."""
     values = {
         1: lambda: byte_string(draw.choice(IDENTIFIERS)),
         2: lambda: byte_string(draw.choice(IDENTIFIERS)),
@@ -95,7 +95,7 @@ def drawn(stored, seed):
     return bytes.fromhex("d86b") + head(5, 2) + parts_of(stored)[0] + b"\x03" + byte_string(manifest)
 
 
-# ---- shapes that are dear: tries each of which multiplies the states, and then commands in all of them, up to the width
+# ---- shapes that are dear: tries, each of which multiplies the states, and then commands in all of these, up to the width
 
 WIDEST = 4_194_304
 
@@ -118,7 +118,7 @@ FORKS = [
     lambda draw, n: (override([(21, b"\x61" + bytes([65 + n])), size(n)]) + b"\x03\x0f", 2, 2, 2),
 ]
 
-# Commands in all states behind the tries: their bytes, and how many they are.
+# Commands in all states after the tries: their bytes, and how many they are.
 TAILS = [
     lambda draw, n: (override([size(n)]), 1),
     lambda draw, n: (override([size(n)]) + b"\x03\x0f", 2),
@@ -131,7 +131,7 @@ TAILS = [
 
 
 def inside(draw, fork, count):
-    """A fork, sometimes behind a selection of a component, which is one more command."""
+    """A fork, sometimes after the selection of a component, which is one more command."""
     branch, many, work, ways = fork
     if count > 1 and draw.random() < 0.5:
         return b"\x0c" + head(0, draw.randrange(count)) + branch, many + 1, work + 1, ways
@@ -139,7 +139,7 @@ def inside(draw, fork, count):
 
 
 def shaped(stored, seed):
-    """The envelope that a seed draws: as many commands behind the tries as the width and the length allow."""
+    """The envelope that a seed draws, with as many commands after the tries as the width and the length allow."""
     draw = random.Random(seed)
     count = draw.choice((1, 2, 8))
     kinds = draw.sample(FORKS, draw.randrange(1, 3))

@@ -1,5 +1,5 @@
-/* Hashes the file `image` by SHA-256, SHA-384 and SHA-512, as FIPS 180-4 is written down, in plain C. Writes the
-   nanoseconds of each, round by round, and then the first eight bytes of each digest as a number. */
+/* Hashes the file `image` with SHA-256, SHA-384 and SHA-512, in plain C that follows the text of FIPS 180-4. Prints for each round the
+   nanoseconds of each, and then the first eight bytes of each digest as a number. */
 #include <stdint.h>
 #include <stdio.h>
 #include <stdlib.h>
@@ -32,7 +32,7 @@ static const uint64_t H384[8] = {0xcbbb9d5dc1059ed8, 0x629a292a367cd507, 0x91590
 static const uint64_t H512[8] = {0x6a09e667f3bcc908, 0xbb67ae8584caa73b, 0x3c6ef372fe94f82b, 0xa54ff53a5f1d36f1,
                                  0x510e527fade682d1, 0x9b05688c2b3e6c1f, 0x1f83d9abfb41bd6b, 0x5be0cd19137e2179};
 
-/* The words of SHA-256 are the upper halves of the first of these. */
+/* SHA-256 uses the upper halves of the first of the words above. */
 static uint32_t upper(uint64_t word) { return (uint32_t)(word >> 32); }
 
 static uint32_t turn32(uint32_t x, int n) { return x >> n | x << (32 - n); }
@@ -77,7 +77,8 @@ static void block512(uint64_t h[8], const uint8_t *block)
     h[0] += a, h[1] += b, h[2] += c, h[3] += d, h[4] += e, h[5] += f, h[6] += g, h[7] += last;
 }
 
-/* The last blocks: what is left, the bit, zeros and the length in bits. Returns how many bytes they are. */
+/* Writes the last one or two blocks to `end`: the bytes that are left, a one bit, zeros, and the length in bits. Returns how many bytes
+   these are. */
 static size_t padded(uint8_t *end, const uint8_t *bytes, size_t length, size_t block)
 {
     size_t left = length % block, room = left + 1 + block / 8 <= block ? block : 2 * block;
@@ -90,7 +91,7 @@ static size_t padded(uint8_t *end, const uint8_t *bytes, size_t length, size_t b
     return room;
 }
 
-/* The first eight bytes of the digests. */
+/* These return the first eight bytes of the digests. */
 static uint64_t sha256(const uint8_t *bytes, size_t length)
 {
     uint32_t h[8];

@@ -1,9 +1,9 @@
-"""Large inputs of `suit check`: envelopes made of the stored one, each of a size or a width that is asked for."""
+"""Large inputs for `suit check`: envelopes made from the stored one, each of a given size or width."""
 
 LIMIT = 1_048_576
 
-# Widths of equal states, and numbers of branches, each of which doubles the distinct states: the last are the widest that
-# are judged.
+# Widths for equal states, and numbers of branches for distinct states, which each branch doubles. The last of each are the widest that is
+# judged.
 WIDTHS = (1_024, 16_384, 262_144, 4_194_304)
 BRANCHES = (6, 10, 14, 16)
 
@@ -64,7 +64,7 @@ MATCH = bytes.fromhex("82030f")
 
 
 def judged(stored, members, count=1):
-    """An envelope whose manifest has so many components, the first the image of the stored one, and these members behind common."""
+    """An envelope whose manifest has `count` components, with the image of the stored one, and these members after common."""
     components = head(4, count) + b"".join(b"\x81\x41" + bytes([number]) for number in range(count))
     common = head(5, 2) + b"\x02" + components + b"\x04" + byte_string(IMAGE)
     pairs = [b"\x01\x01", b"\x02\x01", b"\x03" + byte_string(common)] + members
@@ -82,14 +82,14 @@ def many_commands(stored, size):
 
 
 def many_states(stored, width):
-    """So many matches that may fail that about `width` is judged: each doubles the states."""
+    """Matches that may fail, each of which doubles the states: as many as make the width about `width`."""
     count = {1024: 6, 16384: 9, 262144: 13, 4194304: 16}[width]
     tries = b"".join(b"\x0f\x82" + byte_string(MATCH) + b"\xf6" for _ in range(count))
     return judged(stored, [b"\x09" + byte_string(head(4, 2 * count + 4) + tries + b"\x03\x0f\x17\x0f")])
 
 
 def distinct_states(stored, count):
-    """So many branches, each of which sets another size and matches: all states differ."""
+    """`count` branches, each of which sets another size and matches, so that all states differ."""
     tries = b""
     for number in range(count):
         branch = head(4, 4) + b"\x14\xa1\x0e" + head(0, 100 + number) + b"\x03\x0f"
@@ -112,19 +112,19 @@ def size_of(number):
 
 
 def invoked(stored, items, commands, count=1):
-    """An envelope whose invocation does these, of so many items, and then matches the image and invokes it."""
+    """An envelope whose invocation runs these commands, which are `items` items, and then matches the image and invokes it."""
     return judged(stored, [b"\x09" + byte_string(head(4, items + 6) + commands + COVERED)], count)
 
 
 def many_overrides(stored, times):
-    """An override of twelve parameters, done so many times the square: a list of so many indices round another."""
+    """An override of twelve parameters, done `times` times `times` times: a list of that many indices inside another."""
     listed = b"\x0c" + head(4, times) + b"\x00" * times
     inner = byte_string(head(4, 4) + listed + OVERRIDE)
     return invoked(stored, 4, listed + b"\x18\x20" + inner)
 
 
 def many_facts(stored, count):
-    """So many tries, each of which doubles the states, and then a condition on the identity of each of eight components."""
+    """`count` tries, each of which doubles the states, and then three conditions on the identity of each of eight components."""
     tries = b"".join(b"\x0f\x82" + byte_string(head(4, 4) + size_of(number) + MATCH[1:]) + b"\xf6" for number in range(count))
     ids = b"\x14\xa3\x01\x50" + b"\x00" * 16 + b"\x02\x50" + b"\x00" * 16 + b"\x18\x18\x50" + b"\x00" * 16
     conditions = ALL + ids + b"\x01\x0f\x02\x0f\x18\x18\x0f" + size_of(3)
@@ -132,27 +132,27 @@ def many_facts(stored, count):
 
 
 def many_matches(stored, count, states=0):
-    """So many matches of each of eight components, each of another size, in so many states doubled."""
+    """`count` matches at each of eight components, each of another size, in 2^`states` states."""
     tries = b"".join(b"\x0f\x82" + byte_string(head(4, 4) + size_of(9000 + number) + MATCH[1:]) + b"\xf6" for number in range(states))
     matches = b"".join(size_of(number) + b"\x03\x0f" for number in range(count))
     return invoked(stored, 2 * states + 4 * count + 6, tries + ALL + IMAGE[1:] + matches + size_of(3), 8)
 
 
 def matches_in_a_try(stored, count):
-    """So many matches, each of another size, in a try: each may end its branch."""
+    """`count` matches, each of another size, in a try, whose branch each of them may end."""
     matches = head(4, 4 * count) + b"".join(size_of(number) + b"\x03\x0f" for number in range(count))
     return invoked(stored, 4, b"\x0f\x82" + byte_string(matches) + b"\xf6" + size_of(3))
 
 
 def writes_beside(stored, count, times):
-    """So many matches of each of eight components, and then so many of one of them, each of which is ended by a write."""
+    """`count` matches at each of eight components, and then `times` matches at one of them, each of which a write ends."""
     matches = b"".join(size_of(number) + b"\x03\x0f" for number in range(count))
     writes = b"\x0c\x01\x14\xa1\x12\x41\xaa" + b"\x03\x0f\x12\x0f" * times
     return invoked(stored, 4 * count + 4 * times + 12, ALL + IMAGE[1:] + matches + writes + b"\x0c\x00" + size_of(3), 8)
 
 
 def many_overrides_told(stored, times):
-    """The same as many overrides, but for the match: the invoke is not covered."""
+    """The same as `many_overrides`, but without the match, so that the invoke is not covered."""
     listed = b"\x0c" + head(4, times) + b"\x00" * times
     inner = byte_string(head(4, 4) + listed + OVERRIDE)
     return judged(stored, [b"\x09" + byte_string(head(4, 6) + listed + b"\x18\x20" + inner + b"\x17\x0f")])

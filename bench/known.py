@@ -1,5 +1,5 @@
-"""Plans that were dear at some time, or that were made by reading the body: from these `bench/search` begins. Each is one of a kind, and
-not yet filled where a repetition stands last."""
+"""The plans that `bench/search` begins with: plans that were dear at some time, and plans that were made by reading the checker's code. Each
+is of another kind. If a plan ends with a repetition, that is not yet filled."""
 
 from against import against
 from against_alone import against_alone
@@ -16,7 +16,7 @@ CELLS = tuple(
                                    (1, ("bytes", 4, 16)), (2, ("bytes", 5, 16)), (24, ("bytes", 6, 16))))
 )
 LAST = (size(8_888), MATCH)
-# Under these, behind the digest of 32 bytes 0x11, each match lies in the search tree below the one before it, and that of size 0 below all.
+# With these sizes and the digest of 32 bytes 0x11, each match lies below the one before it in the search tree, and that of size 0 below all.
 DEEP = (1_283, 2_200, 10_751, 20_702, 46_874, 71_662, 272_081, 464_996, 1_022_571, 1_040_589, 5_691_220, 7_016_594, 9_657_326, 12_629_774,
         27_040_640, 126_098_492, 247_349_042, 477_141_728, 1_234_494_685)
 
@@ -34,7 +34,7 @@ def cells(count):
 
 
 def distinct(count):
-    """Each with a cell and a size of its own."""
+    """Forks, each with a cell and a size of its own."""
     kinds = ((5, EACH), (18, ("v", ("bytes", 1, 8))), (23, ("v", ("bytes", 2, 8))), (21, ("v", ("bytes", 3, 8))))
     return tuple(again(count // 4 + (number < count % 4), tries((size(("v", 100 + 200 * number), cell), MATCH), None))
                  for number, cell in enumerate(kinds))
@@ -52,14 +52,14 @@ START = (ALL, CONTENT, pick(0))
 
 
 def looped(counts, *inner):
-    """In loops over two components, each inside the one before."""
+    """The nodes in loops over two components, each loop inside the one before it."""
     for count in reversed(counts):
         inner = (pick(0, 1, times=count // 2), run(*inner))
     return (*inner, pick(0))
 
 
 def digests(kind, count):
-    """Each component under a digest of 64 bytes of its own."""
+    """A match at each component, each with a digest of 64 bytes of its own."""
     return tuple(node for number in range(count) for node in (pick(number), sets((3, (kind, number, 64)), (14, number)), MATCH))
 
 
@@ -68,7 +68,7 @@ def contents(length, count=8):
 
 
 def ways(count, key, length=2):
-    """So many ways, each with another value under a key."""
+    """`count` ways, each with another value for a key."""
     return tries(*((sets((key, ("bytes", 256 * number + 97, length))), MATCH) for number in range(count)), None)
 
 
@@ -201,7 +201,7 @@ def long_ones():
 
 
 def known():
-    """All plans, by their names."""
+    """All plans, by name."""
     all = {}
     for kind in (outside, in_states, compared, in_loops, long_ones, against, against_alone, against_lists, against_tables):
         for name, nodes, place, count in kind():

@@ -1,5 +1,6 @@
-/* Refuses memory to a program: a library that is loaded before the C library's. The requests of malloc and realloc are counted from 1;
- * the one whose number is REFUSED is refused, and, where ONWARDS is set, all behind it. At the end the count is put on descriptor 2. */
+/* A library that refuses memory to a program. It is loaded before the C library. Requests of malloc and realloc are counted from 1; the one
+ * with the number REFUSED is refused, and so are all after it if ONWARDS is set. When the program ends, their count is written to
+ * descriptor 2. */
 #include <stddef.h>
 #include <stdio.h>
 #include <stdlib.h>

@@ -1,5 +1,6 @@
-"""Runs programs, one a line of the input, its words apart by tabs, and tells of each its status, its seconds of a processor and its most
-megabytes. It is a small process, so what a program has before it begins is little: a child of a large one has had that one's memory."""
+"""Runs programs, one for each line of the input, whose words are separated by tabs. Prints the status of each, its seconds of a processor
+and the most megabytes that it had. This is a process of its own because a child's memory includes what its parent had when it was forked,
+which is little here."""
 
 import os
 import resource
@@ -26,7 +27,7 @@ def spend(words):
 
 
 class Spender:
-    """The process, for those who ask it."""
+    """Starts this file as a process, and passes programs to it."""
 
     def __init__(self):
         self.process = subprocess.Popen(

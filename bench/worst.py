@@ -1,6 +1,6 @@
-"""Envelopes of `suit check` that are made against the way it judges: forks that leave many states behind them, and then commands
-that are dear in each, at each place where states are kept: outside inner sequences, inside one, in a loop over components, in a
-branch, and before a member that follows. Each is filled up to the width that is judged and to the length of a manifest."""
+"""Envelopes that are made against the way `suit check` judges: forks that leave many states, and then commands that are dear in each of
+them, at each place where states are kept: outside inner sequences, inside one, in a loop over components, in a branch, and before a
+member that follows. Each is filled up to the width that is judged and to the length of a manifest."""
 
 import hashlib
 
@@ -48,7 +48,7 @@ def spelled_one(command):
 
 
 def measured(commands, selected=1):
-    """Work, and the ways to complete and to end by a condition."""
+    """The work, and in how many ways the commands complete or are ended by a condition."""
     work, on, off = 0, 1, 0
     for command in commands:
         kind = command[0]
@@ -98,7 +98,7 @@ ALL_KEYS = SOME_IDS + ((3, digest(IMAGE)), (5, b"\x00"), (13, b"\xf4"), (18, b"\
 
 
 def nested(inside, depth):
-    """The selection of a component inside so many sequences."""
+    """The selection of a component inside `depth` sequences."""
     return index(0) if depth == 0 else inside(nested(inside, depth - 1))
 
 
@@ -153,13 +153,13 @@ PLACES = (outside, in_a_run, tail_in_a_run, in_a_branch, in_a_loop)
 
 
 def is_judged(commands):
-    """Whether they are within the width, with what stands before and behind them, and within the length."""
+    """Whether the commands, with what comes before and after them, are within the width, and within the length."""
     work, on, _ = measured(commands)
     return (work + 60) * on <= WIDEST and len(spelled(commands)) <= LONGEST
 
 
 def filled(place, forks, tail):
-    """As many of the tail's commands as are judged."""
+    """The forks with as many commands of the tail as are judged."""
     low, high = 0, LONGEST // len(spelled(tail(0))[1:]) + 1
     while low < high:
         count = (low + high + 1) // 2
@@ -170,7 +170,7 @@ def filled(place, forks, tail):
     return place(forks, [command for n in range(low) for command in tail(n)])
 
 
-# ---- loops in which what happens is told again and again
+# ---- loops in which the same events are reported again and again
 
 WRITE = ("act", b"\x12\x0f")
 SWAP = ("act", b"\x18\x1f\x0f")
@@ -183,24 +183,24 @@ def content(byte, length):
 
 
 def turns(count):
-    """A list of two components that take turns."""
+    """A list of indices in which two components take turns."""
     return index(*[0, 1] * (count // 2))
 
 
 def looped(counts, inner):
-    """Commands in loops over two components, each inside the one before."""
+    """Commands in loops over two components, each loop inside the one before it."""
     for count in reversed(counts):
         inner = [turns(count), run(*inner)]
     return inner + [index(0)]
 
 
 def alike(number):
-    """An override of a digest that begins as others."""
+    """An override of a digest that begins like others."""
     return [override((3, digest(b"\x11" * 31 + bytes([number]))))]
 
 
 def in_loops():
-    """Commands that are done millions of times, each behind its name."""
+    """Commands that are done many times in loops, each with its name."""
     start = [ALL, override((18, b"\x41\xaa"), (22, b"\x01")), index(0)]
     sizes = [command for number in range(100) for command in (override((3, digest(IMAGE)), (14, head(0, number))), MATCH)]
     apart = [command for number in range(200) for command in (size(number), index(number % 2))]
@@ -220,7 +220,7 @@ def in_loops():
     yield "4,000,000 matches of digests that begin alike", alike(0) + [MATCH] + alike(1) + [index(1)] + alike(2) + [turns(2000)] + [MATCH] * 2000
 
 
-# ---- what is made against fingerprints, against what is lent, and against the comparison of parameters
+# ---- against fingerprints, against what is lent, and against the comparison of parameters
 
 FACTOR = 0x9E37_79B9_7F4A_7C15
 PARTS = 1 << 64
@@ -232,7 +232,7 @@ def mixed(print, number):
 
 
 def of_one_fingerprint(count):
-    """Digests whose bytes, mixed in once by multiplication, come to one number, as the fingerprint of a match once did."""
+    """Digests whose words give the same number when they are mixed in by multiplication, as the fingerprint of a match once was."""
     wanted, back = 0x1234_5678_9ABC_DEF0, pow(FACTOR, -1, PARTS)
     for number in range(count):
         words = [number, 1, 1]
@@ -251,37 +251,39 @@ def met_fingerprints():
 
 
 def many_pairs(digests, sizes, times):
-    """Matches under each pair of a digest and a size, each digest in a state of its own, so many times."""
+    """Matches with each pair of a digest and a size, each digest in a state of its own, `times` times."""
     branches = [[override((3, digest(bytes([number]) * 32))), MATCH] for number in range(digests)]
     matches = [command for number in range(sizes) for command in (size(number), MATCH)]
     return [tries(*branches, None), index(*[0] * times), *matches, index(0)]
 
 
 def long_contents(length, forks, count):
-    """So many overrides in the states behind so many forks in a sequence, where so long a content is in force at eight components."""
+    """`count` overrides and writes in the states after `forks` forks in a sequence, with a content of `length` bytes in force at eight
+    components."""
     start = [("index", b"\x0c\xf5", 8), content(7, length), index(0)]
     return start + [run(*map(fork_by_size, range(forks)), *(command for number in range(count) for command in (size(number), WRITE)))]
 
 
 def alike_but_last(length, count):
-    """So many states that differ in the arguments of the last component alone, where so long a content is in force at all eight."""
+    """`count` states that differ only in the arguments of the last component, with a content of `length` bytes in force at all eight."""
     start = [("index", b"\x0c\xf5", 8), content(7, length), index(7), override((3, digest(IMAGE)))]
     branches = [[override((23, byte_string(number.to_bytes(2, "big")))), MATCH] for number in range(count)]
     return start + [run(tries(*branches, None), run(MATCH)), index(0)]
 
 
 def runs_in_states(forks, count):
-    """Sequences of a selection alone, in the states behind so many forks in a sequence, with all parameters in force at eight components."""
+    """`count` sequences that only select, in the states after `forks` forks in a sequence, with all parameters in force at eight
+    components."""
     start = [("index", b"\x0c\xf5", 8), override((14, b"\x00"), *ALL_KEYS), index(0)]
     return start + [run(*map(fork_by_size, range(forks)), *[run(index(0))] * count)]
 
 
 def together(length, count):
-    """So many overrides of a content of such a length, one after another, in a loop."""
+    """`count` overrides of a content of `length` bytes, one after another, in a loop."""
     return looped((100, 100, 400 // (count + 1)), [content(number, length) for number in range(count)])
 
 
-# ---- what is made by reading the body: failures that the width does not count, bytes that no bound on comparison counts, and states
+# ---- made by reading the checker's code: failures that the width does not count, bytes that no bound on comparisons counts, and states
 # that share nothing with the one before them
 
 def pairs_of(count, first=0):
@@ -289,13 +291,13 @@ def pairs_of(count, first=0):
 
 
 def in_a_last_branch(forks, count):
-    """A try without a null branch, in whose last branch so many matches may fail in each of the states behind so many forks in the
-    first. The width counts in how many ways it completes, and such a failure completes none."""
+    """A try without a null branch. Its first branch has `forks` forks, and in its last one `count` matches may fail in each state. The
+    width counts in how many ways the try completes, so these failures do not count."""
     return [tries([*map(fork_by_size, range(forks)), MATCH], pairs_of(count))]
 
 
 def fork_by_a_cell(number):
-    """Another parameter in force behind each, so that no state has the parameters of the one before it."""
+    """A fork that leaves another parameter in force than the other forks do, so that no state has the parameters of the one before it."""
     ids = [(key, byte_string(bytes([number]) * 16)) for key in (1, 2, 24)]
     one = byte_string(bytes([number]))
     pair = [(5, head(0, number)), (18, one), (23, one), (21, b"\x61" + bytes([65 + number])), *ids][number % 7]
@@ -307,20 +309,20 @@ def cells_in_a_run(forks, writes=0):
 
 
 def invokes_at_eight():
-    """Invokes of eight components in turn, each under a digest of 64 bytes of its own, done 4,000,000 times."""
+    """Invokes of eight components in turn, each with a digest of 64 bytes of its own, done 4,000,000 times."""
     digests = [byte_string(b"\x82\x38\x2b" + byte_string(bytes([number]) * 64)) for number in range(8)]
     matches = [command for number in range(8) for command in (index(number), override((3, digests[number]), (14, head(0, number))), MATCH)]
     return matches + [turns(100), run(turns(50), run(("index", b"\x0c\xf5", 8), *[INVOKE] * 103)), index(0)]
 
 
 def tries_in_states(forks, count):
-    """So many selections, each inside five tries, in the states behind so many forks in a sequence."""
+    """`count` selections, each inside five tries, in the states after `forks` forks in a sequence."""
     return [run(*map(fork_by_size, range(forks)), *[nested(lambda one: tries([one], None), 5)] * count)]
 
 
 def of_long_contents(length, ways):
-    """So many times so many times so many states in a sequence that differ in the last component alone, in a content, a URI and
-    arguments of equal length, where so long a content is in force at the other seven."""
+    """`ways` times `ways` times `ways` states in a sequence. They differ only at the last component, in a content, a URI and arguments of
+    equal length; the other seven have a content of `length` bytes in force."""
     kinds = ((18, byte_string), (21, lambda text: head(3, 2) + text), (23, byte_string))
     each = [tries(*[[override((key, spell(b"a" + bytes([97 + number])))), MATCH] for number in range(ways)], None) for key, spell in kinds]
     return [("index", b"\x0c\xf5", 8), content(7, length), index(7), override((3, digest(IMAGE))), MATCH, run(*each, run(MATCH)), index(0)]
@@ -334,7 +336,7 @@ def common_of(count):
 
 
 def judged_twice(stored, commands, count):
-    """They are in the validate member with an invoke behind them, which both procedures run."""
+    """An envelope with the commands, and an invoke after them, in the validate member, which both procedures run."""
     pairs = common_of(count) + [b"\x07" + byte_string(spelled(commands + ending()))]
     manifest = head(5, len(pairs)) + b"".join(pairs)
     return bytes.fromhex("d86b") + head(5, 2) + parts_of(stored)[0] + b"\x03" + byte_string(manifest)
@@ -345,7 +347,7 @@ def ending():
 
 
 def severed(stored, commands, count):
-    """They are in a severed install member with an invoke behind them. It may be as long as the file."""
+    """An envelope with the commands, and an invoke after them, in a severed install member, which may be as long as the file."""
     member = byte_string(spelled(commands + ending()))
     pairs = common_of(count) + [b"\x14\x82\x2f" + byte_string(hashlib.sha256(member).digest())]
     manifest = head(5, len(pairs)) + b"".join(pairs)
@@ -353,7 +355,7 @@ def severed(stored, commands, count):
 
 
 def enclosed(stored, commands, is_wanted, count):
-    """They are in the validate member where the states behind them are wanted, else in the invoke member."""
+    """An envelope with the commands in the validate member if a member is wanted after them, and otherwise in the invoke member."""
     pairs, end = common_of(count), ending()
     if is_wanted:
         pairs += [b"\x07" + byte_string(spelled(commands)), b"\x09" + byte_string(spelled(end))]
@@ -364,7 +366,7 @@ def enclosed(stored, commands, is_wanted, count):
 
 
 def worst(stored, count):
-    """So many envelopes, each behind its name: all combinations, or each so many-th of them."""
+    """`count` envelopes with their names, chosen evenly from all combinations."""
     all = [
         (name, place, fork, many, is_wanted)
         for place in PLACES for is_wanted in (False, True) for fork in FORKS for many in (6, 12, 15) for name in TAILS
@@ -378,7 +380,7 @@ def worst(stored, count):
 
 
 def dear(stored):
-    """Those in loops, as envelopes."""
+    """The commands in loops and others, as envelopes with their names."""
     for shows, commands in in_loops():
         yield shows, enclosed(stored, commands, False, 2)
     yield "invokes under 165 digests of one fingerprint, done 2,000,000 times", enclosed(stored, met_fingerprints(), False, 2)
