@@ -9,8 +9,9 @@ use crate::judge_plan::memory::Memory;
 use crate::judge_plan::stated::Stated;
 use std::alloc::AllocError;
 
-// Once as many were made after a search, all are forgotten, and equal ones may be made again.
-const MANY: usize = 32_768;
+// Once as many were made after a search, all are forgotten, and equal ones may be made again. It stays small, since a
+// search among many takes longer than a new match.
+const MANY: usize = 2_048;
 
 impl<'a> Match<'a> {
     /// A match in memory that states share, made without a search for an equal one.

@@ -33,8 +33,12 @@ const ALL: usize = 8;
 // A list that is no longer than this is searched one by one, and no match is in it twice.
 const FEW: usize = 16;
 
-// Duplicates are removed for the first time when a list is this long.
-const FULL: usize = 256;
+// A list that is longer than this grows by an eighth.
+const LONG: usize = 256;
+
+// Duplicates are removed for the first time when a list is this long. It is large, since that takes longer than adding
+// them, and the width bounds how many there are.
+const FULL: usize = 262_144;
 
 impl<'a> Match<'a> {
     pub(crate) fn new(stated: Stated<'a>) -> Match<'a>
@@ -163,7 +167,7 @@ fn room_after(len: usize, capacity: usize) -> usize {
     if len < capacity {
         return 0;
     }
-    if len < FULL {
+    if len < LONG {
         return len.max(4);
     }
     len / 8 + 1
