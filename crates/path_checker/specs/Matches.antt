@@ -1,7 +1,6 @@
 -- Matches, and lists of them. No definition says how they are found.
-use Rattle.std.specs.Prelude.{◌≡◌, ◌↔◌, ℕ, true, List, [], ◌∷◌, Option, Some, None}
+use Rattle.std.specs.Prelude.{◌≡◌, ◌↔◌, ℕ, Bool, true, false, List, [], ◌∷◌, Option, Some, None}
 use Rattle.suit_params.specs.declared.digest.Digest.{Digest}
-use Rattle.suit_params.specs.InForce.{number_of}
 use Rattle.path_model.specs.declared.event.Event.{Event}
 use Rattle.path_model.specs.declared.event.Event.TheVariants.{Matched, Invoked}
 use Rattle.path_checker.specs.declared.judge_plan.matches.Lent.{Lent}
@@ -13,17 +12,21 @@ use Rattle.path_checker.specs.Exploring.{In}
 abbrev pub Match : Type 0
 Match = Digest × Option ℕ
 
--- what two parameters state: the digest, and the number of the other one, if it has one
 abbrev pub stated_by : Stated → Match
-stated_by stated = (stated.digest.now, number_of (Some stated.size.now))
+stated_by stated = (stated.digest.now, stated.size)
 
 -- what is stated where this digest and this size are in force: nothing if there is no digest
 abbrev pub IsStated : Option Digest → Option ℕ → Option Stated → Type 0
 IsStated digest size None = None ≡ digest
 IsStated digest size (Some stated) = (Some (stated_by stated).0 ≡ digest) × ((stated_by stated).1 ≡ size)
 
+-- a number, if there is one
+abbrev pub number_if : Bool → ℕ → Option ℕ
+number_if true number = Some number
+number_if false number = None
+
 abbrev pub match_of : LentMatch → Match
-match_of lent = stated_by lent.stated
+match_of lent = (lent.digest.now, number_if lent.has_size lent.number)
 
 abbrev pub all_lent : List Lent → List Match
 all_lent [] = []

@@ -128,7 +128,7 @@ fn invoke<'a>(
             let bad = Happened::Uncovered {
                 component,
                 digest: Some(stated.digest),
-                size: stated.size(),
+                size: stated.size,
             };
             happens(memory, k, bad)?;
             Err(Halt::Uncovered(Uncovered::copy(memory, k)?))

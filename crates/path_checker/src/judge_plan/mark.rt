@@ -6,43 +6,59 @@ use crate::judge_plan::stated::Stated;
 use std::hash::{DefaultHasher, Hasher};
 use suit_params::Digest;
 
-// The index is above this many bits.
-const SHIFT: u32 = 32;
+// The index is above this many bits, and below it are those of a component.
+const SHIFT: u32 = 5;
+
+const BELOW: u32 = 0x1f;
+
+// No index is this large or larger.
+const MOST: usize = 0x03ff_ffff;
 
 /// A fingerprint, or where a match was last put in a list.
 #[derive(Clone, Copy)]
 pub(crate) struct Mark {
     // The last bit is set in a fingerprint.
-    bits: u64,
+    bits: u32,
+}
+
+// The lowest bits of an index in a list of a component.
+fn low_bits(component: usize) -> u32 {
+    (component as u32 & 0xf) << 1
 }
 
 impl Mark {
     /// Neither a fingerprint nor a place.
     pub(crate) fn nowhere() -> Mark {
-        Mark { bits: u64::MAX - 1 }
+        Mark { bits: u32::MAX - 1 }
     }
 
-    /// A fingerprint.
+    /// A fingerprint, of which 31 bits are kept.
     pub(crate) fn printed(print: u64) -> Mark {
-        Mark { bits: print | 1 }
-    }
-
-    /// An index in a list of a component.
-    pub(crate) fn put(component: usize, index: usize) -> Mark {
         Mark {
-            bits: (index as u64) << SHIFT | (component as u64 & 0xff) << 1,
+            bits: (print >> 32) as u32 | 1,
         }
     }
 
-    /// All bits.
-    pub(crate) fn bits(self) -> u64 {
-        self.bits
+    /// An index in a list of a component. One that is too large is not kept.
+    pub(crate) fn put(component: usize, index: usize) -> Mark {
+        if index >= MOST {
+            return Mark::nowhere();
+        }
+        Mark {
+            bits: (index as u32) << SHIFT | low_bits(component),
+        }
+    }
+
+    /// A number of 64 bits by what is kept.
+    pub(crate) fn spread(self) -> u64 {
+        let print = mixed(u64::from(self.bits), 0);
+        mixed(print, 1)
     }
 
     /// The fingerprint, if it is one.
     pub(crate) fn print(self) -> Option<u64> {
         if self.bits & 1 == 1 {
-            Some(self.bits)
+            Some(self.spread())
         } else {
             None
         }
@@ -50,7 +66,7 @@ impl Mark {
 
     // Whether it is an index in a list of this component.
     fn is_at(self, component: usize) -> bool {
-        self.bits & 0xffff_ffff == (component as u64 & 0xff) << 1
+        self.bits & BELOW == low_bits(component)
     }
 
     /// The index, if it is one in a list of this component, and otherwise an index past any list.
@@ -65,7 +81,7 @@ impl Mark {
     /// Whether it may become an index in a list of this component: no fingerprint and no index for another component is
     /// lost.
     pub(crate) fn is_free(self, component: usize) -> bool {
-        self.is_at(component) || self.bits == u64::MAX - 1
+        self.is_at(component) || self.bits == u32::MAX - 1
     }
 
     /// Whether two matches may be the same, by their fingerprints.
@@ -78,7 +94,7 @@ impl Mark {
 pub(crate) fn print_of(stated: Stated<'_>) -> u64 {
     let mut hasher = DefaultHasher::new();
     hasher.write(stated.digest.bytes());
-    if let Some(size) = stated.size() {
+    if let Some(size) = stated.size {
         hasher.write_u64(size);
     }
     hasher.finish()
@@ -86,7 +102,7 @@ pub(crate) fn print_of(stated: Stated<'_>) -> u64 {
 
 /// A quick hash of a match. Matches with the same one are easy to find.
 pub(crate) fn number_of(stated: Stated<'_>) -> u64 {
-    mixed(of_bytes(stated.digest.bytes()), stated.size().unwrap_or(0))
+    mixed(of_bytes(stated.digest.bytes()), stated.size.unwrap_or(0))
 }
 
 /// A bit of a digest. Past the last one they start over.

@@ -13,12 +13,16 @@ use std::alloc::{AllocError, Global};
 use std::cell::Cell;
 use std::marker::Model;
 use std::rc::Rc;
+use suit_params::Digest;
 
-/// A digest and a size that a component was matched under.
+/// A digest and a size that a component was matched under, in 24 bytes, since there may be many.
 #[derive(Drop)]
 pub(crate) struct Match<'a> {
-    stated: Stated<'a>,
+    digest: &'a Digest,
+    // The size, if `has_size`.
+    number: u64,
     mark: Cell<Mark>,
+    has_size: bool,
 }
 
 /// A match in a list.
@@ -44,9 +48,36 @@ impl<'a> Match<'a> {
     pub(crate) fn new(stated: Stated<'a>) -> Match<'a>
         ensures { match_of result ≡ stated_by stated.entry }
     {
+        let (number, has_size) = match stated.size {
+            Some(size) => (size, true),
+            None => (0, false),
+        };
         Match {
-            stated,
+            digest: stated.digest,
+            number,
             mark: Cell::new(Mark::nowhere()),
+            has_size,
+        }
+    }
+
+    // The size, if it has one.
+    fn size(&self) -> Option<u64>
+        ensures { result ≡ (match_of self.now).1 }
+    {
+        if self.has_size {
+            Some(self.number)
+        } else {
+            None
+        }
+    }
+
+    // The digest and the size.
+    fn stated(&self) -> Stated<'a>
+        ensures { stated_by result ≡ match_of self.now }
+    {
+        Stated {
+            digest: self.digest,
+            size: self.size(),
         }
     }
 
@@ -56,8 +87,8 @@ impl<'a> Match<'a> {
     {
         Event::Matched {
             component,
-            digest: *self.stated.digest,
-            size: self.stated.size(),
+            digest: *self.digest,
+            size: self.size(),
         }
     }
 
@@ -67,8 +98,8 @@ impl<'a> Match<'a> {
     {
         Event::Invoked {
             component,
-            digest: Some(*self.stated.digest),
-            size: self.stated.size(),
+            digest: Some(*self.digest),
+            size: self.size(),
             passed: true,
         }
     }
@@ -77,14 +108,14 @@ impl<'a> Match<'a> {
     pub(crate) fn is_of(&self, stated: Stated<'_>) -> bool
         ensures { IsTrue result ↔ (match_of self.now ≡ stated_by stated.entry) }
     {
-        self.stated.is(stated)
+        self.stated().is(stated)
     }
 
     /// Whether both are the same.
     pub(crate) fn is(&self, other: &Match<'_>) -> bool
         ensures { IsTrue result ↔ (match_of self.now ≡ match_of other.now) }
     {
-        self.is_of(other.stated)
+        self.is_of(other.stated())
     }
 
     /// Whether both are the same. Nearly all that differ are told apart by their fingerprints, if both have one.
@@ -99,9 +130,9 @@ impl<'a> Match<'a> {
         if let Some(print) = self.mark.get().print() {
             return print;
         }
-        let mark = Mark::printed(print_of(self.stated));
+        let mark = Mark::printed(print_of(self.stated()));
         self.mark.set(mark);
-        mark.bits()
+        mark.spread()
     }
 
     // Computes the fingerprint. Returns whether there was none before.
@@ -136,7 +167,7 @@ impl<'a> Match<'a> {
         if depth < 63 {
             return (print >> (depth + 1)) & 1 == 1;
         }
-        bit_of(self.stated.digest, depth).unwrap_or(false)
+        bit_of(self.digest, depth).unwrap_or(false)
     }
 }
 
