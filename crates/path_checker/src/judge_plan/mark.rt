@@ -6,12 +6,10 @@ use crate::judge_plan::stated::Stated;
 use std::hash::{DefaultHasher, Hasher};
 use suit_params::Digest;
 
-// The index is above this many bits, and below it are those of a component.
+// The index is above this many bits.
 const SHIFT: u32 = 5;
 
-const BELOW: u32 = 0x1f;
-
-// No index is this large or larger.
+// Indices from here on are not kept. They would not fit.
 const MOST: usize = 0x03ff_ffff;
 
 /// A fingerprint, or where a match was last put in a list.
@@ -21,7 +19,7 @@ pub(crate) struct Mark {
     bits: u32,
 }
 
-// The lowest bits of an index in a list of a component.
+// The bits below the index in a list of a component.
 fn low_bits(component: usize) -> u32 {
     (component as u32 & 0xf) << 1
 }
@@ -32,14 +30,14 @@ impl Mark {
         Mark { bits: u32::MAX - 1 }
     }
 
-    /// A fingerprint, of which 31 bits are kept.
+    /// A fingerprint. Its 31 highest bits are kept.
     pub(crate) fn printed(print: u64) -> Mark {
         Mark {
             bits: (print >> 32) as u32 | 1,
         }
     }
 
-    /// An index in a list of a component. One that is too large is not kept.
+    /// An index in a list of a component, unless it is too large.
     pub(crate) fn put(component: usize, index: usize) -> Mark {
         if index >= MOST {
             return Mark::nowhere();
@@ -49,10 +47,9 @@ impl Mark {
         }
     }
 
-    /// A number of 64 bits by what is kept.
+    /// All bits, spread over 64.
     pub(crate) fn spread(self) -> u64 {
-        let print = mixed(u64::from(self.bits), 0);
-        mixed(print, 1)
+        mixed(mixed(u64::from(self.bits), 0), 1)
     }
 
     /// The fingerprint, if it is one.
@@ -66,7 +63,7 @@ impl Mark {
 
     // Whether it is an index in a list of this component.
     fn is_at(self, component: usize) -> bool {
-        self.bits & BELOW == low_bits(component)
+        self.bits % (1 << SHIFT) == low_bits(component)
     }
 
     /// The index, if it is one in a list of this component, and otherwise an index past any list.
@@ -90,7 +87,7 @@ impl Mark {
     }
 }
 
-/// The fingerprint of a match, by SipHash: matches with the same one are hard to find.
+/// The fingerprint of a match, by SipHash: many matches whose 31 highest bits are the same are hard to find.
 pub(crate) fn print_of(stated: Stated<'_>) -> u64 {
     let mut hasher = DefaultHasher::new();
     hasher.write(stated.digest.bytes());
