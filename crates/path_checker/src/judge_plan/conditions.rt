@@ -11,7 +11,6 @@ use crate::judge_plan::facts::{Facts, Fork, Own};
 use crate::judge_plan::failures::{Failures, stop, stop_also, stop_knowing};
 use crate::judge_plan::happened::{Ended, Happened};
 use crate::judge_plan::kept::{Kept, happens, pass};
-use crate::judge_plan::matches::Match;
 use crate::judge_plan::memory::Memory;
 use std::alloc::AllocError;
 use suit_commands::TestKind;
@@ -95,7 +94,7 @@ fn image_match<'a>(
     match k.params.stated(component) {
         None => stop(k, place, Ended::Missed { component }, failed),
         Some(stated) => {
-            let own = Match::lent(memory, place, component, stated)?;
+            let own = k.history.matched(memory, place, component, stated)?;
             let matched = Happened::Matched { component, own };
             stop_also(memory, &k, place, Ended::Missed { component }, failed)?;
             pass(memory, k, matched, next)
@@ -212,7 +211,7 @@ fn pass_image_match<'a>(
 {
     match k.params.stated(component) {
         Some(stated) => {
-            let own = Match::lent(memory, place, component, stated)?;
+            let own = k.history.matched(memory, place, component, stated)?;
             let matched = Happened::Matched { component, own };
             happens(memory, k, matched)?;
             Ok(true)

@@ -222,7 +222,25 @@ impl<'a> History<'a> {
         Ok(history)
     }
 
-    /// A match for an invoke at a place: the last one there, one that stands, or else a new one.
+    /// A match for an image match at a place. Once many were made, the latest that stands are tried first.
+    pub(crate) fn matched(
+        &self,
+        memory: Memory<'a>,
+        place: u64,
+        component: u32,
+        stated: Stated<'a>,
+    ) -> Result<&'a Match<'a>, AllocError>
+        ensures { IfOk result (λ own. match_of own.now ≡ stated_by stated.entry) }
+    {
+        if memory.has_plenty() {
+            if let Some(own) = self.standing.latest(component, stated) {
+                return Ok(own);
+            }
+        }
+        Match::lent(memory, place, component, stated)
+    }
+
+    /// A match for an invoke at a place: one of the last two there, one that stands, or else a new one.
     pub(crate) fn invoked(
         &self,
         memory: Memory<'a>,
@@ -235,12 +253,12 @@ impl<'a> History<'a> {
         if let Some(last) = Match::told_last(memory, place, component, stated) {
             return Ok(last);
         }
-        let wanted = Match::new(stated);
-        if let Some(own) = self.standing.found(memory, component, &wanted) {
-            memory.keep_told(place, component, own)?;
-            return Ok(own);
-        }
-        Match::unsearched(memory, stated)
+        let own = match self.standing.found(memory, component, &Match::new(stated)) {
+            Some(own) => own,
+            None => Match::unsearched(memory, stated)?,
+        };
+        memory.keep_told(place, component, own)?;
+        Ok(own)
     }
 
     /// Whether this match of a component stands.

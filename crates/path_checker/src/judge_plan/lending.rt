@@ -21,6 +21,7 @@ impl<'a> Match<'a> {
     ) -> Result<&'a Match<'a>, AllocError>
         ensures { IfOk result (λ own. match_of own.now ≡ stated_by stated.entry) }
     {
+        memory.count_made();
         let own = Match::new(stated);
         let lent = memory.last.events.try_alloc(own)?;
         Ok(lent)
@@ -44,7 +45,7 @@ impl<'a> Match<'a> {
         Ok(lent)
     }
 
-    /// The last match of the command at a place at a component, if it is for this digest and this size.
+    /// One of the last two matches of the command at a place at a component, if it is for this digest and this size.
     pub(crate) fn told_last(
         memory: Memory<'a>,
         place: u64,
@@ -53,14 +54,16 @@ impl<'a> Match<'a> {
     ) -> Option<&'a Match<'a>>
         ensures { IfSome result (λ own. match_of own.now ≡ stated_by stated.entry) }
     {
-        let last = memory.told_at(place, component)?;
-        if last.is_of(stated) {
-            return Some(last);
+        for second in &[false, true] {
+            let last = memory.told_at(place, component, *second)?;
+            if last.is_of(stated) {
+                return Some(last);
+            }
         }
         None
     }
 
-    /// A match in memory that states share. The last one of the command at the place is tried first.
+    /// A match in memory that states share. The last two of the command at the place are tried first.
     pub(crate) fn lent(
         memory: Memory<'a>,
         place: u64,

@@ -331,10 +331,12 @@ impl<'a> Matches<'a> {
     ) -> Option<&'a Match<'a>>
         ensures { IfSome result (λ made. match_of made.now ≡ match_of wanted.now) }
     {
-        if self.all.len() > FEW {
-            if let Some(made) = self.at(memory.place(wanted.print(), component), wanted) {
-                return Some(made);
-            }
+        if self.all.len() <= FEW {
+            let at = index_in(self.all.as_slice(), wanted)?;
+            return self.at(at, wanted);
+        }
+        if let Some(made) = self.at(memory.place(wanted.print(), component), wanted) {
+            return Some(made);
         }
         let at = self.search_kept(memory, component, wanted)?;
         self.at(at, wanted)
@@ -348,6 +350,20 @@ impl<'a> Matches<'a> {
             return true;
         }
         self.all.len() <= FEW && self.finds(wanted)
+    }
+
+    // The last match of the list, or any of a short one, if it is for this digest and this size.
+    fn latest(&self, stated: Stated<'_>) -> Option<&'a Match<'a>>
+        ensures { IfSome result (λ own. match_of own.now ≡ stated_by stated.entry) }
+    {
+        let all = self.all.as_slice();
+        let from = if all.len() > FEW { all.len() - 1 } else { 0 };
+        for lent in &all[from..] {
+            if lent.own.is_of(stated) {
+                return Some(lent.own);
+            }
+        }
+        None
     }
 
     // Adds a match.
@@ -688,6 +704,17 @@ impl<'a> Held<'a> {
         match &self.held {
             Holding::Several(all) => all.found(memory, component, wanted),
             Holding::One(own) if own.is(wanted) => Some(*own),
+            _ => None,
+        }
+    }
+
+    /// The match for this digest and this size, if it is the last one or there are few.
+    pub(crate) fn latest(&self, stated: Stated<'_>) -> Option<&'a Match<'a>>
+        ensures { IfSome result (λ own. match_of own.now ≡ stated_by stated.entry) }
+    {
+        match &self.held {
+            Holding::Several(all) => all.latest(stated),
+            Holding::One(own) if own.is_of(stated) => Some(*own),
             _ => None,
         }
     }

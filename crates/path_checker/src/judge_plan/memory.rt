@@ -30,14 +30,17 @@ const SPOTS: usize = 65_536;
 
 const PARTS: usize = 16;
 
-// For at most this many pairs of a command and a component, the last match is kept. A power of two.
-const STEPS: usize = 131_072;
+// For at most this many pairs of a command and a component, the last two matches are kept. A power of two.
+const STEPS: usize = 65_536;
 
 // How many matches are passed to `keep_told` before any is kept.
 const UNKEPT: usize = 16;
 
 // At most this many matches are made in a row without a search for an equal one.
 const UNSEARCHED: usize = 1_048_576;
+
+// Once more than this many matches were made, one that stands is looked for before another is made.
+const PLENTY: usize = 1_048_576;
 
 // How many entries a cache has at first. A power of two.
 const FIRST: usize = 2;
@@ -66,6 +69,8 @@ pub(crate) struct Last<'a> {
     pub matches: Cell<Held<'a>>,
     // How many were found by these searches since matches were last forgotten.
     found: Cell<usize>,
+    // How many matches were made in all.
+    made: Cell<usize>,
     // How many matches are still to be made without such a search, and how many there were when the pause began.
     unsearched: Cell<usize>,
     pause: Cell<usize>,
@@ -76,7 +81,7 @@ pub(crate) struct Last<'a> {
     used: Cell<&'a [Cell<&'a Match<'a>>]>,
     numbers: Cell<&'a [Cell<u64>]>,
     searched: Cell<usize>,
-    // The last match of each command at each component, and how often one was kept.
+    // The last two matches of each command at each component, one behind the other, and how often one was kept.
     told: Cell<&'a [Cell<&'a Match<'a>>]>,
     others: Cell<usize>,
     // The index at which a match was last found in a list, with bits that identify the match, and how often one was
@@ -145,6 +150,7 @@ impl<'a> Last<'a> {
             compared,
             matches: Cell::new(Held::none()),
             found: Cell::new(0),
+            made: Cell::new(0),
             unsearched: Cell::new(0),
             pause: Cell::new(0),
             reused: Cell::new(0),
@@ -194,11 +200,12 @@ fn index_at(places: &[Cell<u64>], at: usize, spot: u64) -> Option<usize> {
     }
 }
 
-// The place, out of `count`, for a command at a component. At one component, commands that are close together have
-// places that are close together.
+// The first of two places, out of `count`, for a command at a component. At one component, commands that are close
+// together have places that are close together.
 fn step_by(place: u64, component: u32, count: usize) -> usize {
     let apart = (component as usize).wrapping_mul(count / 8);
-    ((place / 8) as usize).wrapping_add(apart) & count.wrapping_sub(1)
+    let first = ((place / 8) as usize).wrapping_mul(2);
+    first.wrapping_add(apart) & count.wrapping_sub(2)
 }
 
 // The first of two places, out of `count`, for a number.
@@ -283,6 +290,16 @@ impl<'a> Memory<'a> {
         self.last.reused.set(0);
     }
 
+    /// Counts a match that is made.
+    pub(crate) fn count_made(&self) {
+        self.last.made.set(self.last.made.get().wrapping_add(1));
+    }
+
+    /// Whether so many matches were made that one that stands is looked for before another is made.
+    pub(crate) fn has_plenty(&self) -> bool {
+        self.last.made.get() > PLENTY
+    }
+
     /// Counts a match that was found among the recently used ones.
     pub(crate) fn count_reused(&self) {
         self.last.reused.set(self.last.reused.get().wrapping_add(1));
@@ -294,11 +311,17 @@ impl<'a> Memory<'a> {
         self.last.few_reused.get() && self.skips_search()
     }
 
-    /// The match that was kept last for the command at a place and a component, in any state. The caller has to compare
-    /// it.
-    pub(crate) fn told_at(&self, place: u64, component: u32) -> Option<&'a Match<'a>> {
+    /// The match that was kept last, or second to last, for the command at a place and a component, in any state. The
+    /// caller has to compare it.
+    pub(crate) fn told_at(
+        &self,
+        place: u64,
+        component: u32,
+        second: bool,
+    ) -> Option<&'a Match<'a>> {
         let told = self.last.told.get();
-        match told.get(step_by(place, component, told.len())) {
+        let index = step_by(place, component, told.len()) | second as usize;
+        match told.get(index) {
             Some(at) => Some(at.get()),
             None => None,
         }
@@ -311,15 +334,17 @@ impl<'a> Memory<'a> {
         component: u32,
         own: &'a Match<'a>,
     ) -> Result<(), AllocError> {
-        let (others, kept) = (self.last.others.get(), self.last.told.get().len());
+        let (others, kept) = (self.last.others.get(), self.last.told.get().len() / 2);
         self.last.others.set(others.wrapping_add(1));
         if others >= kept.max(UNKEPT) && kept < STEPS {
-            let more = self.all_of(own, more_places(kept, STEPS))?;
+            let more = self.all_of(own, 2 * more_places(kept, STEPS))?;
             self.last.told.set(more);
         }
         let told = self.last.told.get();
-        if let Some(at) = told.get(step_by(place, component, told.len())) {
-            at.set(own);
+        let first = step_by(place, component, told.len());
+        if let (Some(last), Some(before)) = (told.get(first), told.get(first | 1)) {
+            before.set(last.get());
+            last.set(own);
         }
         Ok(())
     }

@@ -2,12 +2,13 @@
 
 ghost use Rattle.std.specs.Prelude.{◌≡◌, ◌↔◌, ◌<◌, ℕ, [], IsTrue, IfSome, IfOk, OnOk, length};
 ghost use Rattle.path_checker.specs.Exploring.{In};
-ghost use Rattle.path_checker.specs.Matches.{match_of, SameMembers};
+ghost use Rattle.path_checker.specs.Matches.{match_of, stated_by, SameMembers};
 ghost use Rattle.path_checker.specs.Standing.{held_of, Gains, Loses, SameHeld};
 
 use crate::judge_plan::fingerprint::mixed;
 use crate::judge_plan::matches::{Held, Match};
 use crate::judge_plan::memory::Memory;
+use crate::judge_plan::stated::Stated;
 use std::alloc::{AllocError, Global};
 
 // How many components there can be.
@@ -67,6 +68,14 @@ impl<'a> StandingMatches<'a> {
     {
         let held = self.of.get(component as usize)?;
         held.found(memory, component as usize, wanted)
+    }
+
+    /// The match that stands and is for this digest and this size, if it is among the latest.
+    pub(crate) fn latest(&self, component: u32, stated: Stated<'_>) -> Option<&'a Match<'a>>
+        ensures { IfSome result (λ own. match_of own.now ≡ stated_by stated.entry) }
+    {
+        let held = self.of.get(component as usize)?;
+        held.latest(stated)
     }
 
     // Adds a component without matches.
