@@ -21,7 +21,7 @@ pub(crate) struct Mark {
 
 // The bits below the index in a list of a component.
 fn low_bits(component: usize) -> u32 {
-    (component as u32 & 0xf) << 1
+    ((component % 16) as u32) << 1
 }
 
 impl Mark {

@@ -337,7 +337,7 @@ impl<'a> Memory<'a> {
         let (others, kept) = (self.last.others.get(), self.last.told.get().len() / 2);
         self.last.others.set(others.wrapping_add(1));
         if others >= kept.max(UNKEPT) && kept < STEPS {
-            let more = self.all_of(own, 2 * more_places(kept, STEPS))?;
+            let more = self.all_of(own, more_places(kept, STEPS).saturating_mul(2))?;
             self.last.told.set(more);
         }
         let told = self.last.told.get();

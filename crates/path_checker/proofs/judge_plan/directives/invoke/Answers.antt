@@ -1,7 +1,5 @@
-use Rattle.std.proofs.Common.{ℕ, false, Option, ap, refl, sym, ◌∙◌, subst, [], ◌∷◌, Some, rules}
+use Rattle.std.proofs.Common.{ap, refl, sym, ◌∙◌, subst, [], ◌∷◌, Some, rules}
 use Rattle.std.specs.Prelude.{IsTrue}
-use Rattle.suit_params.specs.InForce.{number_of}
-use Rattle.path_model.specs.declared.event.Event.TheVariants.{Invoked}
 use Rattle.path_model.specs.Safe.{HasMatched}
 use Rattle.path_checker.specs.Matches.{Match, covered_event}
 use Rattle.path_checker.specs.Steps.{with_events}
@@ -15,17 +13,15 @@ returns-in_ok-copy-in-None-clause-err c = Uncovers-invoke c.args.place c.args.co
 
 pub returns-then-has_matched-clause-ok : goal.returns-then-has_matched-clause-ok
 returns-then-has_matched-clause-ok c =
-    let size : Option ℕ = number_of (Some c.in-Some.stated.size.now) in
     Explores-added (acts_course acts.Invoke c.args.place c.args.component) (c.args.k.now ∷ []) (c.happens-then-has_matched.new.k ∷ [])
-    (Adds-invoke c.args.place c.args.component c.args.k.now c.happens-then-has_matched.new.k c.k.inside.params c.in-Some.stated.digest.now size [] (c.happens-then-has_matched.new.k ∷ []) (ap (λ k. k.state.parameters) c.k.view_is) c.in-Some.ensures.0 c.in-Some.ensures.1
-    (subst (λ es. HasMatched es c.args.component c.in-Some.stated.digest.now size) (ap (λ k. k.events) c.k.view_is)
+    (Adds-invoke c.args.place c.args.component c.args.k.now c.happens-then-has_matched.new.k c.k.inside.params c.in-Some.stated.digest.now c.in-Some.stated.size [] (c.happens-then-has_matched.new.k ∷ []) (ap (λ k. k.state.parameters) c.k.view_is) c.in-Some.ensures.0 c.in-Some.ensures.1
+    (subst (λ es. HasMatched es c.args.component c.in-Some.stated.digest.now c.in-Some.stated.size) (ap (λ k. k.events) c.k.view_is)
     (subst (λ (m : Match). HasMatched c.k.inside.history c.args.component m.0 m.1) c.in_ok-own-in-Some.ensures (c.if-has_matched.ensures.0 (search rules))))
     (c.in_ok-happens-in-Some.ensures ∙ ap (λ (m : Match). with_events c.args.k.now (covered_event c.args.component m ∷ [])) c.in_ok-own-in-Some.ensures) refl)
 
 pub returns-in_ok-copy-in-Some-clause-err : goal.returns-in_ok-copy-in-Some-clause-err
 returns-in_ok-copy-in-Some-clause-err c =
-    let size : Option ℕ = number_of (Some c.in-Some.stated.size.now) in
-    Uncovers-invoke c.args.place c.args.component c.args.k.now c.in_ok-copy-in-Some.field-0 c.k.inside.params (Some c.in-Some.stated.digest.now) size (ap (λ k. k.state.parameters) c.k.view_is) c.in-Some.ensures.0 c.in-Some.ensures.1
+    Uncovers-invoke c.args.place c.args.component c.args.k.now c.in_ok-copy-in-Some.field-0 c.k.inside.params (Some c.in-Some.stated.digest.now) c.in-Some.stated.size (ap (λ k. k.state.parameters) c.k.view_is) c.in-Some.ensures.0 c.in-Some.ensures.1
     (λ h. never_true (subst IsTrue c.if-has_matched.false (c.has_matched.ensures.1 (subst (λ (m : Match). HasMatched c.k.inside.history c.args.component m.0 m.1) (sym c.in_ok-own-in-Some.ensures)
-    (subst (λ es. HasMatched es c.args.component c.in-Some.stated.digest.now size) (sym (ap (λ k. k.events) c.k.view_is)) h)))))
-    (c.in_ok-copy-in-Some.ensures ∙ c.in_ok-happens-in-Some-2.ensures ∙ ap (λ (z : Option ℕ). with_events c.args.k.now (Invoked c.args.component (Some c.in-Some.stated.digest.now) z false ∷ [])) c.size.ensures)
+    (subst (λ es. HasMatched es c.args.component c.in-Some.stated.digest.now c.in-Some.stated.size) (sym (ap (λ k. k.events) c.k.view_is)) h)))))
+    (c.in_ok-copy-in-Some.ensures ∙ c.in_ok-happens-in-Some-2.ensures)
