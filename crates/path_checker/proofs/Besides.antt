@@ -18,7 +18,7 @@ use Rattle.path_checker.specs.Knowing.{Allows}
 use Rattle.path_checker.specs.Exploring.{Course, In, Kept, Stopped, Failures, after_stops, Found, Explores, Uncovered, Uncovers}
 use Rattle.path_checker.specs.Going.{GoesLast}
 use Rattle.path_checker.specs.Halting.{Halts}
-use Rattle.path_checker.specs.Inner.{AllAt, BranchAdds, entered, all_entered, left, all_left, resumed, softly, none_inside}
+use Rattle.path_checker.specs.Inner.{AllAt, BranchAdds, outside_of, entered, all_entered, left, all_left, resumed, softly, none_inside}
 use Rattle.path_checker.specs.Invoking.{Covers}
 use Rattle.path_checker.specs.Rests.{Leaves}
 use Rattle.path_checker.specs.Small.{IsSmallSequence, AreSmallBranches}
@@ -181,7 +181,7 @@ module _ (whole body : Course) (others : ℕ → Course) (after : Course) (s : S
     ];
   }
 
-  pub GoesBoth-branch : (inside rest done' : List Kept) (stops failed failed' : Failures) → inside ≡ all_entered s c true now → stops ≡ none_inside true failed s → BranchAdds body s inside rest done done' stops failed failed' → GoesBoth whole from (others c) after rest done' × AllAt s rest
+  pub GoesBoth-branch : (inside rest done' : List Kept) (stops failed failed' : Failures) → inside ≡ all_entered s c true now → stops ≡ none_inside true failed s → BranchAdds body s inside rest stops (outside_of done failed) (outside_of done' failed') → GoesBoth whole from (others c) after rest done' × AllAt s rest
   GoesBoth-branch inside rest done' stops failed failed' entered_is stops_is b =
       let x : Explores body (all_entered s c true now) b.done b.stops = subst (λ (y : List Kept). Explores body y b.done b.stops) entered_is b.explores in
       let rest_is : rest ≡ softly s b.stops = b.rest_is ∙ ap (λ (f : Failures). softly s (after_stops f b.stops).items) stops_is ∙ softly-inside true failed s b.stops (inl refl) in (

@@ -12,7 +12,7 @@ use Rattle.path_model.specs.Following.{CoveredFrom, SameMatches}
 use Rattle.path_model.proofs.Following.{same_matches}
 use Rattle.path_checker.specs.declared.judge_plan.halt.Halt.{Halt}
 use Rattle.path_checker.specs.Exploring.{Course, In, Kept, Stopped, Failures, keeps, after_stops, Found, Leads, Explores, Uncovers, Adds}
-use Rattle.path_checker.specs.Inner.{AllAt, BranchAdds, InsideAdds, entered, all_entered, all_left, softly, hardly, exhausted_at, exhausted, none_inside}
+use Rattle.path_checker.specs.Inner.{AllAt, BranchAdds, InsideAdds, outside_of, entered, all_entered, all_left, softly, hardly, exhausted_at, exhausted, none_inside}
 use Rattle.path_checker.specs.Halting.{Halts}
 use Rattle.path_checker.proofs.InnerStates.{softly-from}
 use Rattle.path_checker.proofs.Keeping.{after_none, after_both, softly-inside, hardly-inside, exhausted-inside}
@@ -55,7 +55,7 @@ pub Halts-run : (body : Course) (s : State) (c : ℕ) (k inside : Kept) (from : 
 Halts-run body s c k inside from same is one h u =
     Halts-lift body (inner_course body c) from (k ∷ []) (λ facts events x. Uncovers-inner body s c (k ∷ []) facts events (at-one k s same) (subst (λ (y : List Kept). Uncovers body y facts events) (start-is s c k inside from same is one) x)) h u
 
-pub Adds-branch : (body : Course) (s : State) (inside d n n1 r : List Kept) (st0 st f f' : Failures) → Adds body inside [] d st0 st → n1 ≡ n ++ all_left s d → r ≡ softly s st.items → f' ≡ after_stops f (hardly s st.items) → BranchAdds body s inside r n n1 st0 f f'
+pub Adds-branch : (body : Course) (s : State) (inside d n n1 r : List Kept) (st0 st f f' : Failures) → Adds body inside [] d st0 st → n1 ≡ n ++ all_left s d → r ≡ softly s st.items → f' ≡ after_stops f (hardly s st.items) → BranchAdds body s inside r st0 (outside_of n f) (outside_of n1 f')
 Adds-branch body s inside d n n1 r st0 st f f' a next soft hard = record {
   done = d;
   stops = a.failed;
@@ -94,7 +94,7 @@ Trying-start whole k s next failed now Stays same one = record {
 }
 
 pub Trying-branch : (whole body : Course) (others : ℕ → Course) (k : Kept) (s : State) (c : ℕ) (next0 next next' : List Kept) (failed0 failed failed' stops : Failures) (now inside rest : List Kept) (Stays Goes : Type 0) (on : Bool)
-    → Trying whole k s next0 next failed0 failed (branch_course body others c) now Stays → Stays → (Goes → on ≡ true) → inside ≡ all_entered s c true now → stops ≡ none_inside on failed s → BranchAdds body s inside rest next next' stops failed failed' → Trying whole k s next0 next' failed0 failed' (others c) rest Goes
+    → Trying whole k s next0 next failed0 failed (branch_course body others c) now Stays → Stays → (Goes → on ≡ true) → inside ≡ all_entered s c true now → stops ≡ none_inside on failed s → BranchAdds body s inside rest stops (outside_of next failed) (outside_of next' failed') → Trying whole k s next0 next' failed0 failed' (others c) rest Goes
 Trying-branch whole body others k s c next0 next next' failed0 failed failed' stops now inside rest Stays Goes on w stays goes entered_is stops_is b =
     let keeps-is : keeps failed s.soft_failure ≡ keeps failed0 s.soft_failure = ap (λ (f : Failures). keeps f s.soft_failure) w.failed_is in
     let begin : inside ≡ all_entered s c true w.all = entered_is ∙ ap (all_entered s c true) (w.now_is (inl stays)) in

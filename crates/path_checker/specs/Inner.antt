@@ -66,12 +66,20 @@ abbrev pub none_inside : Bool → Failures → State → Failures
 none_inside true failures state = record { items = []; soft = true; hard = keeps failures state.soft_failure }
 none_inside false failures state = record { items = []; soft = keeps failures state.soft_failure; hard = keeps failures state.soft_failure }
 
+-- what is kept outside an inner sequence: the states that go on, and the failures
+pub record Outside : Type 0 where
+  pub next : List Kept
+  pub failed : Failures
+
+abbrev pub outside_of : List Kept → Failures → Outside
+outside_of next failed = record { next = next; failed = failed }
+
 -- a branch was run and left, where these failures were kept inside it
-pub record BranchAdds (course : Course) (state : State) (inside rest old_next new_next : List Kept) (old_stops : Failures) (old_failed new_failed : Failures) : Type 0 where
+pub record BranchAdds (course : Course) (state : State) (inside rest : List Kept) (old_stops : Failures) (old new : Outside) : Type 0 where
   pub done : List Kept
   pub stops : List Stopped
-  pub next_is : new_next ≡ old_next ++ all_left state done
-  pub failed_is : new_failed ≡ after_stops old_failed (hardly state (after_stops old_stops stops).items)
+  pub next_is : new.next ≡ old.next ++ all_left state done
+  pub failed_is : new.failed ≡ after_stops old.failed (hardly state (after_stops old_stops stops).items)
   pub rest_is : rest ≡ softly state (after_stops old_stops stops).items
   pub explores : Explores course inside done stops
 

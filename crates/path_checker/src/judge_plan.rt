@@ -38,6 +38,7 @@ mod reuse;
 mod same_param;
 mod selected;
 mod sets;
+mod site;
 mod standing;
 mod stated;
 mod straight;

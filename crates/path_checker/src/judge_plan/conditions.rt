@@ -12,6 +12,7 @@ use crate::judge_plan::failures::{Failures, stop, stop_also, stop_knowing};
 use crate::judge_plan::happened::{Ended, Happened};
 use crate::judge_plan::kept::{Kept, happens, pass};
 use crate::judge_plan::memory::Memory;
+use crate::judge_plan::site::Site;
 use std::alloc::AllocError;
 use suit_commands::TestKind;
 
@@ -27,18 +28,18 @@ fn under<'a>(k: Kept<'a>, facts: Facts) -> Kept<'a>
 // A condition on an identity, for what it asks for. If the facts leave it open, both outcomes are kept, with their facts.
 fn own_test<'a>(
     memory: Memory<'a>,
-    place: u64,
+    site: Site,
     kind: TestKind,
-    component: u32,
     own: &Own,
     k: Kept<'a>,
     next: &mut Vec<Kept<'a>>,
     failed: &mut Failures<'a>,
 ) -> Result<(), AllocError>
     ensures { OnOk result
-        (Adds (TestsOwn kind place component (Some own.now)) (k.entry ∷ []) next.old.items
-        next.new.items failed.old failed.new) }
+        (Adds (TestsOwn kind site.place site.component (Some own.now)) (k.entry ∷ [])
+        next.old.items next.new.items failed.old failed.new) }
 {
+    let (place, component) = (site.place, site.component);
     let passed = Happened::Tried {
         component,
         kind,
@@ -72,7 +73,10 @@ fn identity_test<'a>(
         next.new.items failed.old failed.new) }
 {
     match k.params.wanted(kind, component) {
-        Some(own) => own_test(memory, place, kind, component, &own, k, next, failed),
+        Some(own) => {
+            let site = Site { place, component };
+            own_test(memory, site, kind, &own, k, next, failed)
+        }
         None => stop(k, place, Ended::Tried { component, kind }, failed),
     }
 }

@@ -127,7 +127,8 @@ pub(crate) fn stop<'a>(
     ended: Ended,
     failed: &mut Failures<'a>,
 ) -> Result<(), AllocError>
-    ensures { OnOk result (failed.new ≡ after_stops failed.old (stopped_after k.entry ended place ∷ [])) }
+    ensures { OnOk result
+        (failed.new ≡ after_stops failed.old (stopped_after k.entry ended place ∷ [])) }
 {
     failed.add(failed_at(k, place, ended))
 }
@@ -140,7 +141,8 @@ pub(crate) fn stop_also<'a>(
     ended: Ended,
     failed: &mut Failures<'a>,
 ) -> Result<(), AllocError>
-    ensures { OnOk result (failed.new ≡ after_stops failed.old (stopped_after k.now ended place ∷ [])) }
+    ensures { OnOk result
+        (failed.new ≡ after_stops failed.old (stopped_after k.now ended place ∷ [])) }
 {
     if failed.keeps(k.soft_failure) {
         stop(k.copy(memory)?, place, ended, failed)?;

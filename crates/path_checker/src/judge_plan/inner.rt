@@ -59,6 +59,13 @@ pub(crate) fn only_shared<'a>(memory: Memory<'a>, k: Kept<'a>) -> Result<Vec<Kep
     only(memory.alloc, k)
 }
 
+/// The states in which a branch begins, and its failures so far.
+#[derive(Drop)]
+pub(crate) struct Inside<'a> {
+    pub states: Vec<Kept<'a>>,
+    pub stops: Failures<'a>,
+}
+
 /// No failures of an inner sequence yet. Soft ones are kept if something goes on from them, and all are kept if the
 /// outer sequence keeps the failure that they lead to.
 pub(crate) fn none_inside<'a>(

@@ -16,7 +16,7 @@ ghost use Rattle.path_checker.specs.Halting.{Halts};
 use crate::judge_plan::failures::Failures;
 use crate::judge_plan::halt::Halt;
 use crate::judge_plan::inner::{
-    Outer, enter_all, leave_one, none_inside, only_shared, outer_of, restart,
+    Inside, Outer, enter_all, leave_one, none_inside, only_shared, outer_of, restart,
 };
 use crate::judge_plan::kept::Kept;
 use crate::judge_plan::memory::Memory;
@@ -409,9 +409,10 @@ fn tried_before<'a>(
             done.append(&mut now)?;
             return Ok(now);
         };
-        let inside = enter_all(memory.alloc, component, outer, now)?;
+        let states = enter_all(memory.alloc, component, outer, now)?;
         let stops = none_inside(memory.alloc, true, &ended, outer);
-        now = one_branch(memory, count, inner, outer, inside, stops, done, &mut ended)?;
+        let inside = Inside { states, stops };
+        now = one_branch(memory, count, inner, outer, inside, done, &mut ended)?;
     }
     Ok(enter_all(memory.alloc, component, outer, now)?)
 }

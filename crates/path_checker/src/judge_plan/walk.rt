@@ -5,7 +5,7 @@ ghost use Rattle.suit_commands.specs.View.{command_tree};
 ghost use Rattle.path_model.specs.Behaviour.{Each};
 ghost use Rattle.path_model.specs.Runs.{Runs, Does, Tries, RunsInner};
 ghost use Rattle.path_checker.specs.Exploring.{Adds};
-ghost use Rattle.path_checker.specs.Inner.{BranchAdds, InsideAdds};
+ghost use Rattle.path_checker.specs.Inner.{BranchAdds, InsideAdds, outside_of};
 ghost use Rattle.path_checker.specs.Small.{IsSmallSequence, IsSmallCommand, AreSmallBranches};
 ghost use Rattle.path_checker.specs.Steps.{At};
 ghost use Rattle.path_checker.specs.Unconditional.{IsUnconditional};
@@ -16,12 +16,13 @@ use crate::judge_plan::failures::Failures;
 use crate::judge_plan::halt::Halt;
 use crate::judge_plan::in_place::steps_in_all;
 use crate::judge_plan::inner::{
-    Outer, enter, enter_all, exhaust, leave, leave_branch, none_inside, only, outer_of,
+    Inside, Outer, enter, enter_all, exhaust, leave, leave_branch, none_inside, only, outer_of,
 };
 use crate::judge_plan::kept::Kept;
 use crate::judge_plan::memory::Memory;
 use crate::judge_plan::merged::{is_alone, merged_states};
 use crate::judge_plan::reuse::reuse;
+use crate::judge_plan::site::Site;
 use crate::judge_plan::straight::in_place_from;
 use suit_commands::{Branches, Command, Sequence, Step};
 
@@ -185,9 +186,11 @@ fn one<'a>(
             Ok(test(memory, step.place, *kind, component, k, next, failed)?)
         }
         Command::TryEach(branches) => {
-            try_each(
-                memory, count, branches, step.place, component, k, next, failed,
-            )
+            let site = Site {
+                place: step.place,
+                component,
+            };
+            try_each(memory, count, branches, site, k, next, failed)
         }
         Command::Run(inner) => run(memory, count, inner, component, k, next, failed),
         _ => unreachable!(),
@@ -248,35 +251,29 @@ fn try_each<'a>(
     memory: Memory<'a>,
     count: u32,
     branches: &'a Branches,
-    place: u64,
-    component: u32,
+    site: Site,
     k: Kept<'a>,
     next: &mut Vec<Kept<'a>>,
     failed: &mut Failures<'a>,
 ) -> Result<(), Halt<'a>>
-    requires room { component < 8 }
+    requires room { site.component < 8 }
     requires small { AreSmallBranches count branches.now }
     ensures ok { OnOk result
-        (Adds (λ identities. Tries branches.now identities count place component) (k.entry ∷ [])
-        next.old.items next.new.items failed.old failed.new) }
+        (Adds (λ identities. Tries branches.now identities count site.place site.component)
+        (k.entry ∷ []) next.old.items next.new.items failed.old failed.new) }
     ensures err { IfErr result
-        (λ h. Halts (λ identities. Tries branches.now identities count place component)
+        (λ h. Halts (λ identities. Tries branches.now identities count site.place site.component)
         (k.entry ∷ []) h) }
 {
     let outer = outer_of(&k)?;
-    let around = Around {
-        place,
-        component,
-        outer,
-    };
+    let around = Around { site, outer };
     try_around(memory, count, branches, &around, k, next, failed)
 }
 
-// The place and component of a try each, and the state around it.
+// Where a try each runs, and the state around it.
 #[derive(Drop)]
 struct Around<'a> {
-    place: u64,
-    component: u32,
+    site: Site,
     outer: Outer<'a>,
 }
 
@@ -291,19 +288,21 @@ fn try_around<'a>(
     next: &mut Vec<Kept<'a>>,
     failed: &mut Failures<'a>,
 ) -> Result<(), Halt<'a>>
-    requires room { around.now.component < 8 }
+    requires room { around.now.site.component < 8 }
     requires small { AreSmallBranches count branches.now }
     requires outer { around.now.outer ≡ k.state }
     ensures ok { OnOk result
         (Adds
-        (λ identities. Tries branches.now identities count around.now.place around.now.component)
+        (λ identities. Tries branches.now identities count around.now.site.place
+        around.now.site.component)
         (k.entry ∷ []) next.old.items next.new.items failed.old failed.new) }
     ensures err { IfErr result
         (λ h. Halts
-        (λ identities. Tries branches.now identities count around.now.place around.now.component)
+        (λ identities. Tries branches.now identities count around.now.site.place
+        around.now.site.component)
         (k.entry ∷ []) h) }
 {
-    let (place, outer) = (around.place, &around.outer);
+    let (place, outer) = (around.site.place, &around.outer);
     let mut now = only(memory.alloc, k)?;
     let all = branches.as_slice();
     let mut left = all.len();
@@ -315,35 +314,36 @@ fn try_around<'a>(
                 return Ok(());
             }
             Some(inner) => {
-                let inside = enter_all(memory.alloc, around.component, outer, now)?;
+                let states = enter_all(memory.alloc, around.site.component, outer, now)?;
                 let stops = none_inside(memory.alloc, left > 0, failed, outer);
-                now = one_branch(memory, count, inner, outer, inside, stops, next, failed)?
+                let inside = Inside { states, stops };
+                now = one_branch(memory, count, inner, outer, inside, next, failed)?
             }
         }
     }
     Ok(exhaust(place, outer, now, failed)?)
 }
 
-/// Runs a branch from the states in which it begins. Returns those in which the next branch is tried.
+/// Runs a branch. Returns the states in which the next branch is tried.
 #[cycle(walk)]
 pub(crate) fn one_branch<'a>(
     memory: Memory<'a>,
     count: u32,
     inner: &'a Sequence,
     outer: &Outer<'a>,
-    inside: Vec<Kept<'a>>,
-    stops: Failures<'a>,
+    inside: Inside<'a>,
     next: &mut Vec<Kept<'a>>,
     failed: &mut Failures<'a>,
 ) -> Result<Vec<Kept<'a>>, Halt<'a>>
     requires small { IsSmallSequence count inner.now }
     ensures ok { IfOk result
         (λ v. BranchAdds (λ identities. Runs inner.now identities count) outer.now
-        inside.entry.items v.items next.old.items next.new.items stops.entry failed.old failed.new) }
+        inside.entry.states.items v.items inside.entry.stops
+        (outside_of next.old.items failed.old) (outside_of next.new.items failed.new)) }
     ensures err { IfErr result
-        (λ h. Halts (λ identities. Runs inner.now identities count) inside.entry.items h) }
+        (λ h. Halts (λ identities. Runs inner.now identities count) inside.entry.states.items h) }
 {
-    let mut stops = stops;
-    let done = sequence(memory, count, inner, inside, &mut stops)?;
+    let mut stops = inside.stops;
+    let done = sequence(memory, count, inner, inside.states, &mut stops)?;
     Ok(leave_branch(memory, outer, done, stops, next, failed)?)
 }

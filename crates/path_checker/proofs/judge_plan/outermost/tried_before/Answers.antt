@@ -39,7 +39,7 @@ loop-branch-preserved c =
     let next = λ (behind : List Later).
     GoesBoth-branch (TriesAt (tried_branches c.args.tried) c.args.tried.place c.args.component behind c.args.count) (runs_course c.in-Some.inner c.args.count) (rest_course (branches_tree (drop (c.loop-branch.branch-index + 1) bs ++ tail)) c.args.count c.args.tried.place) (RunsRest behind c.args.count) c.args.outer.now c.args.component (c.args.k ∷ []) c.loop-branch.now.items c.loop-branch.done.items c.loop-branch.invariant.at
     (subst (λ (r : Course). GoesBoth (TriesAt (tried_branches c.args.tried) c.args.tried.place c.args.component behind c.args.count) (c.args.k ∷ []) r (RunsRest behind c.args.count) c.loop-branch.now.items c.loop-branch.done.items) (before_some bs tail c.loop-branch.branch-index c.branch-item.result c.loop-branch-test.true c.in-Some.inner c.args.count c.args.tried.place c.args.component is) (c.loop-branch.invariant.both behind))
-    c.in_ok-inside.inside.items c.in_ok-now-2.now.items c.one_branch.new.next.items c.none_inside-stops.result c.loop-branch.ended c.one_branch.new.failed c.in_ok-inside.ensures c.none_inside-stops.ensures c.in_ok-now-2.ensures.ok in
+    c.in_ok-states.states.items c.in_ok-now-2.now.items c.one_branch.new.next.items c.none_inside-stops.result c.loop-branch.ended c.one_branch.new.failed c.in_ok-states.ensures c.none_inside-stops.ensures c.in_ok-now-2.ensures.ok in
     record {
       small = (small_before bs tail c.loop-branch.branch-index c.branch-item.result c.loop-branch-test.true c.in-Some.inner c.args.count is c.loop-branch.invariant.small).1;
       at = (next []).1;
@@ -55,7 +55,7 @@ returns-in_err-now-2-clause-err c =
     rw (p.1, p.2) (λ behind.
     GoesBoth-halts (TriesAt (tried_branches c.args.tried) c.args.tried.place c.args.component behind c.args.count) (runs_course c.in-Some.inner c.args.count) (rest_course (branches_tree (drop (c.loop-branch.branch-index + 1) bs ++ tail)) c.args.count c.args.tried.place) (RunsRest behind c.args.count) c.args.outer.now c.args.component (c.args.k ∷ []) c.loop-branch.now.items c.loop-branch.done.items c.loop-branch.invariant.at
     (subst (λ (r : Course). GoesBoth (TriesAt (tried_branches c.args.tried) c.args.tried.place c.args.component behind c.args.count) (c.args.k ∷ []) r (RunsRest behind c.args.count) c.loop-branch.now.items c.loop-branch.done.items) (before_some bs tail c.loop-branch.branch-index c.branch-item.result c.loop-branch-test.true c.in-Some.inner c.args.count c.args.tried.place c.args.component is) (c.loop-branch.invariant.both behind))
-    c.in_ok-inside.inside.items c.in_ok-inside.ensures c.in_err-now-2.field-0.0 c.in_err-now-2.ensures.err)
+    c.in_ok-states.states.items c.in_ok-states.ensures c.in_err-now-2.field-0.0 c.in_err-now-2.ensures.err)
 
 pub returns-in_default-clause-ok : goal.returns-in_default-clause-ok
 returns-in_default-clause-ok c = λ behind.

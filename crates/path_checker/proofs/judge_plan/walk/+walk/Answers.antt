@@ -174,29 +174,29 @@ try_around-loop-branch-init t c =
       whole = c.as_slice-all.ensures;
       left = omega arith;
       small = subst (λ (b : BranchesTree). AreSmallBranches c.args.count b) (sym c.as_slice-all.ensures) c.requires.small;
-      trying = subst (λ b. Trying (rest_course c.args.branches.now c.args.count c.args.around.now.place c.args.around.now.component) c.args.k c.args.around.now.outer c.args.next.now.items c.args.next.now.items c.args.failed.now c.args.failed.now (rest_course b c.args.count c.args.around.now.place c.args.around.now.component) c.in_ok-now.now.items (0 < length c.as_slice-all.result.now)) (sym c.as_slice-all.ensures) (Trying-start (rest_course c.args.branches.now c.args.count c.args.around.now.place c.args.around.now.component) c.args.k c.args.around.now.outer c.args.next.now.items c.args.failed.now c.in_ok-now.now.items (0 < length c.as_slice-all.result.now) c.requires.outer one);
+      trying = subst (λ b. Trying (rest_course c.args.branches.now c.args.count c.args.around.now.site.place c.args.around.now.site.component) c.args.k c.args.around.now.outer c.args.next.now.items c.args.next.now.items c.args.failed.now c.args.failed.now (rest_course b c.args.count c.args.around.now.site.place c.args.around.now.site.component) c.in_ok-now.now.items (0 < length c.as_slice-all.result.now)) (sym c.as_slice-all.ensures) (Trying-start (rest_course c.args.branches.now c.args.count c.args.around.now.site.place c.args.around.now.site.component) c.args.k c.args.around.now.outer c.args.next.now.items c.args.failed.now c.in_ok-now.now.items (0 < length c.as_slice-all.result.now) c.requires.outer one);
     }
 
 pub try_around-returns-in-None-clause-ok : goal.try_around-returns-in-None-clause-ok
-try_around-returns-in-None-clause-ok t c = Trying-null (rest_course c.args.branches.now c.args.count c.args.around.now.place c.args.around.now.component) c.args.k c.args.around.now.outer c.args.next.now.items c.loop-branch.next.items c.append.new.self.items c.args.failed.now c.loop-branch.failed c.loop-branch.now.items (c.loop-branch.branch-index < length c.as_slice-all.result.now) (subst (λ (r : Course). Trying (rest_course c.args.branches.now c.args.count c.args.around.now.place c.args.around.now.component) c.args.k c.args.around.now.outer c.args.next.now.items c.loop-branch.next.items c.args.failed.now c.loop-branch.failed r c.loop-branch.now.items (c.loop-branch.branch-index < length c.as_slice-all.result.now)) (at_none c.as_slice-all.result.now c.loop-branch.branch-index c.args.count c.args.around.now.place c.args.around.now.component c.branch-item.result c.loop-branch-test.true (sym c.branch-item.is ∙ c.in-None.is)) c.loop-branch.invariant.trying) c.loop-branch-test.true c.in_ok-append-in-None.ensures.items
+try_around-returns-in-None-clause-ok t c = Trying-null (rest_course c.args.branches.now c.args.count c.args.around.now.site.place c.args.around.now.site.component) c.args.k c.args.around.now.outer c.args.next.now.items c.loop-branch.next.items c.append.new.self.items c.args.failed.now c.loop-branch.failed c.loop-branch.now.items (c.loop-branch.branch-index < length c.as_slice-all.result.now) (subst (λ (r : Course). Trying (rest_course c.args.branches.now c.args.count c.args.around.now.site.place c.args.around.now.site.component) c.args.k c.args.around.now.outer c.args.next.now.items c.loop-branch.next.items c.args.failed.now c.loop-branch.failed r c.loop-branch.now.items (c.loop-branch.branch-index < length c.as_slice-all.result.now)) (at_none c.as_slice-all.result.now c.loop-branch.branch-index c.args.count c.args.around.now.site.place c.args.around.now.site.component c.branch-item.result c.loop-branch-test.true (sym c.branch-item.is ∙ c.in-None.is)) c.loop-branch.invariant.trying) c.loop-branch-test.true c.in_ok-append-in-None.ensures.items
 
 pub try_around-returns-in_err-now-in-Some-clause-err : goal.try_around-returns-in_err-now-in-Some-clause-err
 try_around-returns-in_err-now-in-Some-clause-err t c =
     let p = err_from_is_err_and c.from_residual-in_err-now-in-Some.result c.from_residual-in_err-now-in-Some.ensures.1 in
-    rw (p.1, p.2) (Trying-halt (rest_course c.args.branches.now c.args.count c.args.around.now.place c.args.around.now.component) (runs_course c.in-Some.inner c.args.count) (rest_course (branches_tree (drop (c.loop-branch.branch-index + 1) c.as_slice-all.result.now)) c.args.count c.args.around.now.place) c.args.k c.args.around.now.outer c.args.around.now.component c.args.next.now.items c.loop-branch.next.items c.args.failed.now c.loop-branch.failed c.loop-branch.now.items c.in_ok-inside-in-Some.inside.items (c.loop-branch.branch-index < length c.as_slice-all.result.now) (subst (λ (r : Course). Trying (rest_course c.args.branches.now c.args.count c.args.around.now.place c.args.around.now.component) c.args.k c.args.around.now.outer c.args.next.now.items c.loop-branch.next.items c.args.failed.now c.loop-branch.failed r c.loop-branch.now.items (c.loop-branch.branch-index < length c.as_slice-all.result.now)) (at_some c.as_slice-all.result.now c.loop-branch.branch-index c.args.count c.args.around.now.place c.args.around.now.component c.branch-item.result c.in-Some.inner c.loop-branch-test.true (sym c.branch-item.is ∙ c.in-Some.is)) c.loop-branch.invariant.trying) c.loop-branch-test.true c.in_ok-inside-in-Some.ensures c.in_err-now-in-Some.field-0.0 c.in_err-now-in-Some.ensures.err)
+    rw (p.1, p.2) (Trying-halt (rest_course c.args.branches.now c.args.count c.args.around.now.site.place c.args.around.now.site.component) (runs_course c.in-Some.inner c.args.count) (rest_course (branches_tree (drop (c.loop-branch.branch-index + 1) c.as_slice-all.result.now)) c.args.count c.args.around.now.site.place) c.args.k c.args.around.now.outer c.args.around.now.site.component c.args.next.now.items c.loop-branch.next.items c.args.failed.now c.loop-branch.failed c.loop-branch.now.items c.in_ok-states-in-Some.states.items (c.loop-branch.branch-index < length c.as_slice-all.result.now) (subst (λ (r : Course). Trying (rest_course c.args.branches.now c.args.count c.args.around.now.site.place c.args.around.now.site.component) c.args.k c.args.around.now.outer c.args.next.now.items c.loop-branch.next.items c.args.failed.now c.loop-branch.failed r c.loop-branch.now.items (c.loop-branch.branch-index < length c.as_slice-all.result.now)) (at_some c.as_slice-all.result.now c.loop-branch.branch-index c.args.count c.args.around.now.site.place c.args.around.now.site.component c.branch-item.result c.in-Some.inner c.loop-branch-test.true (sym c.branch-item.is ∙ c.in-Some.is)) c.loop-branch.invariant.trying) c.loop-branch-test.true c.in_ok-states-in-Some.ensures c.in_err-now-in-Some.field-0.0 c.in_err-now-in-Some.ensures.err)
 
 pub try_around-loop-branch-preserved : goal.try_around-loop-branch-preserved
 try_around-loop-branch-preserved t c = record {
   whole = c.loop-branch.invariant.whole;
   left = omega (arith, c.loop-branch.invariant.left, c.loop-branch-test.true);
   small = (small_branch c.args.count c.as_slice-all.result.now c.loop-branch.branch-index c.branch-item.result c.in-Some.inner c.loop-branch-test.true (sym c.branch-item.is ∙ c.in-Some.is) c.loop-branch.invariant.small).1;
-  trying = Trying-branch (rest_course c.args.branches.now c.args.count c.args.around.now.place c.args.around.now.component) (runs_course c.in-Some.inner c.args.count) (rest_course (branches_tree (drop (c.loop-branch.branch-index + 1) c.as_slice-all.result.now)) c.args.count c.args.around.now.place) c.args.k c.args.around.now.outer c.args.around.now.component c.args.next.now.items c.loop-branch.next.items c.one_branch.new.next.items c.args.failed.now c.loop-branch.failed c.one_branch.new.failed c.none_inside-stops.result c.loop-branch.now.items c.in_ok-inside-in-Some.inside.items c.in_ok-now-in-Some.now.items (c.loop-branch.branch-index < length c.as_slice-all.result.now) (c.loop-branch.branch-index + 1 < length c.as_slice-all.result.now) (ltb 0 (c.loop-branch.left - 1)) (subst (λ (r : Course). Trying (rest_course c.args.branches.now c.args.count c.args.around.now.place c.args.around.now.component) c.args.k c.args.around.now.outer c.args.next.now.items c.loop-branch.next.items c.args.failed.now c.loop-branch.failed r c.loop-branch.now.items (c.loop-branch.branch-index < length c.as_slice-all.result.now)) (at_some c.as_slice-all.result.now c.loop-branch.branch-index c.args.count c.args.around.now.place c.args.around.now.component c.branch-item.result c.in-Some.inner c.loop-branch-test.true (sym c.branch-item.is ∙ c.in-Some.is)) c.loop-branch.invariant.trying) c.loop-branch-test.true (λ goes. lt-ltb 0 (c.loop-branch.left - 1) (omega (arith, c.loop-branch.invariant.left, goes))) c.in_ok-inside-in-Some.ensures c.none_inside-stops.ensures c.in_ok-now-in-Some.ensures.ok;
+  trying = Trying-branch (rest_course c.args.branches.now c.args.count c.args.around.now.site.place c.args.around.now.site.component) (runs_course c.in-Some.inner c.args.count) (rest_course (branches_tree (drop (c.loop-branch.branch-index + 1) c.as_slice-all.result.now)) c.args.count c.args.around.now.site.place) c.args.k c.args.around.now.outer c.args.around.now.site.component c.args.next.now.items c.loop-branch.next.items c.one_branch.new.next.items c.args.failed.now c.loop-branch.failed c.one_branch.new.failed c.none_inside-stops.result c.loop-branch.now.items c.in_ok-states-in-Some.states.items c.in_ok-now-in-Some.now.items (c.loop-branch.branch-index < length c.as_slice-all.result.now) (c.loop-branch.branch-index + 1 < length c.as_slice-all.result.now) (ltb 0 (c.loop-branch.left - 1)) (subst (λ (r : Course). Trying (rest_course c.args.branches.now c.args.count c.args.around.now.site.place c.args.around.now.site.component) c.args.k c.args.around.now.outer c.args.next.now.items c.loop-branch.next.items c.args.failed.now c.loop-branch.failed r c.loop-branch.now.items (c.loop-branch.branch-index < length c.as_slice-all.result.now)) (at_some c.as_slice-all.result.now c.loop-branch.branch-index c.args.count c.args.around.now.site.place c.args.around.now.site.component c.branch-item.result c.in-Some.inner c.loop-branch-test.true (sym c.branch-item.is ∙ c.in-Some.is)) c.loop-branch.invariant.trying) c.loop-branch-test.true (λ goes. lt-ltb 0 (c.loop-branch.left - 1) (omega (arith, c.loop-branch.invariant.left, goes))) c.in_ok-states-in-Some.ensures c.none_inside-stops.ensures c.in_ok-now-in-Some.ensures.ok;
 }
 
 pub try_around-returns-clause-ok : goal.try_around-returns-clause-ok
 try_around-returns-clause-ok t c =
     let none : drop c.loop-branch.branch-index c.as_slice-all.result.now ≡ [] = drop_all c.loop-branch.branch-index c.as_slice-all.result.now c.loop-branch-test.false in
-    Trying-end (rest_course c.args.branches.now c.args.count c.args.around.now.place c.args.around.now.component) c.args.k c.args.around.now.outer c.args.around.now.place c.args.next.now.items c.loop-branch.next.items c.args.failed.now c.loop-branch.failed c.exhaust.new.failed c.loop-branch.now.items (c.loop-branch.branch-index < length c.as_slice-all.result.now) (subst (λ bs. Trying (rest_course c.args.branches.now c.args.count c.args.around.now.place c.args.around.now.component) c.args.k c.args.around.now.outer c.args.next.now.items c.loop-branch.next.items c.args.failed.now c.loop-branch.failed (rest_course (branches_tree bs) c.args.count c.args.around.now.place c.args.around.now.component) c.loop-branch.now.items (c.loop-branch.branch-index < length c.as_slice-all.result.now)) none c.loop-branch.invariant.trying) c.in_ok-exhaust.ensures
+    Trying-end (rest_course c.args.branches.now c.args.count c.args.around.now.site.place c.args.around.now.site.component) c.args.k c.args.around.now.outer c.args.around.now.site.place c.args.next.now.items c.loop-branch.next.items c.args.failed.now c.loop-branch.failed c.exhaust.new.failed c.loop-branch.now.items (c.loop-branch.branch-index < length c.as_slice-all.result.now) (subst (λ bs. Trying (rest_course c.args.branches.now c.args.count c.args.around.now.site.place c.args.around.now.site.component) c.args.k c.args.around.now.outer c.args.next.now.items c.loop-branch.next.items c.args.failed.now c.loop-branch.failed (rest_course (branches_tree bs) c.args.count c.args.around.now.site.place c.args.around.now.site.component) c.loop-branch.now.items (c.loop-branch.branch-index < length c.as_slice-all.result.now)) none c.loop-branch.invariant.trying) c.in_ok-exhaust.ensures
 
 pub try_around-one_branch-requires : goal.try_around-one_branch-requires
 try_around-one_branch-requires t c =
@@ -212,7 +212,7 @@ command-returns-clause-ok t c =
     (Pops-end (does_course (command_tree c.args.step.now.command) c.args.count c.args.step.now.place) c.args.from.items c.args.failed.now c.loop-k.now.items c.loop-k.next.items c.loop-k.failed c.loop-k.invariant none) c.in_ok-merged.ensures
 
 pub one_branch-returns-clause-ok : goal.one_branch-returns-clause-ok
-one_branch-returns-clause-ok t c = Adds-branch (runs_course c.args.inner.now c.args.count) c.args.outer.now c.args.inside.items c.in_ok-done.done.items c.args.next.now.items c.leave_branch.new.next.items c.in_ok-leave_branch.field-0.items c.args.stops c.sequence.new.failed c.args.failed.now c.leave_branch.new.failed c.in_ok-done.ensures.ok c.in_ok-leave_branch.ensures.done c.in_ok-leave_branch.ensures.soft c.in_ok-leave_branch.ensures.hard
+one_branch-returns-clause-ok t c = Adds-branch (runs_course c.args.inner.now c.args.count) c.args.outer.now c.args.inside.states.items c.in_ok-done.done.items c.args.next.now.items c.leave_branch.new.next.items c.in_ok-leave_branch.field-0.items c.args.inside.stops c.sequence.new.failed c.args.failed.now c.leave_branch.new.failed c.in_ok-done.ensures.ok c.in_ok-leave_branch.ensures.done c.in_ok-leave_branch.ensures.soft c.in_ok-leave_branch.ensures.hard
 
 pub one_branch-returns-in_err-done-clause-err : goal.one_branch-returns-in_err-done-clause-err
 one_branch-returns-in_err-done-clause-err t c =

@@ -39,5 +39,5 @@ invariant-try_around-loop-branch l = record {
   whole : branches_tree l.all ≡ l.branches;
   left : l.left + l.branch-index ≡ length l.all;
   small : AreSmallBranches l.count (branches_tree (drop l.branch-index l.all));
-  trying : Trying (rest_course l.branches l.count l.around.place l.around.component) l.fn.k l.around.outer l.initial.next.items l.next.items l.initial.failed l.failed (rest_course (branches_tree (drop l.branch-index l.all)) l.count l.around.place l.around.component) l.now.items (l.branch-index < length l.all);
+  trying : Trying (rest_course l.branches l.count l.around.site.place l.around.site.component) l.fn.k l.around.outer l.initial.next.items l.next.items l.initial.failed l.failed (rest_course (branches_tree (drop l.branch-index l.all)) l.count l.around.site.place l.around.site.component) l.now.items (l.branch-index < length l.all);
 }
