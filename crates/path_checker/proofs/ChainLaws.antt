@@ -7,7 +7,8 @@ use Rattle.path_model.specs.declared.event.Event.{Event}
 use Rattle.path_model.specs.declared.event.Event.TheVariants.{Failed}
 use Rattle.path_checker.specs.declared.judge_plan.trace.Told.{Told}
 use Rattle.path_checker.specs.declared.judge_plan.trace.Piece.{Piece}
-use Rattle.path_checker.specs.Happening.{told_by, all_told, told_since, piece_told}
+use Rattle.path_checker.specs.Chains.{piece_told}
+use Rattle.path_checker.specs.Happening.{told_by, all_told}
 use Rattle.path_checker.specs.Standing.{all_in_order}
 
 all_in_order-last : (ps : List (List Event)) (p : List Event) → all_in_order (ps ++ p ∷ []) ≡ p ++ all_in_order ps
@@ -47,35 +48,3 @@ wait_more before ts n m t more room =
 pub part_more : (before : List Event) (ts : List Told) (n : ℕ) (t : Told) → length ts ≤ n → before ++ (all_told ts ++ told_by t) ++ [] ≡ before ++ all_told (take n ts) ++ told_by t
 part_more before ts n t full =
     append-nil (before ++ (all_told ts ++ told_by t)) ∙ sym (append_assoc before (all_told ts) (told_by t)) ∙ ap (λ (xs : List Told). before ++ all_told xs ++ told_by t) (sym (take_all n ts full))
-
--- ---- where the last one is held back
-
-held_is : (ts : List Told) (last : Option Told) (held : Told) (now : List Event) → last ≡ Some held → told_since ts last ≡ now → all_told ts ++ told_by held ≡ now
-held_is ts last held now is before = sym (ap (λ (o : Option Told). told_since ts o) is) ∙ before
-
-none_held : (ts : List Told) (last : Option Told) (now : List Event) → last ≡ None → told_since ts last ≡ now → all_told ts ≡ now
-none_held ts last now is before = sym (append-nil (all_told ts)) ∙ sym (ap (λ (o : Option Told). told_since ts o) is) ∙ before
-
--- the first one is held back
-pub since_first : (ts : List Told) (last : Option Told) (t : Told) (now : List Event) → last ≡ None → told_since ts last ≡ now → told_since ts (Some t) ≡ now ++ told_by t
-since_first ts last t now is before = ap (λ (es : List Event). es ++ told_by t) (none_held ts last now is before)
-
--- one more is joined to it
-pub since_joined : (ts : List Told) (last : Option Told) (held both t : Told) (now : List Event) → last ≡ Some held → told_by both ≡ told_by held ++ told_by t → told_since ts last ≡ now → told_since ts (Some both) ≡ now ++ told_by t
-since_joined ts last held both t now is joined before =
-    ap (λ (es : List Event). all_told ts ++ es) joined ∙ sym (append_assoc (all_told ts) (told_by held) (told_by t)) ∙ ap (λ (es : List Event). es ++ told_by t) (held_is ts last held now is before)
-
--- one more behind it
-pub since_more : (ts more : List Told) (last : Option Told) (held t : Told) (now : List Event) → last ≡ Some held → more ≡ ts ++ held ∷ [] → told_since ts last ≡ now → told_since more (Some t) ≡ now ++ told_by t
-since_more ts more last held t now is pushed before =
-    ap (λ (es : List Event). es ++ told_by t) (ap all_told pushed ∙ all_told-last ts held ∙ held_is ts last held now is before)
-
--- all of them behind others
-pub since_behind : (before all more : List Event) (ts items : List Told) (last : Option Told) (held : Told) (now : List Event) → last ≡ Some held → ts ≡ items → all ≡ before ++ all_told ts → more ≡ all ++ told_by held → told_since items last ≡ now → more ≡ before ++ now
-since_behind before all more ts items last held now is same listed added since =
-    added ∙ ap (λ (es : List Event). es ++ told_by held) (listed ∙ ap (λ (xs : List Told). before ++ all_told xs) same)
-    ∙ append_assoc before (all_told items) (told_by held) ∙ ap (λ (es : List Event). before ++ es) (held_is items last held now is since)
-
-pub none_behind : (before all : List Event) (ts items : List Told) (last : Option Told) (now : List Event) → last ≡ None → ts ≡ items → all ≡ before ++ all_told ts → told_since items last ≡ now → all ≡ before ++ now
-none_behind before all ts items last now is same listed since =
-    listed ∙ ap (λ (xs : List Told). before ++ all_told xs) same ∙ ap (λ (es : List Event). before ++ es) (none_held items last now is since)

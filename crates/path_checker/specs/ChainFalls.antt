@@ -9,4 +9,5 @@ use Rattle.path_checker.specs.Chains.{parts_from}
 pub chain_falls : (last : Last) → max (deep-Last last) 0 ≤ length (parts_from last)
 chain_falls lasts.None = omega arith
 chain_falls (lasts.Four part) = omega arith
-chain_falls (lasts.Many stretch) = omega arith
+chain_falls (lasts.Some stretch) = omega arith
+chain_falls (lasts.Many stretched) = omega arith

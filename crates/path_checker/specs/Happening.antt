@@ -14,14 +14,10 @@ use Rattle.suit_commands.specs.Tree.{CommandTree, Override, SequenceTree, NoStep
 use Rattle.suit_commands.specs.View.{sequence_tree}
 use Rattle.path_checker.specs.Selecting.{components_of}
 use Rattle.path_checker.specs.Matches.{match_of, match_event, covered_event}
-use Rattle.path_checker.specs.declared.judge_plan.brief.Brief.{Brief}
-use Rattle.path_checker.specs.declared.judge_plan.brief.Brief.TheVariants as brief
 use Rattle.path_checker.specs.declared.judge_plan.trace.Invoke.{Invoke}
 use Rattle.path_checker.specs.declared.judge_plan.trace.Told.{Told}
 use Rattle.path_checker.specs.declared.judge_plan.trace.Told.TheVariants as told
 use Rattle.path_checker.specs.declared.judge_plan.trace.Four.{Four}
-use Rattle.path_checker.specs.declared.judge_plan.trace.Piece.{Piece}
-use Rattle.path_checker.specs.declared.judge_plan.trace.Piece.TheVariants as pieces
 use Rattle.path_checker.specs.declared.judge_plan.trace.Waiting.{Waiting}
 use Rattle.path_checker.specs.declared.judge_plan.sets.SetsAt.{SetsAt}
 use Rattle.path_checker.specs.declared.judge_plan.sets.Several.{Several}
@@ -58,11 +54,6 @@ sets_of sets = sets_at sets.components.now sets.list.now
 abbrev pub several_sets : Several → List Event
 several_sets several = sequence_sets (sequence_tree several.steps.now) (components_of several.components)
 
-abbrev pub brief_event : Brief → Event
-brief_event (brief.Tried component kind passed) = events.Tried component kind passed
-brief_event (brief.Missed component) = events.Missed component
-brief_event (brief.Wrote component) = events.Wrote component
-
 abbrev pub told_by : Told → List Event
 told_by (told.Tried component kind passed) = events.Tried component kind passed ∷ []
 told_by (told.Missed component) = events.Missed component ∷ []
@@ -77,28 +68,13 @@ told_by (told.SetsFirst count list) = sets_at (range_with_len 0 count) list.now
 told_by (told.SetsBoth first second list) = sets_at (first ∷ second ∷ []) list.now
 told_by (told.SetsAt sets) = sets_of sets.now
 told_by (told.Several several) = several_sets several.now
-told_by (told.Two first second) = brief_event first ∷ brief_event second ∷ []
-told_by (told.Three first second third) = brief_event first ∷ brief_event second ∷ brief_event third ∷ []
 
 abbrev pub all_told : List Told → List Event
 all_told [] = []
 all_told (told ∷ rest) = told_by told ++ all_told rest
 
--- the events of the last one, if there is one
-abbrev pub last_told : Option Told → List Event
-last_told None = []
-last_told (Some told) = told_by told
-
--- the events of a list, and then of the last one, which is held back
-abbrev pub told_since : List Told → Option Told → List Event
-told_since told last = all_told told ++ last_told last
-
 abbrev pub four_told : Four → List Event
 four_told told = all_told told.first ++ told_by told.last
-
-abbrev pub piece_told : Piece → List Event
-piece_told (pieces.Four four) = four_told four.now
-piece_told (pieces.Many told) = all_told told.now
 
 abbrev pub waiting_told : Waiting → List Event
 waiting_told waiting = all_told (take waiting.count waiting.told)

@@ -4,7 +4,9 @@ use Rattle.suit_params.specs.declared.digest.Digest.{Digest}
 use Rattle.path_model.specs.declared.event.Event.{Event}
 use Rattle.path_model.specs.Safe.{HasMatched}
 use Rattle.path_checker.specs.declared.judge_plan.standing.StandingMatches.{StandingMatches}
+use Rattle.path_checker.specs.declared.judge_plan.line.Line.{Line}
 use Rattle.path_checker.specs.Exploring.{In}
+use Rattle.path_checker.specs.Lines.{line_told}
 use Rattle.path_checker.specs.Matches.{Match, matches_from}
 
 -- the events of all parts in order, where the last part comes first in the list
@@ -13,9 +15,9 @@ all_in_order [] = []
 all_in_order (part ∷ parts) = all_in_order parts ++ part
 
 -- the events of a path: those that are shared, and then those since
-abbrev pub with_since : List Event → Option (List Event) → List Event
+abbrev pub with_since : List Event → Option Line → List Event
 with_since past None = past
-with_since past (Some since) = past ++ since
+with_since past (Some line) = past ++ line_told line
 
 -- the matches that stand for a component
 abbrev pub held_of : StandingMatches → ℕ → List Match

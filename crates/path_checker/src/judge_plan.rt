@@ -6,7 +6,6 @@ ghost use Rattle.suit_commands.specs.Plans.{plan_tree};
 ghost use Rattle.path_checker.specs.Procedures.{ArePlan};
 ghost use Rattle.path_checker.specs.PlanVerdicts.{Tells, Judges, JudgesPlan};
 
-mod brief;
 mod choice;
 mod conditions;
 mod directives;
@@ -23,6 +22,7 @@ mod invoking;
 mod kept;
 mod known;
 mod lending;
+mod line;
 mod links;
 mod made;
 mod mark;

@@ -2,14 +2,15 @@
 
 ghost use Rattle.std.specs.Prelude.{◌≡◌, [], ◌∷◌, ◌++◌, map, IfSome, IfOk, OnOk, OnErr};
 ghost use Rattle.suit_commands.specs.View.{sequence_tree};
-ghost use Rattle.path_checker.specs.Happening.{brief_event, event_of, invoke_event, sets_at, sequence_sets, told_by, all_told, four_told, piece_told, waiting_told};
+ghost use Rattle.path_checker.specs.Happening.{event_of, invoke_event, sets_at, sequence_sets, told_by, all_told, four_told, piece_told, waiting_told};
 ghost use Rattle.path_checker.specs.Chains.{parts_from, Parted};
+ghost use Rattle.path_checker.specs.Lines.{lent_told};
 ghost use Rattle.path_checker.specs.Overriding.{AreOverrides};
 ghost use Rattle.path_checker.specs.Selecting.{components_of};
 ghost use Rattle.path_checker.specs.Standing.{all_in_order};
 
-use crate::judge_plan::brief::Brief;
 use crate::judge_plan::happened::{Happened, copied};
+use crate::judge_plan::line::LentLine;
 use crate::judge_plan::matches::Match;
 use crate::judge_plan::memory::Memory;
 use crate::judge_plan::selected::Components;
@@ -29,7 +30,7 @@ pub(crate) struct Invoke<'a> {
     size: Option<u64>,
 }
 
-/// One event, up to three brief ones, or all events of overrides, in sixteen bytes.
+/// One event, or all events of a swap or of overrides, in sixteen bytes.
 #[derive(Clone, Copy)]
 pub(crate) enum Told<'a> {
     Tried {
@@ -78,9 +79,6 @@ pub(crate) enum Told<'a> {
     },
     SetsAt(&'a SetsAt<'a>),
     Several(&'a Several<'a>),
-    // Two or three brief events.
-    Two(Brief, Brief),
-    Three(Brief, Brief, Brief),
 }
 
 // At most this many events wait before they become a part.
@@ -104,11 +102,19 @@ struct Part<'a> {
     before: Trace<'a>,
 }
 
-// A part of many, and the parts before it.
+// A part of some that waited, and the parts before it.
 #[cycle(trace)]
 #[derive(Drop)]
 struct Stretch<'a> {
     told: &'a [Told<'a>],
+    before: Trace<'a>,
+}
+
+// A part of many in a line, and the parts before it.
+#[cycle(trace)]
+#[derive(Drop)]
+struct Stretched<'a> {
+    line: LentLine<'a, 'a>,
     before: Trace<'a>,
 }
 
@@ -118,7 +124,8 @@ struct Stretch<'a> {
 enum Last<'a> {
     None,
     Four(&'a Part<'a>),
-    Many(&'a Stretch<'a>),
+    Some(&'a Stretch<'a>),
+    Many(&'a Stretched<'a>),
 }
 
 /// The parts of a path, the last one first. A trace made from another one shares its parts.
@@ -145,11 +152,12 @@ impl<'a> Model for Trace<'a> {
     ghost size_decreases = { λ a h. chain_falls a.last };
 }
 
-/// What a part holds: four, or many.
+/// What a part holds: four, some that waited, or many.
 #[derive(Clone, Copy)]
 enum Piece<'a> {
     Four(&'a Four<'a>),
-    Many(&'a [Told<'a>]),
+    Some(&'a [Told<'a>]),
+    Many(&'a LentLine<'a, 'a>),
 }
 
 /// The last events, too few for a part: the first `count` of these.
@@ -285,42 +293,6 @@ impl<'a> Told<'a> {
         }
     }
 
-    // The event, if it is a single one and brief.
-    fn brief(&self) -> Option<Brief>
-        ensures { IfSome result (λ brief. told_by self.now ≡ brief_event brief ∷ []) }
-    {
-        match *self {
-            Told::Tried {
-                component,
-                kind,
-                passed,
-            } if component < 256 => Some(Brief::Tried {
-                component: component as u8,
-                kind,
-                passed,
-            }),
-            Told::Missed { component } if component < 256 => Some(Brief::Missed {
-                component: component as u8,
-            }),
-            Told::Wrote { component } if component < 256 => Some(Brief::Wrote {
-                component: component as u8,
-            }),
-            _ => None,
-        }
-    }
-
-    /// Joins the next event to these, if all are brief and no more than three.
-    pub(crate) fn joined(&self, next: &Told<'a>) -> Option<Told<'a>>
-        ensures { IfSome result (λ both. told_by both ≡ told_by self.now ++ told_by next.now) }
-    {
-        let last = next.brief()?;
-        if let Told::Two(first, second) = *self {
-            return Some(Told::Three(first, second, last));
-        }
-        let first = self.brief()?;
-        Some(Told::Two(first, last))
-    }
-
     /// Appends the events to a list, in memory of their own.
     pub(crate) fn tell(&self, alloc: Global, events: &mut Events) -> Result<(), AllocError>
         ensures { OnOk result (events.new ≡ events.old ++ told_by self.now) }
@@ -358,15 +330,6 @@ impl<'a> Told<'a> {
             } => return tell_both_sets(alloc, first, second, list, events),
             Told::SetsAt(sets) => return sets.tell(alloc, events),
             Told::Several(several) => return several.tell(alloc, events),
-            Told::Two(first, second) => {
-                events.push(first.told())?;
-                second.told()
-            }
-            Told::Three(first, second, third) => {
-                events.push(first.told())?;
-                events.push(second.told())?;
-                third.told()
-            }
         };
         events.push(event)?;
         Ok(())
@@ -404,7 +367,8 @@ impl<'a> Piece<'a> {
     {
         match *self {
             Piece::Four(four) => four.tell(alloc, events),
-            Piece::Many(told) => tell_all(told, alloc, events),
+            Piece::Some(told) => tell_all(told, alloc, events),
+            Piece::Many(line) => line.tell(alloc, events),
         }
     }
 }
@@ -448,7 +412,8 @@ impl<'a> Last<'a> {
         match self {
             Last::None => None,
             Last::Four(part) => Some((Piece::Four(&part.told), part.before.last)),
-            Last::Many(stretch) => Some((Piece::Many(stretch.told), stretch.before.last)),
+            Last::Some(stretch) => Some((Piece::Some(stretch.told), stretch.before.last)),
+            Last::Many(stretched) => Some((Piece::Many(&stretched.line), stretched.before.last)),
         }
     }
 }
@@ -481,15 +446,29 @@ impl<'a> Trace<'a> {
         }
     }
 
-    // The trace with many more events.
-    fn with_many(&self, bump: &'a Bump, told: &[Told<'a>]) -> Result<Trace<'a>, AllocError>
+    // The trace with some more events.
+    fn with_some(&self, bump: &'a Bump, told: &[Told<'a>]) -> Result<Trace<'a>, AllocError>
         ensures { IfOk result (λ trace. trace ≡ all_told told.now ∷ self.now) }
     {
         let before = self.copy();
         let told = bump.try_alloc_slice_copy(told)?;
         match bump.try_alloc(Stretch { told, before }) {
             Ok(stretch) => Ok(Trace {
-                last: Last::Many(stretch),
+                last: Last::Some(stretch),
+            }),
+            Err(_) => Err(AllocError),
+        }
+    }
+
+    // The trace with many more events.
+    fn with_line(&self, bump: &'a Bump, line: LentLine<'_, 'a>) -> Result<Trace<'a>, AllocError>
+        ensures { IfOk result (λ trace. trace ≡ lent_told line.entry ∷ self.now) }
+    {
+        let before = self.copy();
+        let line = line.shared(bump)?;
+        match bump.try_alloc(Stretched { line, before }) {
+            Ok(stretched) => Ok(Trace {
+                last: Last::Many(stretched),
             }),
             Err(_) => Err(AllocError),
         }
@@ -583,17 +562,21 @@ impl<'a> SharedEvents<'a> {
         Ok(())
     }
 
-    /// Adds many events as one part.
-    pub(crate) fn add_many(&mut self, bump: &'a Bump, told: &[Told<'a>]) -> Result<(), AllocError>
-        ensures ok { OnOk result (self.new ≡ self.old ++ all_told told.now) }
+    /// Adds a line as one part.
+    pub(crate) fn add_line(
+        &mut self,
+        bump: &'a Bump,
+        line: LentLine<'_, 'a>,
+    ) -> Result<(), AllocError>
+        ensures ok { OnOk result (self.new ≡ self.old ++ lent_told line.entry) }
         ensures err { OnErr result (self.new ≡ self.old) }
     {
         if self.waiting.count == 0 {
-            self.trace = self.trace.with_many(bump, told)?;
+            self.trace = self.trace.with_line(bump, line)?;
             return Ok(());
         }
-        let before = self.trace.with_many(bump, self.waiting.as_slice())?;
-        self.trace = before.with_many(bump, told)?;
+        let before = self.trace.with_some(bump, self.waiting.as_slice())?;
+        self.trace = before.with_line(bump, line)?;
         self.waiting.count = 0;
         Ok(())
     }

@@ -1,8 +1,7 @@
 use Rattle.std.proofs.Common.{◌≡◌, List, ◌∷◌, ◌++◌, Some, sym, ap, ◌∙◌, subst}
 use Rattle.std.specs.Prelude.{map}
 use Rattle.path_model.specs.declared.event.Event.{Event}
-use Rattle.path_checker.specs.Chains.{parts_from, Parted}
-use Rattle.path_checker.specs.Happening.{piece_told}
+use Rattle.path_checker.specs.Chains.{parts_from, piece_told, Parted}
 use Rattle.path_checker.proofs.ChainLaws.{parts_more}
 use Rattle.path_checker.proofs.judge_plan.trace.Trace.parts.Goals as goal
 

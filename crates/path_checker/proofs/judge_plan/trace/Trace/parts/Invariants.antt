@@ -1,7 +1,6 @@
 use Rattle.std.proofs.Common.{◌≡◌, ◌++◌, length}
 use Rattle.std.specs.Prelude.{map}
-use Rattle.path_checker.specs.Chains.{parts_from}
-use Rattle.path_checker.specs.Happening.{piece_told}
+use Rattle.path_checker.specs.Chains.{parts_from, piece_told}
 use Rattle.path_checker.proofs.judge_plan.trace.Trace.parts.Given as goal
 
 abbrev pub invariant-loop-piece : goal.invariant-loop-piece

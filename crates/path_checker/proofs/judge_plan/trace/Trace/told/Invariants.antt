@@ -1,6 +1,6 @@
 use Rattle.std.proofs.Common.{◌≡◌, ◌++◌, length}
 use Rattle.std.specs.Prelude.{map}
-use Rattle.path_checker.specs.Happening.{piece_told}
+use Rattle.path_checker.specs.Chains.{piece_told}
 use Rattle.path_checker.specs.Standing.{all_in_order}
 use Rattle.path_checker.proofs.judge_plan.trace.Trace.told.Given as goal
 
