@@ -2,6 +2,7 @@ pub mod Membership
 pub mod ChainLaws
 pub mod MatchLaws
 pub mod HeldLaws
+pub mod LineLaws
 pub mod Exploring
 pub mod Quiet
 pub mod InnerStates

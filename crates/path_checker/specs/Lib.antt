@@ -1,5 +1,6 @@
 pub mod Knowing
 pub mod Matches
+pub mod Lines
 pub mod Holding
 pub mod Happening
 pub mod Chains

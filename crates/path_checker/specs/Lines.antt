@@ -1,7 +1,5 @@
 -- Events in a line: a word for each, and apart from these the matches, the lists of parameters and the other events that they name.
 use Rattle.std.specs.Prelude.{◌≡◌, ◌<◌, List, [], ◌∷◌, ◌++◌, Option, Some, None, reverse, length}
-use Rattle.std.specs.Borrow.{Bor}
-use Rattle.suit_params.specs.declared.param.Param.{Param}
 use Rattle.path_model.specs.declared.event.Event.{Event}
 use Rattle.path_model.specs.declared.event.Event.TheVariants as events
 use Rattle.path_checker.specs.declared.judge_plan.line.Word.{Word}
@@ -9,8 +7,8 @@ use Rattle.path_checker.specs.declared.judge_plan.line.Word.TheVariants as words
 use Rattle.path_checker.specs.declared.judge_plan.line.LentList.{LentList}
 use Rattle.path_checker.specs.declared.judge_plan.line.Line.{Line}
 use Rattle.path_checker.specs.declared.judge_plan.line.LentLine.{LentLine}
+use Rattle.path_checker.specs.declared.judge_plan.lines.Lines.{Lines}
 use Rattle.path_checker.specs.declared.judge_plan.matches.Lent.{Lent}
-use Rattle.path_checker.specs.declared.judge_plan.matches.Match.{Match as LentMatch}
 use Rattle.path_checker.specs.declared.judge_plan.trace.Told.{Told}
 use Rattle.path_checker.specs.Matches.{match_of, match_event, covered_event}
 use Rattle.path_checker.specs.Happening.{sets_at, told_by}
@@ -34,15 +32,23 @@ line_told line = words_told (reverse line.words.items) (reverse line.matches.ite
 abbrev pub lent_told : LentLine → List Event
 lent_told line = words_told (reverse line.words.now) (reverse line.matches.now) (reverse line.lists.now) (reverse line.others.now)
 
+-- the events of lines, one behind the other
+abbrev pub each_told : List Line → List Event
+each_told [] = []
+each_told (line ∷ rest) = line_told line ++ each_told rest
+
+abbrev pub lines_told : Lines → List Event
+lines_told lines = each_told lines.full.items ++ line_told lines.last
+
 -- the events of a line with one word more, that names nothing, a match, a list or another event
 abbrev pub with_word : Line → Word → List Event
 with_word line word = words_told (word ∷ reverse line.words.items) (reverse line.matches.items) (reverse line.lists.items) (reverse line.others.items)
 
-abbrev pub with_match : Line → Word → Bor LentMatch → List Event
-with_match line word own = words_told (word ∷ reverse line.words.items) (record { own = own } ∷ reverse line.matches.items) (reverse line.lists.items) (reverse line.others.items)
+abbrev pub with_match : Line → Word → Lent → List Event
+with_match line word lent = words_told (word ∷ reverse line.words.items) (lent ∷ reverse line.matches.items) (reverse line.lists.items) (reverse line.others.items)
 
-abbrev pub with_list : Line → Word → Bor (List Param) → List Event
-with_list line word list = words_told (word ∷ reverse line.words.items) (reverse line.matches.items) (record { list = list } ∷ reverse line.lists.items) (reverse line.others.items)
+abbrev pub with_list : Line → Word → LentList → List Event
+with_list line word lent = words_told (word ∷ reverse line.words.items) (reverse line.matches.items) (lent ∷ reverse line.lists.items) (reverse line.others.items)
 
 abbrev pub with_other : Line → Told → List Event
 with_other line told = words_told (words.Other ∷ reverse line.words.items) (reverse line.matches.items) (reverse line.lists.items) (told ∷ reverse line.others.items)

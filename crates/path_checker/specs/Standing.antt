@@ -4,9 +4,10 @@ use Rattle.suit_params.specs.declared.digest.Digest.{Digest}
 use Rattle.path_model.specs.declared.event.Event.{Event}
 use Rattle.path_model.specs.Safe.{HasMatched}
 use Rattle.path_checker.specs.declared.judge_plan.standing.StandingMatches.{StandingMatches}
-use Rattle.path_checker.specs.declared.judge_plan.line.Line.{Line}
+use Rattle.path_checker.specs.declared.judge_plan.past.Since.{Since}
+use Rattle.path_checker.specs.declared.judge_plan.past.Since.TheVariants as sinces
 use Rattle.path_checker.specs.Exploring.{In}
-use Rattle.path_checker.specs.Lines.{line_told}
+use Rattle.path_checker.specs.Lines.{lines_told}
 use Rattle.path_checker.specs.Matches.{Match, matches_from}
 
 -- the events of all parts in order, where the last part comes first in the list
@@ -15,9 +16,10 @@ all_in_order [] = []
 all_in_order (part ∷ parts) = all_in_order parts ++ part
 
 -- the events of a path: those that are shared, and then those since
-abbrev pub with_since : List Event → Option Line → List Event
-with_since past None = past
-with_since past (Some line) = past ++ line_told line
+abbrev pub with_since : List Event → Since → List Event
+with_since past sinces.Shared = past
+with_since past sinces.Apart = past
+with_since past (sinces.Lines lines) = past ++ lines_told lines.value
 
 -- the matches that stand for a component
 abbrev pub held_of : StandingMatches → ℕ → List Match

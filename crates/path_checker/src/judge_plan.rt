@@ -23,6 +23,7 @@ mod kept;
 mod known;
 mod lending;
 mod line;
+mod lines;
 mod links;
 mod made;
 mod mark;

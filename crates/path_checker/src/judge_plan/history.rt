@@ -85,11 +85,11 @@ impl<'a> History<'a> {
     }
 
     /// The same history, which keeps its next events in memory of its own.
-    pub(crate) fn set_apart(self, alloc: Global) -> History<'a>
+    pub(crate) fn set_apart(self) -> History<'a>
         ensures { result ≡ self.entry }
     {
         History {
-            past: self.past.set_apart(alloc),
+            past: self.past.set_apart(),
             standing: self.standing,
         }
     }

@@ -150,11 +150,11 @@ impl<'a> Kept<'a> {
     }
 
     /// The same state, which keeps its next events in memory of its own.
-    pub(crate) fn set_apart(self, alloc: Global) -> Kept<'a>
+    pub(crate) fn set_apart(self) -> Kept<'a>
         ensures { result ≡ self.entry }
     {
         let mut k = self;
-        k.history = k.history.set_apart(alloc);
+        k.history = k.history.set_apart();
         k
     }
 

@@ -3,7 +3,7 @@
 ghost use Rattle.std.specs.Prelude.{◌≡◌, IfSome, IfOk};
 ghost use Rattle.path_checker.specs.Matches.{stated_by, match_of};
 
-use crate::judge_plan::mark::number_of;
+use crate::judge_plan::mark::{number_of, print_of};
 use crate::judge_plan::matches::{Held, Match};
 use crate::judge_plan::memory::Memory;
 use crate::judge_plan::stated::Stated;
@@ -75,7 +75,7 @@ impl<'a> Match<'a> {
         if let Some(last) = Match::told_last(memory, place, component, stated) {
             return Ok(last);
         }
-        let own = if memory.passes_used() {
+        let own = if !memory.has_plenty() && memory.passes_used() {
             Match::unsearched(memory, stated)?
         } else {
             Match::used(memory, stated)?
@@ -89,7 +89,11 @@ impl<'a> Match<'a> {
     fn used(memory: Memory<'a>, stated: Stated<'a>) -> Result<&'a Match<'a>, AllocError>
         ensures { IfOk result (λ own. match_of own.now ≡ stated_by stated.entry) }
     {
-        let number = number_of(stated);
+        let number = if memory.has_plenty() {
+            print_of(stated)
+        } else {
+            number_of(stated)
+        };
         for second in &[false, true] {
             if let Some(last) = memory.used(number, *second) {
                 if last.is_of(stated) {

@@ -1,10 +1,10 @@
-//! The events of a state that goes on alone, in a line: four bytes for each, and apart from these what they name.
+//! Events in a line: four bytes for each, and apart from these what they name.
 
 ghost use Rattle.std.specs.Prelude.{◌≡◌, [], ◌++◌, IfOk, OnOk, OnErr};
 ghost use Rattle.path_checker.specs.Happening.{told_by};
 ghost use Rattle.path_checker.specs.Lines.{line_told, lent_told, back_told, with_word, with_match, with_list, with_other, LineParted};
 
-use crate::judge_plan::matches::{Lent, Match};
+use crate::judge_plan::matches::Lent;
 use crate::judge_plan::memory::Memory;
 use crate::judge_plan::trace::{SharedEvents, Told};
 use bumpalo::Bump;
@@ -14,9 +14,9 @@ use suit_commands::TestKind;
 use suit_params::ParamList;
 
 // As many events are shared as one part.
-const LONG: usize = 16;
+const LONG: usize = 8;
 
-// As many are shared even before a copy is made.
+// As many make a line full, so that no list is long.
 const FULL: usize = 1_024;
 
 /// What an event is, at components with small numbers.
@@ -230,14 +230,26 @@ impl<'a> Line<'a> {
         self.others.clear();
     }
 
-    /// Whether there are so many that they are to be shared.
+    /// Whether there are so many that the next ones belong to another line.
     pub(crate) fn is_full(&self) -> bool {
         self.words.len() >= FULL
     }
 
+    /// A copy, in memory of its own that is no larger than needed.
+    pub(crate) fn copy(&self, alloc: Global) -> Result<Line<'a>, AllocError>
+        ensures { IfOk result (λ line. line_told line ≡ line_told self.now) }
+    {
+        Ok(Line {
+            words: Vec::from_slice(alloc, &self.words)?,
+            matches: Vec::from_slice(alloc, &self.matches)?,
+            lists: Vec::from_slice(alloc, &self.lists)?,
+            others: Vec::from_slice(alloc, &self.others)?,
+        })
+    }
+
     // Adds a word that names nothing.
     fn add_word(&mut self, word: Word) -> Result<(), AllocError>
-        ensures ok { OnOk result (line_told self.new ≡ with_word self.old word.entry) }
+        ensures ok { OnOk result (line_told self.new ≡ with_word self.old word) }
         ensures err { OnErr result (line_told self.new ≡ line_told self.old) }
     {
         self.words.push(word)?;
@@ -245,23 +257,23 @@ impl<'a> Line<'a> {
     }
 
     // Adds a word and the match that it names.
-    fn add_match(&mut self, word: Word, own: &'a Match<'a>) -> Result<(), AllocError>
-        ensures ok { OnOk result (line_told self.new ≡ with_match self.old word.entry own) }
+    fn add_match(&mut self, word: Word, lent: Lent<'a>) -> Result<(), AllocError>
+        ensures ok { OnOk result (line_told self.new ≡ with_match self.old word lent.entry) }
         ensures err { OnErr result (line_told self.new ≡ line_told self.old) }
     {
         self.words.reserve(1)?;
-        self.matches.push(Lent { own })?;
+        self.matches.push(lent)?;
         self.words.push(word)?;
         Ok(())
     }
 
     // Adds a word and the list that it names.
-    fn add_list(&mut self, word: Word, list: &'a ParamList) -> Result<(), AllocError>
-        ensures ok { OnOk result (line_told self.new ≡ with_list self.old word.entry list) }
+    fn add_list(&mut self, word: Word, lent: LentList<'a>) -> Result<(), AllocError>
+        ensures ok { OnOk result (line_told self.new ≡ with_list self.old word lent.entry) }
         ensures err { OnErr result (line_told self.new ≡ line_told self.old) }
     {
         self.words.reserve(1)?;
-        self.lists.push(LentList { list })?;
+        self.lists.push(lent)?;
         self.words.push(word)?;
         Ok(())
     }
@@ -306,15 +318,15 @@ impl<'a> Line<'a> {
             }
             Told::Matched { component, own } if component < 256 => {
                 let component = component as u8;
-                self.add_match(Word::Matched { component }, own)
+                self.add_match(Word::Matched { component }, Lent { own })
             }
             Told::Covered { component, own } if component < 256 => {
                 let component = component as u8;
-                self.add_match(Word::Covered { component }, own)
+                self.add_match(Word::Covered { component }, Lent { own })
             }
             Told::Sets { component, list } if component < 256 => {
                 let component = component as u8;
-                self.add_list(Word::Sets { component }, list)
+                self.add_list(Word::Sets { component }, LentList { list })
             }
             _ => self.add_other(told),
         }

@@ -322,6 +322,14 @@ impl<'a> Matches<'a> {
         }
     }
 
+    // Computes the fingerprints of the wanted match and of all others, so that nearly all of these are passed over.
+    fn print_all(&self, wanted: &Match<'_>) {
+        wanted.gets_print();
+        for lent in self.all.as_slice() {
+            lent.own.gets_print();
+        }
+    }
+
     // The match of the list that is the wanted one, if it is found.
     fn found(
         &self,
@@ -332,6 +340,7 @@ impl<'a> Matches<'a> {
         ensures { IfSome result (λ made. match_of made.now ≡ match_of wanted.now) }
     {
         if self.all.len() <= FEW {
+            self.print_all(wanted);
             let at = index_in(self.all.as_slice(), wanted)?;
             return self.at(at, wanted);
         }

@@ -39,8 +39,8 @@ const UNKEPT: usize = 16;
 // At most this many matches are made in a row without a search for an equal one.
 const UNSEARCHED: usize = 1_048_576;
 
-// Once more than this many matches were made, one that stands is looked for before another is made.
-const PLENTY: usize = 1_048_576;
+// Once more than this many matches were made, more is spent on finding an equal one.
+const PLENTY: usize = 262_144;
 
 // How many entries a cache has at first. A power of two.
 const FIRST: usize = 2;
@@ -295,7 +295,7 @@ impl<'a> Memory<'a> {
         self.last.made.set(self.last.made.get().wrapping_add(1));
     }
 
-    /// Whether so many matches were made that one that stands is looked for before another is made.
+    /// Whether so many matches were made that more is spent on finding an equal one.
     pub(crate) fn has_plenty(&self) -> bool {
         self.last.made.get() > PLENTY
     }

@@ -241,7 +241,7 @@ fn alone<'a>(
     ensures err { IfErr result
         (λ h. Halts (RunsThen (sequence_tree steps.now) rest.now count) (from.entry ∷ []) h) }
 {
-    let mut k = from.set_apart(memory.alloc);
+    let mut k = from.set_apart();
     let done = straight_steps(memory, count, steps, &mut k)?;
     let Some(at) = done else {
         return Ok(());

@@ -3,19 +3,30 @@
 ghost use Rattle.std.specs.Prelude.{◌≡◌, [], ◌++◌, IfOk, OnOk, OnErr};
 ghost use Rattle.path_checker.specs.Happening.{told_by};
 
-use crate::judge_plan::line::Line;
+use crate::judge_plan::lines::Lines;
 use crate::judge_plan::memory::Memory;
 use crate::judge_plan::trace::{SharedEvents, Told};
 use path_model::Events;
 use std::alloc::{AllocError, Global};
 use std::marker::Model;
 
+// Where the next events of a state go, and those that are not shared yet.
+#[derive(Drop)]
+enum Since<'a> {
+    // To memory that states share.
+    Shared,
+    // To memory of its own, in which there are none yet.
+    Apart,
+    // To these lines. They are boxed, so that a state is small.
+    Lines(Box<Lines<'a>>),
+}
+
 /// The events that led to a state: first those that states share, and then, while it goes on alone, those in memory of
 /// its own.
 #[derive(Drop)]
 pub(crate) struct Past<'a> {
     shared: SharedEvents<'a>,
-    since: Option<Line<'a>>,
+    since: Since<'a>,
 }
 
 impl<'a> Model for Past<'a> {
@@ -36,7 +47,7 @@ impl<'a> Past<'a> {
     {
         Past {
             shared: SharedEvents::new(),
-            since: None,
+            since: Since::Shared,
         }
     }
 
@@ -47,8 +58,14 @@ impl<'a> Past<'a> {
     {
         self.settle(memory)?;
         match &mut self.since {
-            Some(since) => since.add(told),
-            None => self.shared.add(memory.last.events, told),
+            Since::Shared => self.shared.add(memory.last.events, told),
+            Since::Apart => {
+                let mut lines = Lines::new(memory.alloc);
+                lines.add(told)?;
+                self.since = Since::Lines(Box::new(memory.alloc, lines)?);
+                Ok(())
+            }
+            Since::Lines(lines) => lines.add(told),
         }
     }
 
@@ -58,15 +75,18 @@ impl<'a> Past<'a> {
         ensures { self.new ≡ self.old }
     {
         match &mut self.since {
-            Some(since) => {
-                if since.is_full() && self.shared.are_many() {
-                    self.shared.add_line(memory.last.events, since.lent())?;
-                    since.clear();
+            Since::Shared => {
+                if self.shared.are_many() {
+                    self.since = Since::Apart;
                 }
             }
-            None => {
-                if self.shared.are_many() {
-                    self.since = Some(Line::new(memory.alloc));
+            Since::Apart => {}
+            Since::Lines(lines) => {
+                if lines.is_full() && self.shared.are_many() {
+                    self.shared = lines.behind(memory, self.shared.copy())?;
+                    lines.clear();
+                } else if lines.is_full() {
+                    lines.fold(memory.alloc)?;
                 }
             }
         }
@@ -77,7 +97,7 @@ impl<'a> Past<'a> {
     pub(crate) fn begin(&mut self)
         ensures { self.new ≡ self.old }
     {
-        if self.since.is_none() {
+        if let Since::Shared = &self.since {
             self.shared.begin();
         }
     }
@@ -88,19 +108,19 @@ impl<'a> Past<'a> {
     {
         if self.shared.are_many() {
             self.shared = self.lent(memory)?;
-            self.since = None;
+            self.since = Since::Shared;
         }
         self.shared.end();
         Ok(())
     }
 
     /// The same events. The next ones go into memory of its own.
-    pub(crate) fn set_apart(self, alloc: Global) -> Past<'a>
+    pub(crate) fn set_apart(self) -> Past<'a>
         ensures { result ≡ self.entry }
     {
         let mut past = self;
-        if past.since.is_none() {
-            past.since = Some(Line::new(alloc));
+        if let Since::Shared = &past.since {
+            past.since = Since::Apart;
         }
         past
     }
@@ -111,8 +131,8 @@ impl<'a> Past<'a> {
     {
         let shared = self.shared.copy();
         match &self.since {
-            Some(since) => since.behind(memory, shared),
-            None => Ok(shared),
+            Since::Lines(lines) => lines.behind(memory, shared),
+            _ => Ok(shared),
         }
     }
 
@@ -123,7 +143,7 @@ impl<'a> Past<'a> {
         let shared = self.lent(memory)?;
         Ok(Past {
             shared,
-            since: None,
+            since: Since::Shared,
         })
     }
 
@@ -132,8 +152,8 @@ impl<'a> Past<'a> {
         ensures { IfOk result (λ events. events ≡ self.now) }
     {
         let mut events = self.shared.told(alloc)?;
-        if let Some(since) = &self.since {
-            since.lent().tell(alloc, &mut events)?;
+        if let Since::Lines(lines) = &self.since {
+            lines.tell(alloc, &mut events)?;
         }
         Ok(events)
     }

@@ -2,8 +2,8 @@
 
 ghost use Rattle.std.specs.Prelude.{◌≡◌, [], ◌∷◌, ◌++◌, map, IfSome, IfOk, OnOk, OnErr};
 ghost use Rattle.suit_commands.specs.View.{sequence_tree};
-ghost use Rattle.path_checker.specs.Happening.{event_of, invoke_event, sets_at, sequence_sets, told_by, all_told, four_told, piece_told, waiting_told};
-ghost use Rattle.path_checker.specs.Chains.{parts_from, Parted};
+ghost use Rattle.path_checker.specs.Happening.{event_of, invoke_event, sets_at, sequence_sets, told_by, all_told, four_told, waiting_told};
+ghost use Rattle.path_checker.specs.Chains.{parts_from, piece_told, Parted};
 ghost use Rattle.path_checker.specs.Lines.{lent_told};
 ghost use Rattle.path_checker.specs.Overriding.{AreOverrides};
 ghost use Rattle.path_checker.specs.Selecting.{components_of};
