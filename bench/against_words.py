@@ -4,7 +4,7 @@ identities that are learnt in as many states as possible, and equal states with 
 
 from against import DEEP as ALIKE
 from against_tables import DEEP
-from bred import ALL, EACH, IMAGE, INVOKE, MATCH, SWAP, WRITE, again, nested, pick, run, sets, size, tries
+from bred import ALL, EACH, IMAGE, INVOKE, MATCH, SWAP, WRITE, again, pick, run, sets, size, tries
 
 CONTENT = sets((18, ("bytes", 0xAA, 1)), (22, 1), (21, ("bytes", 20, 1)))
 EIGHT = tuple(range(8))
@@ -85,9 +85,10 @@ def short_lists():
     sixteen = (ALL, *(node for number in range(16) for node in (alike(number), MATCH)))
     yield "invokes in turn of the first two of 16 digests alike", *turned(sixteen, (alike(0), alike(1)))
     yield "invokes in turn of the last two of 16 digests alike, once", *turned(sixteen, (alike(14), alike(15)), "invoke")
+    yield "invokes in turn of the last two of 16 digests alike, along", *turned(sixteen, (alike(14), alike(15)), "along")
     yield "invokes in turn of the last two of 16 digests alike, severed", *turned(sixteen, (alike(14), alike(15)), "severed", 20_000)
-    yield "invokes and swaps in turn of 16 digests alike", *turned(
-        (ALL, CONTENT, *sixteen), (alike(14), alike(15)), unit=(AT_EIGHT, INVOKE, ALL, INVOKE), count=600)
+    yield "two invokes at each list in turn of 16 digests alike", *turned(
+        sixteen, (alike(14), alike(15)), unit=(AT_EIGHT, INVOKE, ALL, INVOKE), count=600)
     yield "invokes at two in turn of 16 digests alike", *turned(sixteen, (alike(14), alike(15)), unit=(pick(6, 7), INVOKE), count=1_000)
     deep = (ALL, *(node for one in ALIKE[:15] for node in (alike(one), MATCH)), alike(77), MATCH)
     yield "invokes in turn of 16 deep digests", *turned(deep, (alike(ALIKE[14]), alike(77)))
@@ -184,15 +185,17 @@ def several_in_turn():
     first, second = (tuple(node for at in EIGHT for node in (pick(at), own[at][number])) for number in (14, 15))
     for count in (150, 300):
         yield "invokes in turn of 16 digests of each component's own, %d commands" % count, (
-            *setup, pick(0, times=4_150_000 // (18 * count + 50)), run(*first, pick(0, 0), run(again(count, AT_EIGHT, INVOKE), *second)), pick(0)), "twice", 8
+            *setup, pick(0, times=4_150_000 // (18 * count + 50)),
+            run(*first, pick(0, 0), run(again(count, AT_EIGHT, INVOKE), *second)), pick(0)), "twice", 8
     sizes = tuple(size(number, SLOT) for number in range(16))
     yield "invokes in turn of 16 sizes with a slot", *turned(
         (ALL, sets((3, IMAGE)), *(node for one in sizes for node in (one, MATCH))), (sizes[14], sizes[15]))
-    for unit, name in (((AT_EIGHT, INVOKE, INVOKE), "two commands"), ((ALL, INVOKE, ALL, ALL), "close commands"), ((pick(*EIGHT, *EIGHT), INVOKE), "lists of 16")):
+    for unit, name in (((AT_EIGHT, INVOKE, INVOKE), "two commands"), ((ALL, INVOKE, ALL, ALL), "close commands"),
+                       ((pick(*EIGHT, *EIGHT), INVOKE), "lists of 16")):
         yield "invokes in turn of 16 digests alike by %s" % name, *turned(sixteen, (alike(14), alike(15)), unit=unit, count=800)
     both = (ALL, *(node for number in range(8) for node in (alike(number), MATCH, alike(number, 32), MATCH)))
     yield "invokes in turn of 16 digests of two lengths", *turned(both, (alike(7), alike(7, 32)))
-    yield "invokes in turn of 16 digests of 48 bytes of sizes", *turned(
+    yield "invokes in turn of 16 matches of 8 digests alike", *turned(
         (ALL, *(node for number in range(8) for node in (alike(number), size(1), MATCH, size(2), MATCH))), (size(1), size(2)))
 
 
@@ -200,7 +203,7 @@ def several_in_turn():
 
 def epochs(count, commands, *keys):
     """Sizes at eight components, each matched by so many commands."""
-    return again(count, AT_EIGHT, size(EACH, *keys), *(AT_EIGHT, MATCH) * commands)
+    return again(count, AT_EIGHT, size(EACH, *keys), MATCH, *(AT_EIGHT, MATCH) * (commands - 1))
 
 
 def in_the_pause():
@@ -213,6 +216,8 @@ def in_the_pause():
     for name, keys in (("a slot", (SLOT,)), ("a slot and two flags", (SLOT, STRICT, SOFT))):
         yield "5 ways of one pair, then sizes and %s at eight, 4 matches each" % name, (
             *one_pair_each(0, 64), pick(0), every, epochs(9, 4, *keys), pick(0)), "severed", 8
+    yield "5 ways of one pair, then sizes at eight, 4 matches each, linked", (
+        *one_pair_each(0, 64), pick(0), every, epochs(9, 4), ALL, INVOKE, pick(0)), "severed", 8
     for count in (7, 8, 9):
         yield "%d forks of one pair in turn, then sizes at eight, 4 matches each" % count, (
             *one_pair_each(0, 64), pick(0), forks(count), tries((*one_pair_each(1, 64), pick(0), MATCH), None), epochs(9, 4), pick(0)), "twice", 8
@@ -229,16 +234,37 @@ def doubled(count, most=10**9):
     return tuple(nodes)
 
 
+def spent(steps, act):
+    """About so many steps of one directive at component 7, in loops."""
+    return (pick(7, times=400), run(pick(7, times=max(1, (steps // 400 - 2) // 11)), run(*(act,) * 10)), pick(0))
+
+
 def short_pairs():
-    for count in (165_000, 140_000, 120_000, 80_000):
-        base = (ALL, CONTENT, *one_pair_each(0, 32), ALL, *doubled(count))
+    start = (ALL, CONTENT, *one_pair_each(0, 32), ALL)
+    for count in (165_000, 120_000):
+        base = (*start, *doubled(count))
+        left = 4_170_000 - 16 * sum(one[0] == "test" for one in base)
         yield "%d short pairs of one pair" % count, (*base, pick(0)), "severed", 8
-        yield "%d short pairs of one pair, then swaps" % count, (*base, pick(7), *looped((40, 40), again(9, SWAP), at=(7,))), "severed", 8
-    base = (ALL, CONTENT, *one_pair_each(0, 32), ALL)
+        yield "%d short pairs of one pair, then swaps" % count, (*base, pick(7), *spent(left, SWAP)), "severed", 8
+        # The invoke at all eight links the lists.
+        yield "%d short pairs of one pair, linked, then invokes" % count, (*base, INVOKE, pick(7), *spent(left, INVOKE)), "severed", 8
     yield "70,000 short pairs of one pair in two ways", (
-        *base, pick(0), tries((*one_pair_each(1, 32), MATCH), None), ALL, *doubled(70_000), pick(0)), "severed", 8
-    yield "130,000 short pairs of one pair, then invokes", (
-        *base, *doubled(130_000), pick(7), *looped((40, 40), again(9, INVOKE), at=(7,))), "severed", 8
+        *start, pick(0), tries((*one_pair_each(1, 32), MATCH), None), ALL, *doubled(70_000), pick(0)), "severed", 8
+
+
+# ---- the same, where each component's list is short, and is looked through for each match that was made anew
+
+def looked_through():
+    fourteen = tuple(node for number in range(14) for node in (alike(number), MATCH))
+    turns = tuple(one_pair_each(turn, 64) for turn in (0, 1))
+    for count in (380, 700):
+        state = (*turns[0], ALL, *under(range(300, 560)), WRITE, *fourteen, *turns[1], AT_EIGHT, MATCH, *turns[0], AT_EIGHT, MATCH)
+        for split in (7, 8):
+            yield "%d forks, then sizes and %d matches at eight of 16 digests alike" % (split, count), (
+                ALL, CONTENT, pick(0), forks(split), *state, again(count, AT_EIGHT, MATCH), pick(0)), "twice", 8
+            yield "%d forks, then sizes and %d matches at eight in turn of 16 digests alike" % (split, count), (
+                ALL, CONTENT, pick(0), forks(split), *state, pick(0), tries((*turns[1], pick(0), MATCH), None), again(count, AT_EIGHT, MATCH),
+                pick(0)), "twice", 8
 
 
 # ---- what is read, next to the events of one state
@@ -246,13 +272,14 @@ def short_pairs():
 def read_and_run():
     start = (ALL, CONTENT, sets((3, IMAGE)), MATCH, pick(0))
     for name, list, count in (("a slot", (SLOT,), 255_000), ("a slot and a flag", (SLOT, STRICT), 172_000),
-                              ("five numbers", (SLOT, STRICT, SOFT, (14, 0), (22, 0)), 86_000)):
+                              ("five keys", (SLOT, STRICT, SOFT, (22, 0), (23, ("bytes", 1, 0))), 86_000)):
         for act, what in ((SWAP, "swaps"), (INVOKE, "invokes"), (("act", 22), "copies")):
             yield "%d,000 overrides of %s, then %s" % (count // 1_000, name, what), (
                 *start, again(count, sets(*list)), *looped((40, 40), again(9, act))), "severed", 2
-    yield "170,000 slots, then swaps in 8 states", (*start, again(170_000, sets(SLOT, STRICT)), forks(2), *looped((40, 4), again(9, SWAP))), "severed", 2
-    yield "255,000 slots, then an override and a swap", (*start, again(255_000, sets(SLOT)), *looped((40, 40), again(9, size(1), SWAP))), "severed", 2
-    yield "255,000 slots, then overrides at three", (*start, again(255_000, sets(SLOT)), *looped((40, 40), pick(0, 1, 0), again(9, size(1)))), "severed", 2
+    slots = (*start, again(255_000, sets(SLOT)))
+    yield "255,000 slots, then swaps in 4 states", (*slots, forks(2), *looped((40, 4), again(9, SWAP))), "severed", 2
+    yield "255,000 slots, then an override and a swap", (*slots, *looped((40, 40), again(9, size(1), SWAP))), "severed", 2
+    yield "255,000 slots, then overrides at three", (*slots, *looped((40, 40), pick(0, 1, 0), again(9, size(1)))), "severed", 2
 
 
 # ---- identities that are learnt: some 0.5 us for each, at most 32 times in a state
@@ -327,8 +354,8 @@ def contents():
     for length, at in ((13_000, ALL), (13_000, pick(0)), (6_000, ALL), (3_900, ALL), (1_000, ALL)):
         for count in (13, 14):
             yield "contents of %d at %s, %d forks, then overrides" % (length, "eight" if at == ALL else "one", count), (
-                at, sets((18, ("bytes", 7, length))), pick(7), sets((3, IMAGE)), run(forks(count), again(9, size(EACH), SWAP if length < 0 else WRITE)
-                 if at == ALL else again(9, size(EACH))), pick(0)), "twice", 8
+                at, sets((18, ("bytes", 7, length))), pick(7), sets((3, IMAGE)),
+                run(forks(count), again(9, size(EACH), *(WRITE,) * (at == ALL))), pick(0)), "twice", 8
     yield "contents, URIs and arguments of 4,000 at eight, 13 forks, then overrides", (
         ALL, sets(*((key, ("bytes", 97, 4_000)) for key in (18, 21, 23))), pick(7), sets((3, IMAGE)), run(forks(13), again(9, size(EACH), WRITE)),
         pick(0)), "twice", 8
@@ -345,15 +372,18 @@ def far_apart():
         ALL, *(node for number in range(8) for node in (alike(number), MATCH)),
         *(node for at in EIGHT for node in (pick(at), *(item for number in range(8) for item in (alike(8 * at + 20 + number), MATCH)))),
         pick(0, times=10), run(again(44_000, AT_EIGHT, INVOKE)), pick(0)), "severed", 8
-    for count in (5_000, 12_000, 20_000):
+    seven = (SLOT, STRICT, SOFT, (18, ("bytes", 1, 0)), (21, ("bytes", 97, 0)), (22, 0), (23, ("bytes", 1, 0)))
+    count = 22_000
+    invoked = tuple(node for number in range(count) for node in (size(number * 7_919 % count, *seven), INVOKE))
+    yield "22,000 sizes with seven more keys, invoked by commands of their own", (
+        sets((3, IMAGE)), *under(range(count)), pick(0, times=94), run(*invoked), pick(0)), "severed", 2
+    for count, turns in ((5_000, 3), (5_000, 8), (12_000, 3), (20_000, 2), (40_000, 1)):
         sizes = tuple(number * 7_919 % count for number in range(count))
-        for turns in (3, 8):
-            each = tuple(digest(number, 32) for number in range(turns))
-            times = max(1, (4_190_000 - 2 * turns * count) // (turns * (2 * count + 8)))
-            yield "%d sizes under %d digests in turn, invoked" % (count, turns), (
-                *(node for one in each for node in (one, *under(range(count)))), pick(0, times=times),
-                run(*(node for one in each for node in (one, run(*under(sizes, INVOKE)))) if turns * count < 60_000 else
-                    (each[0], run(*under(sizes, INVOKE)), each[1]))), "severed", 2
+        each = tuple(digest(number, 32) for number in range(turns))
+        times = (4_190_000 - 2 * turns * count) // (turns * (2 * count + 8))
+        yield "%d sizes under each of %d digests, invoked by commands of their own" % (count, turns), (
+            *(node for one in each for node in (one, *under(range(count)))), pick(0, times=times),
+            run(*(node for one in each for node in (one, run(*under(sizes, INVOKE))))), pick(0)), "severed", 2
 
 
 # ---- other commands in many states
@@ -367,24 +397,28 @@ def others():
         *start, forks(8), again(9, ALL, *(node for number in range(17) for node in (alike(number), MATCH)), WRITE)), "twice", 8
     yield "8 forks, then 16 digests alike at eight, matched twice, and writes", (
         *start, forks(8), again(1, ALL, *(node for number in range(16) for node in (alike(number), MATCH, MATCH)), WRITE)), "twice", 8
-    for count in (12, 14, 16):
-        yield "%d forks in six runs each" % count, (*start, run(*(nested_around(tries((size(20 + number), MATCH), None), 5) for number in range(count)))), "twice", 8
-    yield "soft failures in runs", (*start, *(run(sets(SOFT, (14, 50 + number)), MATCH) for number in range(15)), again(9, size(EACH), MATCH)), "twice", 8
-    yield "soft failures in runs, all at once", (*start, run(*(run(sets(SOFT, (14, 50 + number)), MATCH) for number in range(14))), again(9, WRITE)), "twice", 8
+    for count in (12, 14):
+        yield "%d forks in six runs each" % count, (
+            *start, run(*(enclosed(tries((size(20 + number), MATCH), None), 5) for number in range(count)))), "twice", 8
+    soft = tuple(run(sets(SOFT, (14, 50 + number)), MATCH) for number in range(15))
+    for count in (12, 13, 15):
+        yield "%d soft failures in runs" % count, (*start, *soft[:count], again(9, size(EACH), MATCH)), "twice", 8
+    yield "soft failures in runs, all at once", (*start, run(*soft[:14]), again(9, WRITE)), "twice", 8
     yield "14 forks in a run of tries of a run", (
         *start, run(forks(14), again(9, tries((run(size(1)),), None)))), "twice", 8
-    yield "twelve keys at eight in 8,192 states", (*start, run(forks(13), again(9, ALL, sets(*((key, ("bytes", 7, 16)) for key in (1, 2, 24)), (5, 1), (14, 7), (22, 0))))), "twice", 8
+    six = sets(*((key, ("bytes", 7, 16)) for key in (1, 2, 24)), (5, 1), (14, 7), (22, 0))
+    yield "six keys at eight in 8,192 states", (*start, run(forks(13), again(9, ALL, six))), "twice", 8
     yield "forks that override all eight, each of another key", (*start, run(*(
         tries((ALL, sets(one), pick(0), size(60 + number), MATCH), None) for number, one in enumerate(
             (SLOT, (12, True), (18, ("bytes", 1, 1)), (21, ("bytes", 97, 1)), (22, 2), (23, ("bytes", 1, 1)), (24, ("bytes", 9, 16)),
              (2, ("bytes", 9, 16)), (1, ("bytes", 9, 16)), (5, 2), (18, ("bytes", 2, 2)), (21, ("bytes", 98, 2))))), again(9, WRITE))), "twice", 8
 
 
-def nested_around(node, depth):
-    return node if depth == 0 else run(nested_around(node, depth - 1))
+def enclosed(node, depth):
+    return node if depth == 0 else run(enclosed(node, depth - 1))
 
 
 def against_words():
-    for thought in (short_lists, found_among_all, several_in_turn, in_the_pause, short_pairs, read_and_run, learnt, lists_at_eight, equal_states, contents,
-                    far_apart, others):
+    for thought in (short_lists, found_among_all, several_in_turn, in_the_pause, short_pairs, looked_through, read_and_run, learnt,
+                    lists_at_eight, equal_states, contents, far_apart, others):
         yield from thought()
