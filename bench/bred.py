@@ -143,8 +143,8 @@ def value_of(key, value, shift):
     if kind == "digest":
         return byte_string((b"\x82\x2f" if length == 32 else b"\x82\x38\x2b") + byte_string(held))
     if kind == "alike":
-        # Digests of 64 bytes whose first 56 are the same.
-        return byte_string(b"\x82\x38\x2b" + byte_string(b"\x11" * 56 + byte.to_bytes(8, "big")))
+        # Digests of which all but the last eight bytes are the same.
+        return byte_string((b"\x82\x2f" if length == 32 else b"\x82\x38\x2b") + byte_string(b"\x11" * (length - 8) + byte.to_bytes(8, "big")))
     if key == 21:
         return head(3, length) + bytes(97 + one % 26 for one in held)
     return byte_string(held)

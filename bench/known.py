@@ -5,6 +5,7 @@ from against import against
 from against_alone import against_alone
 from against_lists import against_lists
 from against_tables import against_tables
+from against_words import against_words
 from bred import ALL, EACH, IMAGE, INVOKE, MATCH, SWAP, WRITE, Plan, again, nested, pick, run, sets, size, tries
 
 ALL_KEYS = tuple((key, ("bytes", 0, 16)) for key in (1, 2, 24)) + (
@@ -203,7 +204,7 @@ def long_ones():
 def known():
     """All plans, by name."""
     all = {}
-    for kind in (outside, in_states, compared, in_loops, long_ones, against, against_alone, against_lists, against_tables):
+    for kind in (outside, in_states, compared, in_loops, long_ones, against, against_alone, against_lists, against_tables, against_words):
         for name, nodes, place, count in kind():
             nodes = nodes if isinstance(nodes[0], tuple) else (nodes,)
             all[name] = Plan(nodes, place, count)
