@@ -208,6 +208,15 @@ impl<'a> Line<'a> {
         }
     }
 
+    /// No events, with room for a few.
+    pub(crate) fn for_few(alloc: Global) -> Result<Line<'a>, AllocError>
+        ensures { IfOk result (λ line. line_told line ≡ []) }
+    {
+        let mut line = Line::new(alloc);
+        line.words.reserve(LONG)?;
+        Ok(line)
+    }
+
     /// The line, borrowed.
     pub(crate) fn lent(&self) -> LentLine<'_, 'a>
         ensures { lent_told result ≡ line_told self.now }

@@ -18,14 +18,14 @@ pub(crate) struct Lines<'a> {
 }
 
 impl<'a> Lines<'a> {
-    /// No events. Does not allocate.
-    pub(crate) fn new(alloc: Global) -> Lines<'a>
-        ensures { lines_told result ≡ [] }
+    /// No events.
+    pub(crate) fn new(alloc: Global) -> Result<Lines<'a>, AllocError>
+        ensures { IfOk result (λ lines. lines_told lines ≡ []) }
     {
-        Lines {
+        Ok(Lines {
             full: Vec::new(alloc),
-            last: Line::new(alloc),
-        }
+            last: Line::for_few(alloc)?,
+        })
     }
 
     /// Whether the last line is full.

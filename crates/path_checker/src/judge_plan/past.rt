@@ -60,7 +60,7 @@ impl<'a> Past<'a> {
         match &mut self.since {
             Since::Shared => self.shared.add(memory.last.events, told),
             Since::Apart => {
-                let mut lines = Lines::new(memory.alloc);
+                let mut lines = Lines::new(memory.alloc)?;
                 lines.add(told)?;
                 self.since = Since::Lines(Box::new(memory.alloc, lines)?);
                 Ok(())
