@@ -60,7 +60,7 @@ inside_there layout ids p are k lt = (are.each k [] (omega (arith, lt, are.count
 
 -- ---- the update found the outside as it was
 
-module _ (name : List ℕ) (uris : List (List ℕ × List ℕ)) (l n : Launching) (b a : Outside) (end : UpdateEnd) (lines : List ℕ) (u : Updates name uris l n b a end lines) (told : AreTold l b) where
+module _ (name : List ℕ) (uris : List (List ℕ × List ℕ)) (l n : Launching) (b a : Outside) (end : UpdateEnd) (lines : List ℕ) (u : Updates name uris (seen b l) (seen a n) end lines) (told : AreTold l b) where
   still_told : u.configured.told ≡ b.told
   still_told = ap (λ (o : Outside). o.told) u.held.0.beside
 
@@ -108,7 +108,7 @@ module _ (configs : OneAnswer) (envelopes : EnvelopeLaws) (manifests : ManifestL
     abbrev O : Offers ready.name b
     O = ready.offers
 
-    module _ (end : UpdateEnd) (lines : List ℕ) (u : Updates ready.name (pairs_of ready.uris) l n b a end lines) where
+    module _ (end : UpdateEnd) (lines : List ℕ) (u : Updates ready.name (pairs_of ready.uris) (seen b l) (seen a n) end lines) where
       config : (u.o.layout ≡ O.layout) × (u.o.key ≡ O.key) × (u.o.frame ≡ O.frame)
       config = configured_once u.o.layout O.layout u.o.key O.key u.o.frame O.frame (configs b.flash.size b.flash.reads (Configured u.o.layout u.o.key u.o.frame) (Configured O.layout O.key O.frame)
           (u.held.1 ready.told.flash) (O.configured ready.told.flash))
@@ -198,13 +198,13 @@ module _ (configs : OneAnswer) (envelopes : EnvelopeLaws) (manifests : ManifestL
     update_completes _ faultless (ByBoot end lines word boots) = let never : Some RunBoot ≡ Some (RunUpdate ready.name ready.uris) = sym word ∙ ready.asks in absurd cc
     update_completes _ faultless (ByUpdate name uris end lines word updates) =
         let task = task_once name ready.name uris ready.uris (sym word ∙ ready.asks) in
-        of_update end lines (subst (λ (z : List Named). Updates ready.name (pairs_of z) l n b a end lines) task.1
-        (subst (λ (z : List ℕ). Updates z (pairs_of uris) l n b a end lines) task.0 updates)) faultless
+        of_update end lines (subst (λ (z : List Named). Updates ready.name (pairs_of z) (seen b l) (seen a n) end lines) task.1
+        (subst (λ (z : List ℕ). Updates z (pairs_of uris) (seen b l) (seen a n) end lines) task.0 updates)) faultless
 
   -- ---- and only there
 
   module _ (records : SomeAnswer) (words : List (List ℕ)) (l n : Launching) (b a : Outside) (told : AreTold l b) where
-    module _ (name : List ℕ) (uris : List Named) (r : Record) (lines : List ℕ) (u : Updates name (pairs_of uris) l n b a (ends.Installed r) lines) (word : task_of words ≡ Some (RunUpdate name uris)) where
+    module _ (name : List ℕ) (uris : List Named) (r : Record) (lines : List ℕ) (u : Updates name (pairs_of uris) (seen b l) (seen a n) (ends.Installed r) lines) (word : task_of words ≡ Some (RunUpdate name uris)) where
       abbrev V : Accepted
       V = u.o.accepted
 
@@ -278,7 +278,7 @@ module _ (configs : OneAnswer) (envelopes : EnvelopeLaws) (manifests : ManifestL
         files = files_left name (pairs_of uris) l n b a (ends.Installed r) lines u told;
       }
 
-    of_end : (name : List ℕ) (uris : List Named) (end : UpdateEnd) (lines : List ℕ) → Updates name (pairs_of uris) l n b a end lines → task_of words ≡ Some (RunUpdate name uris) → update_status end ≡ 0
+    of_end : (name : List ℕ) (uris : List Named) (end : UpdateEnd) (lines : List ℕ) → Updates name (pairs_of uris) (seen b l) (seen a n) end lines → task_of words ≡ Some (RunUpdate name uris) → update_status end ≡ 0
         → (ready : ReadyToUpdate words l b) × Installs words l b ready n a (Updated end lines)
     of_end name uris (ends.Installed r) lines u word zero = (was_ready name uris r lines u word, was_installed name uris r lines u word)
     of_end name uris (ends.Lower recorded_number offered) lines u word zero = absurd (omega (arith, zero))

@@ -62,7 +62,7 @@ EndsWhole Ready IsDone =
     (words : List (List ℕ)) (launched now : Launching) (before after : Outside)
     (sunk_before sunk_after : Sunk) (result : ℕ) (ready : Ready words launched before)
     → IsFaultless launched now before after
-    → Performs words launched now before after sunk_before sunk_after result
+    → Performs words (seen before launched) (seen after now) sunk_before sunk_after result
     → EndsWell (IsDone words launched before ready now after)
     (LeavesFlash launched now before after) sunk_before sunk_after result
 
@@ -98,7 +98,7 @@ SaysSo Asks Ready IsDone =
     (words : List (List ℕ)) (launched now : Launching) (before after : Outside)
     (sunk_before sunk_after : Sunk)
     → Asks words before → AreTold launched before
-    → Performs words launched now before after sunk_before sunk_after 0
+    → Performs words (seen before launched) (seen after now) sunk_before sunk_after 0
     → (ready : Ready words launched before)
     × PutsDone (IsDone words launched before ready now after) sunk_before sunk_after
 

@@ -142,7 +142,7 @@ named : (plan : PlanTree) (uris : List (List ℕ × List ℕ)) (names : List (Li
 named plan uris [] all = tt
 named plan uris (name ∷ names) all = ((all.0.0, all.0.2), named plan uris names all.1)
 
-pub update_asks : (name : List ℕ) (uris : List (List ℕ × List ℕ)) (l m : Launching) (b a : Outside) (end : UpdateEnd) (lines : List ℕ) → Updates name uris l m b a end lines → IsTrue b.told → AsksForUpdate name uris b a
+pub update_asks : (name : List ℕ) (uris : List (List ℕ × List ℕ)) (l m : Launching) (b a : Outside) (end : UpdateEnd) (lines : List ℕ) → Updates name uris (seen b l) (seen a m) end lines → IsTrue b.told → AsksForUpdate name uris b a
 update_asks name uris l m b a end lines u told =
     let before = unasked_beside b u.configured u.held.0.beside in
     let configured_told : IsTrue u.configured.told = subst IsTrue (sym before.told) told in

@@ -9,6 +9,7 @@ ghost use Rattle.rollback_record.specs.SoundFlash.{Follows, Settled, Sound};
 ghost use Rattle.std.specs.Prelude.{◌^◌, ◌≡◌, ◌<◌, ◌≤◌, ◌⊎◌, ℕ, IfSome, IsTrue, List, length, option_map};
 ghost use Rattle.step_machine.specs.Fetching.{AsksAmong, asked_at};
 ghost use Rattle.step_machine.specs.PlanRuns.{counts_of};
+ghost use Rattle.step_machine.specs.Devices.{device_at};
 ghost use Rattle.step_machine.specs.UrisSet.{HasFetch};
 ghost use Rattle.step_machine.specs.Worlds.{AreDistinct, HaveAtMost};
 ghost use Rattle.suit_commands.specs.Allowed.{IsPlan};
@@ -26,6 +27,7 @@ ghost use Rattle.suit_envelope.specs.Payloads.{HasPayloads};
 ghost use Rattle.update_proc.specs.Choices.{AreChosen, active_slots};
 ghost use Rattle.update_proc.specs.Ends.{IfUnfaulted, IsRefusal, IsUnbegun, UpdateCounts};
 ghost use Rattle.update_proc.specs.Installing.{HasLayout, MayBeInstalled};
+ghost use Rattle.update_proc.specs.Moments.{placed_on};
 ghost use Rattle.update_proc.specs.Records.{new_record};
 ghost use Rattle.update_proc.specs.Updates.{KeepsUpdate, KeptSo, LeavesUpdate, PlayedSo, PlaysToEnd, PlaysUpdate, hosted, sources};
 
@@ -113,29 +115,32 @@ pub(crate) fn start<H: Host, D: Disk, L: Launcher>(
         → let held = option_map (λ r. r.now) accepted.now.held in
         (payloads : List (List ℕ × List ℕ))
         → HasPayloads accepted.now.envelope.now.whole.now payloads
-        → PlayedSo (λ made end. PlaysUpdate layout.now places.now
-        (plan_tree accepted.now.plan.now) held
+        → PlayedSo (λ made end. PlaysUpdate
+        (placed_on accepted.now.frame layout.now places.now (plan_tree accepted.now.plan.now)) held
         (sources payloads accepted.now.uris.now
         (hosted H.told (H.file host.old) (H.asked host.old) (H.asked host.new)))
-        (D.flash disk.old).reads made (L.launches launcher.old) (L.launches launcher.new) end)
+        (device_at (D.flash disk.old).reads (L.launches launcher.old))
+        (device_at made (L.launches launcher.new)) end)
         ((D.flash disk.new).reads ≡ (D.flash disk.old).reads) layout.now
         (D.flash disk.new).reads (L.launches launcher.old) (L.launches launcher.new) result }
     ensures keeps { IsTrue D.told → Settled (D.flash disk.old)
         → let held = option_map (λ r. r.now) accepted.now.held in
         let start = D.flash disk.old in
         let frame = accepted.now.frame in
-        KeptSo (KeepsUpdate frame layout.now places.now (plan_tree accepted.now.plan.now)
+        KeptSo (KeepsUpdate
+        (placed_on frame layout.now places.now (plan_tree accepted.now.plan.now))
         (λ made. IsTrue H.told → IsTrue L.told
-        → PlaysToEnd layout.now places.now (plan_tree accepted.now.plan.now) held
-        accepted.now.envelope.now.whole.now accepted.now.uris.now (H.file host.old) start.reads
-        (L.launches launcher.old) (L.launches launcher.new) made) held
+        → PlaysToEnd (placed_on frame layout.now places.now (plan_tree accepted.now.plan.now)) held
+        accepted.now.envelope.now.whole.now accepted.now.uris.now (H.file host.old)
+        (device_at start.reads (L.launches launcher.old)) (device_at made (L.launches launcher.new))) held
         (λ numbers. new_record frame held start.reads accepted.now.bytes.now accepted.now.sequence
         accepted.now.digest numbers)
         start (D.flash disk.new) result) (IsSame start (D.flash disk.new)) result }
     ensures left { IsTrue D.told → let held = option_map (λ r. r.now) accepted.now.held in
         let start = (D.flash disk.old).reads in
         let frame = accepted.now.frame in
-        KeptSo (LeavesUpdate frame layout.now places.now (plan_tree accepted.now.plan.now) held
+        KeptSo (LeavesUpdate
+        (placed_on frame layout.now places.now (plan_tree accepted.now.plan.now)) held
         (λ numbers. new_record frame held start accepted.now.bytes.now accepted.now.sequence
         accepted.now.digest numbers)
         start (D.flash disk.new).reads result) ((D.flash disk.new).reads ≡ start) result }
