@@ -31,6 +31,7 @@ use Rattle.suit_cli.specs.Launching.{Launching}
 use Rattle.suit_cli.specs.Outside.{Flashed, Files, Outside}
 use Rattle.suit_cli.specs.Program.{ComesTo, answers}
 use Rattle.suit_cli.specs.Stages.{Ending, FaultOf, NoMemory, Says}
+use Rattle.suit_cli.specs.Surroundings.{seen}
 use Rattle.suit_cli.specs.UpdateLaws.{UpdateLaws}
 use Rattle.suit_cli.specs.Updating.{IsUpdate, Updates, update_line, update_status, offer}
 use Rattle.suit_cli.specs.Words.{Named, RunBoot, RunUpdate, pairs_of, task_of}

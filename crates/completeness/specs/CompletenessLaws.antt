@@ -9,6 +9,7 @@ use Rattle.suit_cli.specs.Coming.{Ended, ended_status}
 use Rattle.suit_cli.specs.Launching.{Launching}
 use Rattle.suit_cli.specs.Outside.{Outside, Sunk}
 use Rattle.suit_cli.specs.Program.{ComesTo, Performs}
+use Rattle.suit_cli.specs.Surroundings.{seen}
 use Rattle.suit_cli.specs.Words.{Named, RunBoot, RunMigrate, RunUpdate, task_of}
 use Rattle.completeness.specs.Outcomes.{AreTold, EndsWell, IsFaultless, LeavesFlash, PutsDone}
 use Rattle.completeness.specs.Updates.{Installs, Meets, Offers, ReadyToUpdate, Sets}

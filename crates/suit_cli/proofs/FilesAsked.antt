@@ -14,6 +14,7 @@ use Rattle.flash_layout.specs.Layouts.{IsOfMemory, IsTypedEntry, slot_starts, st
 use Rattle.step_machine.specs.Fetching.{IsFileOf}
 use Rattle.step_machine.specs.Worlds.{HaveAtMost}
 use Rattle.update_proc.specs.declared.update_end.UpdateEnd.{UpdateEnd}
+use Rattle.suit_cli.specs.Surroundings.{seen}
 use Rattle.suit_cli.specs.declared.reply.Object.{Object}
 use Rattle.suit_cli.specs.declared.reply.Object.TheVariants as objects
 use Rattle.suit_cli.specs.declared.reply.Reply.{Reply}

@@ -18,6 +18,7 @@ use Rattle.suit_cli.specs.Launching.{Launching}
 use Rattle.suit_cli.specs.LaunchedLaws.{TellsImage}
 use Rattle.suit_cli.specs.LaunchedUpdateLaws.{LaunchedUpdateLaws, LaunchesAccepted}
 use Rattle.suit_cli.specs.Outside.{Flashed, Outside, with_flash}
+use Rattle.suit_cli.specs.Surroundings.{seen}
 use Rattle.suit_cli.specs.Updating.{Updates, tree_of, placed_of}
 use Rattle.suit_cli.proofs.AcceptedFacts.{facts}
 
@@ -72,7 +73,7 @@ module _ (records : SomeAnswer) where
         (some_play (Plays some.0 payloads.0 u.middle.flash.reads) _ u.o.layout after.flash.reads launched.launches now.launches end played)
 
   pub laws : LaunchedUpdateLaws
-  laws image name uris launched now before after end lines holds u =
+  laws image name uris before after end lines holds u =
       ⊎_elim (λ same. inl same)
-      (λ some. inr (u.o.layout, u.o.key, u.o.bytes, (there image name uris launched now before after end lines holds u).holds, some))
-      (launches image name uris launched now before after end lines holds u)
+      (λ some. inr (u.o.layout, u.o.key, u.o.bytes, (there image name uris before.launcher after.launcher before.outside after.outside end lines holds u).holds, some))
+      (launches image name uris before.launcher after.launcher before.outside after.outside end lines holds u)

@@ -13,6 +13,7 @@ use Rattle.invoke_proc.specs.declared.boot_end.BootEnd.{BootEnd}
 use Rattle.invoke_proc.specs.declared.boot_end.BootEnd.TheVariants as ends
 use Rattle.invoke_proc.specs.Booting.{GainsSafe}
 use Rattle.invoke_proc.specs.Counting.{BootCounts}
+use Rattle.suit_cli.specs.Surroundings.{seen}
 use Rattle.suit_cli.specs.Words.{Named, Task, Check, RunUpdate, RunBoot, pairs_of, task_of}
 use Rattle.suit_cli.specs.Outside.{Outside, Leaves, Sunk}
 use Rattle.suit_cli.specs.Judgement.{AreSafe}

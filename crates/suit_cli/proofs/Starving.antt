@@ -17,6 +17,7 @@ use Rattle.invoke_proc.specs.declared.boot_end.BootEnd.TheVariants as boot_ends
 use Rattle.invoke_proc.proofs.Booted.{payloads_in}
 use Rattle.update_proc.specs.declared.update_end.UpdateEnd.{UpdateEnd}
 use Rattle.update_proc.specs.declared.update_end.UpdateEnd.TheVariants as update_ends
+use Rattle.suit_cli.specs.Surroundings.{seen}
 use Rattle.suit_cli.specs.declared.reply.Object.TheVariants as objects
 use Rattle.suit_cli.specs.declared.reply.Reply.{Reply}
 use Rattle.suit_cli.specs.Words.{Task, Make, Describe, Show, Check, RunInit, RunUpdate, RunBoot, RunStatus, RunMigrate, Drill}

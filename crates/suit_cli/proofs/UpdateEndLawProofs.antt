@@ -31,6 +31,7 @@ use Rattle.suit_cli.specs.Envelopes.{ManifestOf}
 use Rattle.suit_cli.specs.Launching.{Launching}
 use Rattle.suit_cli.specs.Inputs.{IsRead, longest_file}
 use Rattle.suit_cli.specs.Outside.{Flashed, Outside, with_flash}
+use Rattle.suit_cli.specs.Surroundings.{seen}
 use Rattle.suit_cli.specs.Updating.{Updates, Offer, offer, tree_of, placed_of}
 use Rattle.suit_cli.specs.UpdateEndLaws.{Beside, UpdateEnds, IsLower, IsOther, IsWorn, IsInstalled, IsStopped, IsFailed, FlashFailed, MemoryRanOut, UpdateEndLaws, UpdateIsCaused, UpdateIsJudged, IsOffered, IsEndOf, IsNoEnd}
 use Rattle.suit_cli.proofs.AcceptedFacts.{facts}
@@ -222,9 +223,9 @@ module _ (configs : OneAnswer) (envelopes : EnvelopeLaws) (manifests : ManifestL
 
 pub update_end_laws : OneAnswer → EnvelopeLaws → ManifestLaws → UpdateEndLaws
 update_end_laws configs envelopes manifests = record {
-  only = λ name uris launched now before after end lines told flash launcher u. only name uris launched now before after end lines flash u told launcher;
-  judged = λ name uris launched now before after end lines flash u. judged name uris launched now before after end lines flash u;
-  always = λ name uris launched now before after end lines verdict told flash launcher f u.
-      let caused = only name uris launched now before after end lines flash u told launcher in
-      by_end configs envelopes manifests name uris launched now before after verdict told flash f end lines caused end caused.ends;
+  only = λ name uris before after end lines told flash launcher u. only name uris before.launcher after.launcher before.outside after.outside end lines flash u told launcher;
+  judged = λ name uris before after end lines flash u. judged name uris before.launcher after.launcher before.outside after.outside end lines flash u;
+  always = λ name uris before after end lines verdict told flash launcher f u.
+      let caused = only name uris before.launcher after.launcher before.outside after.outside end lines flash u told launcher in
+      by_end configs envelopes manifests name uris before.launcher after.launcher before.outside after.outside verdict told flash f end lines caused end caused.ends;
 }

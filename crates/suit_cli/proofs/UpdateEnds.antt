@@ -11,6 +11,7 @@ use Rattle.update_proc.specs.declared.update_end.UpdateEnd.TheVariants as ends
 use Rattle.update_proc.specs.Ends.{UpdateCounts}
 use Rattle.suit_cli.specs.Outside.{Outside, Flashed}
 use Rattle.suit_cli.specs.Launching.{Launching, cause_status}
+use Rattle.suit_cli.specs.Surroundings.{seen}
 use Rattle.suit_cli.specs.Updating.{Updates, update_status}
 
 -- ---- the counts, by a status

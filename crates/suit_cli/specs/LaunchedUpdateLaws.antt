@@ -19,6 +19,7 @@ use Rattle.suit_cli.specs.Acceptance.{Accepted, IsAccepted}
 use Rattle.suit_cli.specs.Launching.{Launching}
 use Rattle.suit_cli.specs.LaunchedLaws.{TellsImage}
 use Rattle.suit_cli.specs.Outside.{Outside}
+use Rattle.suit_cli.specs.Surroundings.{Seen}
 use Rattle.suit_cli.specs.Updating.{Updates, tree_of}
 
 -- These bytes were accepted under the configuration of the image: they are an envelope that is authentic under its key, and

@@ -26,6 +26,7 @@ use Rattle.suit_cli.specs.Inputs.{longest_file, IsRead}
 use Rattle.suit_cli.specs.Installed.{Holds}
 use Rattle.suit_cli.specs.Launching.{Launching}
 use Rattle.suit_cli.specs.Outside.{Outside}
+use Rattle.suit_cli.specs.Surroundings.{Seen}
 use Rattle.suit_cli.specs.Updating.{Updates, Offer, offer, placed_of, update_line}
 
 -- the number of what is offered and the digest of its manifest, beside the record that the flash has

@@ -153,13 +153,6 @@ pub fn update<H: Host, D: Disk, L: Launcher>(
         envelope,
         uris: update.uris,
     };
-    start(
-        alloc,
-        host,
-        disk,
-        launcher,
-        layout,
-        update.places,
-        &accepted,
-    )
+    let places = update.places;
+    start(alloc, host, disk, launcher, layout, places, &accepted)
 }
