@@ -50,7 +50,8 @@ pub record IsPlayed {flash : List ℕ} (config : HasConfig flash) (end : BootEnd
   pub after : List ℕ
   pub plays :
       PlayedSo
-      (PlaysBoot config.frame config.layout config.key (λ _. None) (device_at flash []) (device_at after launches))
+      (PlaysBoot config.frame config.layout config.key (λ _. None) (device_at flash [])
+      (device_at after launches))
       (after ≡ flash) [] launches end
   pub never : NeverHost end
 

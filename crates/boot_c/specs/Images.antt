@@ -45,7 +45,8 @@ pub record Starts (flash : List ℕ) (image : SuitImage) : Type 0 where
   pub launched : IsLaunched flash image launch
   pub after : List ℕ
   pub plays :
-      PlaysBoot config.frame config.layout config.key (λ _. None) (device_at flash []) (device_at after (launch ∷ []))
+      PlaysBoot config.frame config.layout config.key (λ _. None) (device_at flash [])
+      (device_at after (launch ∷ []))
       plays.Done
   pub safe : Sound flash → HasItsDigest (launched_as launch)
 
@@ -54,4 +55,5 @@ pub record StartsNone (flash : List ℕ) : Type 0 where
   pub config : HasConfig flash
   pub after : List ℕ
   pub plays :
-      PlaysBoot config.frame config.layout config.key (λ _. None) (device_at flash []) (device_at after []) plays.Done
+      PlaysBoot config.frame config.layout config.key (λ _. None) (device_at flash [])
+      (device_at after []) plays.Done

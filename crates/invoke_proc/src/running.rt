@@ -85,7 +85,10 @@ pub(crate) fn start<H: Host, D: Disk, L: Launcher>(
     ensures unasked { host.new ≡ host.old }
     ensures plays { IsTrue D.told → IsTrue L.told
         → PlayedSo
-        (PlaysOn layout.now (manifest_of startable.entry.manifest) installed.now.active (H.file host.old) (device_at (D.flash disk.old).reads (L.launches launcher.old)) (device_at (D.flash disk.new).reads (L.launches launcher.new)))
+        (PlaysOn layout.now (manifest_of startable.entry.manifest) installed.now.active
+        (H.file host.old)
+        (device_at (D.flash disk.old).reads (L.launches launcher.old))
+        (device_at (D.flash disk.new).reads (L.launches launcher.new)))
         ((D.flash disk.new).reads ≡ (D.flash disk.old).reads)
         (L.launches launcher.old) (L.launches launcher.new) result }
     ensures keeps { IsTrue D.told → KeptSo

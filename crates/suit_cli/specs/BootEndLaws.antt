@@ -87,7 +87,9 @@ pub record Played (launched now : Launching) (before after : Outside) (ended : E
   pub config : Holds before.flash (layout, key, frame)
   pub end : PlanEnd
   pub plays :
-      PlaysBoot frame layout key before.files (device_at before.flash.reads launched.launches) (device_at after.flash.reads now.launches) end
+      PlaysBoot frame layout key before.files
+      (device_at before.flash.reads launched.launches) (device_at after.flash.reads now.launches)
+      end
   pub ends_so : ended ≡ Booted (end_of end) (boot_line (end_of end))
 
 -- the flash failed outside of the procedure, status 8, or memory ran out, 11

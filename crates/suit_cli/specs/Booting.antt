@@ -70,7 +70,9 @@ pub record IsBoot (config : List Entry × Key × Frame) (launched now : Launchin
       → booting.KeptSo (Unit {0}) (after.flash.reads ≡ before.flash.reads) end
   pub plays : IsTrue before.flash.told → IsTrue launched.told
       → PlayedSo
-      (PlaysBoot config.2 config.0 config.1 before.files (device_at before.flash.reads launched.launches) (device_at after.flash.reads now.launches))
+      (PlaysBoot config.2 config.0 config.1 before.files
+      (device_at before.flash.reads launched.launches)
+      (device_at after.flash.reads now.launches))
       (after.flash.reads ≡ before.flash.reads) launched.launches now.launches end
   pub safe : IsTrue before.flash.told → IsTrue launched.told
       → Sound before.flash.reads

@@ -28,7 +28,9 @@ pub record LaunchesRecorded (layout : List Entry) (key : Key) (files : List ℕ 
   pub is :
       IsInstalled layout key (recorded_bank frame (head_of frame image) installed) installed
   pub end : PlanEnd
-  pub plays : PlaysOn layout is.said installed.active files (device_at image launched) (device_at after now) end
+  pub plays :
+      PlaysOn layout is.said installed.active files (device_at image launched)
+      (device_at after now) end
   pub gains : GainsSafe launched now
 
 -- flash and launcher tell what they hold, and the flash reads the image

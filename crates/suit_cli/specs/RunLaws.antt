@@ -11,7 +11,8 @@ use Rattle.suit_cli.specs.Program.{Performs, IsStatus, EndsIn, IsCheck, ChecksPr
 pub record HoldsOfRun (words : List (List ℕ)) (before after : Seen) (sunk_before sunk_after : Sunk)
     (result : ℕ) : Type 0 where
   -- `check` says yes only where both procedures are safe,
-  pub yes : IsTrue before.outside.told → IsCheck words → result ≡ 0 → ChecksSafe words before.outside
+  pub yes : IsTrue before.outside.told → IsCheck words → result ≡ 0
+      → ChecksSafe words before.outside
   -- and wherever they are, unless the host or the sink failed or memory ran out first
   pub safe_is_yes : (update invocation : PlanTree)
       → ChecksProcedures words before.outside update invocation

@@ -38,7 +38,8 @@ pub record MomentLaws (frame : Frame) (size : ℕ) (layout : List Entry) : Type 
       (places : Places) (tree : PlanTree) (numbers : List ℕ) (held : Option Record)
       (first image : List ℕ)
       → HaveTwoSlots layout places tree → AreChosen layout places tree (active_slots held) numbers
-      → IsOld (placed_on frame layout places tree) numbers held first image → HasInUse layout (active_slots held) first image
+      → IsOld (placed_on frame layout places tree) numbers held first image
+      → HasInUse layout (active_slots held) first image
   -- with the new record the slots in use have the contents that were made
   pub new : (r : Record) (made image : List ℕ) → IsNew frame layout r made image
       → HasInUse layout r.active made image
@@ -46,8 +47,10 @@ pub record MomentLaws (frame : Frame) (size : ℕ) (layout : List Entry) : Type 
   pub played :
       (places : Places) (tree : PlanTree) (held : Option Record)
       (from : Sources)
-      (before now : DeviceAt) (image : List ℕ) (r : Record) → AreChosen layout places tree (active_slots held) r.active
-      → (play : PlaysUpdate (placed_on frame layout places tree) held from before now plays.Done) → IsNew frame layout r now.reads image
+      (before now : DeviceAt) (image : List ℕ) (r : Record)
+      → AreChosen layout places tree (active_slots held) r.active
+      → (play : PlaysUpdate (placed_on frame layout places tree) held from before now plays.Done)
+      → IsNew frame layout r now.reads image
       → HasPlayed layout places r.active
       (played tree (setting_of play.standings from.payloads from.words play.given) (contents_of play.standings (empty_ram layout) before.reads)).world.contents image
 

@@ -103,7 +103,8 @@ pub fn update<H: Host, D: Disk, L: Launcher>(
         (λ made. IsTrue H.told → IsTrue L.told
         → PlaysToEnd (placed_by frame layout.now update.now) held
         update.now.envelope.now.whole.now update.now.uris.now (H.file host.old)
-        (device_at start.reads (L.launches launcher.old)) (device_at made (L.launches launcher.new)))
+        (device_at start.reads (L.launches launcher.old))
+        (device_at made (L.launches launcher.new)))
         held (new_by frame held start.reads update.now digest)
         start (D.flash disk.new) result) (IsSame start (D.flash disk.new)) result) }
     ensures left { IsTrue D.told → let start = (D.flash disk.old).reads in

@@ -132,7 +132,8 @@ pub(crate) fn start<H: Host, D: Disk, L: Launcher>(
         (λ made. IsTrue H.told → IsTrue L.told
         → PlaysToEnd (placed_on frame layout.now places.now (plan_tree accepted.now.plan.now)) held
         accepted.now.envelope.now.whole.now accepted.now.uris.now (H.file host.old)
-        (device_at start.reads (L.launches launcher.old)) (device_at made (L.launches launcher.new))) held
+        (device_at start.reads (L.launches launcher.old))
+        (device_at made (L.launches launcher.new))) held
         (λ numbers. new_record frame held start.reads accepted.now.bytes.now accepted.now.sequence
         accepted.now.digest numbers)
         start (D.flash disk.new) result) (IsSame start (D.flash disk.new)) result }
