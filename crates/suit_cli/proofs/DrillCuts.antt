@@ -13,7 +13,7 @@ use Rattle.suit_cli.specs.Coming.{Answered, Booted, Ended, StaysOrKeeps, Updated
 use Rattle.suit_cli.specs.DrillLaws.{HasOldOrNew, IsLeftByUpdate}
 use Rattle.suit_cli.specs.DrillRounds.{envelope_name}
 use Rattle.suit_cli.specs.Surroundings.{Surroundings}
-use Rattle.suit_cli.specs.Updating.{IsDone, KeepsFlash, Offer, new_of, tree_of, placed_of}
+use Rattle.suit_cli.specs.Updating.{IsDone, KeepsFlash, Offer, new_of, placed_of}
 
 module _ (uris : List (List ℕ × List ℕ)) (before after : Surroundings) (extent : ℕ) (law : IsFlash after.flash extent) (settled : Settled before.flash) (image : List ℕ) (now : Now after.flash image) where
   abbrev old : Flash

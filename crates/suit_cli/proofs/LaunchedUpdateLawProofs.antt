@@ -19,7 +19,7 @@ use Rattle.suit_cli.specs.LaunchedLaws.{TellsImage}
 use Rattle.suit_cli.specs.LaunchedUpdateLaws.{LaunchedUpdateLaws, LaunchesAccepted}
 use Rattle.suit_cli.specs.Outside.{Flashed, Outside, with_flash}
 use Rattle.suit_cli.specs.Surroundings.{seen}
-use Rattle.suit_cli.specs.Updating.{Updates, tree_of, placed_of}
+use Rattle.suit_cli.specs.Updating.{Updates, placed_of}
 use Rattle.suit_cli.proofs.AcceptedFacts.{facts}
 
 module _ (records : SomeAnswer) where

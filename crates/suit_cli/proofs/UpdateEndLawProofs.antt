@@ -32,7 +32,7 @@ use Rattle.suit_cli.specs.Launching.{Launching}
 use Rattle.suit_cli.specs.Inputs.{IsRead, longest_file}
 use Rattle.suit_cli.specs.Outside.{Flashed, Outside, with_flash}
 use Rattle.suit_cli.specs.Surroundings.{seen}
-use Rattle.suit_cli.specs.Updating.{Updates, Offer, offer, tree_of, placed_of}
+use Rattle.suit_cli.specs.Updating.{Updates, Offer, offer, placed_of}
 use Rattle.suit_cli.specs.UpdateEndLaws.{Beside, UpdateEnds, IsLower, IsOther, IsWorn, IsInstalled, IsStopped, IsFailed, FlashFailed, MemoryRanOut, UpdateEndLaws, UpdateIsCaused, UpdateIsJudged, IsOffered, IsEndOf, IsNoEnd}
 use Rattle.suit_cli.proofs.AcceptedFacts.{facts}
 use Rattle.suit_cli.proofs.OneStage.{one_envelope, one_manifest, one_read}

@@ -16,9 +16,7 @@ use Rattle.update_proc.specs.Moments.{placed_on}
 use Rattle.update_proc.specs.declared.update_end.UpdateEnd.{UpdateEnd}
 use Rattle.update_proc.specs.Updates.{Hosted, PlaysUpdate, sources}
 use Rattle.suit_cli.specs.Acceptance.{Accepted, IsAccepted}
-use Rattle.suit_cli.specs.Launching.{Launching}
 use Rattle.suit_cli.specs.LaunchedLaws.{TellsImage}
-use Rattle.suit_cli.specs.Outside.{Outside}
 use Rattle.suit_cli.specs.Surroundings.{Seen}
 use Rattle.suit_cli.specs.Updating.{Updates, tree_of}
 

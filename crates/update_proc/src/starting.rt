@@ -91,7 +91,8 @@ pub(crate) fn start<H: Host, D: Disk, L: Launcher>(
     requires spare { IsTrue D.told
         → HasSpare accepted.now.frame (head_of accepted.now.frame (D.flash disk.old).reads)
         (held_by accepted.now) accepted.now.spare }
-    requires judged { IsAcceptable accepted.now.sequence accepted.now.digest (held_by accepted.now) }
+    requires judged { IsAcceptable accepted.now.sequence accepted.now.digest
+        (held_by accepted.now) }
     requires fits { length accepted.now.bytes.now ≤ bank_size accepted.now.frame }
     ensures size { D.extent disk.new ≡ D.extent disk.old }
     ensures later { IsTrue D.told → (D.flash disk.old).clock ≤ (D.flash disk.new).clock }
