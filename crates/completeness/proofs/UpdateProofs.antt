@@ -222,17 +222,17 @@ module _ (configs : OneAnswer) (envelopes : EnvelopeLaws) (manifests : ManifestL
       itself : AreSame V.places V.places
       itself = record { count = refl; each = λ k lt. refl }
 
-      seen : SeesSame b u.middle
-      seen = sees name (pairs_of uris) l n b a (ends.Installed r) lines u told
+      same : SeesSame b u.middle
+      same = sees name (pairs_of uris) l n b a (ends.Installed r) lines u told
 
       middle_told : IsTrue u.middle.told
-      middle_told = subst IsTrue (sym seen.told) told.host
+      middle_told = subst IsTrue (sym same.told) told.host
 
       middle_flash_told : IsTrue u.middle.flash.told
-      middle_flash_told = subst IsTrue (sym seen.flash_told) told.flash
+      middle_flash_told = subst IsTrue (sym same.flash_told) told.flash
 
       recorded_there : RecordOf u.o.frame (head_of u.o.frame u.middle.flash.reads) held
-      recorded_there = subst (λ (z : List ℕ). RecordOf u.o.frame (head_of u.o.frame z) held) (sym seen.reads) recorded
+      recorded_there = subst (λ (z : List ℕ). RecordOf u.o.frame (head_of u.o.frame z) held) (sym same.reads) recorded
 
       offers : Offers name b
       offers = record {
@@ -260,9 +260,9 @@ module _ (configs : OneAnswer) (envelopes : EnvelopeLaws) (manifests : ManifestL
           record { numbers = played.numbers; chosen = played.chosen; standings = played.standings; stand = played.stand; payloads = payloads.0; has = payloads.1 }
 
       installed_there : InstalledSo u.o.layout u.o.bytes V.said V.manifest V.members V.places V.places itself h.authentic.digest h.authentic.blocks h.authentic.says
-          (inside_there u.o.layout V.manifest.components V.places h.placed) held (pairs_of uris) l n b u.middle a seen told u.o.frame recorded sets (ends.Installed r)
+          (inside_there u.o.layout V.manifest.components V.places h.placed) held (pairs_of uris) l n b u.middle a same told u.o.frame recorded sets (ends.Installed r)
       installed_there = installed_so u.o.layout u.o.bytes V.said V.manifest V.members V.places V.places itself h.authentic.digest h.authentic.blocks h.authentic.says
-          (inside_there u.o.layout V.manifest.components V.places h.placed) held (pairs_of uris) l n b u.middle a seen told u.o.frame recorded sets u.o.key r u.update
+          (inside_there u.o.layout V.manifest.components V.places h.placed) held (pairs_of uris) l n b u.middle a same told u.o.frame recorded sets u.o.key r u.update
 
       was_ready : ReadyToUpdate words l b
       unfolding offers
