@@ -8,20 +8,21 @@ use Rattle.flash_layout.specs.declared.layout.Entry.{Entry}
 use Rattle.flash_view.specs.ViewDisk.{ViewState}
 use Rattle.invoke_proc.specs.Booting.{Answers, NeverHost, PlayedSo, PlaysBoot}
 use Rattle.invoke_proc.specs.declared.boot_end.BootEnd.{BootEnd}
+use Rattle.step_machine.specs.Devices.{device_at}
 use Rattle.suit_answers.specs.declared.answer.Answer.{Answer}
 use Rattle.suit_edge.specs.declared.launch.Launch.{Launch}
 
 module _ (flash : List ℕ) (layout : List Entry) (key : Key) (frame : Frame) (disk : ViewState) (is : disk ≡ record { bytes = flash; faults = 0 }) (held : ConfigOf (length flash) flash (Configured layout key frame)) where
   -- so it was played
   module _ (after : List ℕ) (before : List Launch) (none : before ≡ []) (launches : List Launch) (end : BootEnd) where
-    played : PlayedSo (PlaysBoot frame layout key (λ _. None) disk.bytes after before launches) (after ≡ disk.bytes) before launches end
-        → PlayedSo (PlaysBoot frame layout key (λ _. None) flash after [] launches) (after ≡ flash) [] launches end
+    played : PlayedSo (PlaysBoot frame layout key (λ _. None) (device_at disk.bytes before) (device_at after launches)) (after ≡ disk.bytes) before launches end
+        → PlayedSo (PlaysBoot frame layout key (λ _. None) (device_at flash []) (device_at after launches)) (after ≡ flash) [] launches end
     played p =
-        subst (λ (d : ViewState). PlayedSo (PlaysBoot frame layout key (λ _. None) d.bytes after [] launches) (after ≡ d.bytes) [] launches end) is
-        (subst (λ (l : List Launch). PlayedSo (PlaysBoot frame layout key (λ _. None) disk.bytes after l launches) (after ≡ disk.bytes) l launches end) none p)
+        subst (λ (d : ViewState). PlayedSo (PlaysBoot frame layout key (λ _. None) (device_at d.bytes []) (device_at after launches)) (after ≡ d.bytes) [] launches end) is
+        (subst (λ (l : List Launch). PlayedSo (PlaysBoot frame layout key (λ _. None) (device_at disk.bytes l) (device_at after launches)) (after ≡ disk.bytes) l launches end) none p)
 
     pub ended_so : Answers frame layout key disk.bytes end
-        → PlayedSo (PlaysBoot frame layout key (λ _. None) disk.bytes after before launches) (after ≡ disk.bytes) before launches end
+        → PlayedSo (PlaysBoot frame layout key (λ _. None) (device_at disk.bytes before) (device_at after launches)) (after ≡ disk.bytes) before launches end
         → NeverHost end → (answer : Answer) → (answer ≡ boot_answer end) ⊎ IsUntold answer end launches → IsAnswer flash answer
     ended_so ended p never answer told = inr (inr (inr (record {
       config = record { layout = layout; key = key; frame = frame; is = held };

@@ -9,6 +9,7 @@ use Rattle.invoke_proc.specs.declared.boot_end.BootEnd.{BootEnd}
 use Rattle.invoke_proc.specs.declared.boot_end.BootEnd.TheVariants as ends
 use Rattle.path_model.specs.declared.cause.Cause.{Cause}
 use Rattle.path_model.specs.declared.cause.Cause.TheVariants as causes
+use Rattle.step_machine.specs.Devices.{device_at}
 use Rattle.suit_answers.specs.declared.answer.Answer.{Answer}
 use Rattle.suit_answers.specs.declared.answer.Answer.TheVariants as answers
 use Rattle.suit_edge.specs.declared.launch.Launch.{Launch}
@@ -49,7 +50,8 @@ pub record IsPlayed {flash : List ℕ} (config : HasConfig flash) (end : BootEnd
   pub after : List ℕ
   pub plays :
       PlayedSo
-      (PlaysBoot config.frame config.layout config.key (λ _. None) flash after [] launches)
+      (PlaysBoot config.frame config.layout config.key (λ _. None) (device_at flash [])
+      (device_at after launches))
       (after ≡ flash) [] launches end
   pub never : NeverHost end
 

@@ -7,6 +7,7 @@ use Rattle.flash_view.specs.declared.noted_image.NotedImage.{NotedImage}
 use Rattle.invoke_proc.specs.Booting.{PlaysBoot}
 use Rattle.path_model.specs.PlayLaws.{HasItsDigest}
 use Rattle.rollback_record.specs.SoundFlash.{Sound}
+use Rattle.step_machine.specs.Devices.{device_at}
 use Rattle.step_machine.specs.Invoking.{launched_as}
 use Rattle.step_machine.specs.declared.plan_end.PlanEnd.TheVariants as plays
 use Rattle.suit_edge.specs.declared.launch.Launch.{Launch}
@@ -44,7 +45,8 @@ pub record Starts (flash : List ℕ) (image : SuitImage) : Type 0 where
   pub launched : IsLaunched flash image launch
   pub after : List ℕ
   pub plays :
-      PlaysBoot config.frame config.layout config.key (λ _. None) flash after [] (launch ∷ [])
+      PlaysBoot config.frame config.layout config.key (λ _. None) (device_at flash [])
+      (device_at after (launch ∷ []))
       plays.Done
   pub safe : Sound flash → HasItsDigest (launched_as launch)
 
@@ -53,4 +55,5 @@ pub record StartsNone (flash : List ℕ) : Type 0 where
   pub config : HasConfig flash
   pub after : List ℕ
   pub plays :
-      PlaysBoot config.frame config.layout config.key (λ _. None) flash after [] [] plays.Done
+      PlaysBoot config.frame config.layout config.key (λ _. None) (device_at flash [])
+      (device_at after []) plays.Done

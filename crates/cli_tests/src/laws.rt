@@ -9,6 +9,7 @@ ghost use Rattle.suit_cli.specs.Program.{
   IsUsage,
   KeepsLauncher,
 };
+ghost use Rattle.suit_cli.specs.Surroundings.{seen};
 ghost use Rattle.suit_cli.specs.Words.{RunBoot, task_of};
 ghost use Rattle.flash_layout.specs.declared.frame.TheConstants.{HEAD_SIZE};
 
@@ -38,13 +39,15 @@ pub(crate) fn run_by_laws<H: Host, D: Disk, L: Launcher, K: Sink>(
         → result.0 ≡ 7 → ⊥ }
     ensures starved { result.0 ≡ 11
         → AsFound
-        (⟦<L as SeenLauncher>⟧.seen launcher.old) (⟦<L as SeenLauncher>⟧.seen launcher.new)
-        (⟦<H as SeenHost>⟧.seen host.old (⟦<D as SeenDisk>⟧.seen flash.old))
-        (⟦<H as SeenHost>⟧.seen host.new (⟦<D as SeenDisk>⟧.seen flash.new)) }
+        (seen (⟦<H as SeenHost>⟧.seen host.old (⟦<D as SeenDisk>⟧.seen flash.old))
+        (⟦<L as SeenLauncher>⟧.seen launcher.old))
+        (seen (⟦<H as SeenHost>⟧.seen host.new (⟦<D as SeenDisk>⟧.seen flash.new))
+        (⟦<L as SeenLauncher>⟧.seen launcher.new)) }
     ensures cut_off { result.0 ≡ 9 → IsCutOff words.now
-        (⟦<L as SeenLauncher>⟧.seen launcher.old) (⟦<L as SeenLauncher>⟧.seen launcher.new)
-        (⟦<H as SeenHost>⟧.seen host.old (⟦<D as SeenDisk>⟧.seen flash.old))
-        (⟦<H as SeenHost>⟧.seen host.new (⟦<D as SeenDisk>⟧.seen flash.new))
+        (seen (⟦<H as SeenHost>⟧.seen host.old (⟦<D as SeenDisk>⟧.seen flash.old))
+        (⟦<L as SeenLauncher>⟧.seen launcher.old))
+        (seen (⟦<H as SeenHost>⟧.seen host.new (⟦<D as SeenDisk>⟧.seen flash.new))
+        (⟦<L as SeenLauncher>⟧.seen launcher.new))
         (⟦<K as SeenSink>⟧.seen sink.old) (⟦<K as SeenSink>⟧.seen sink.new) }
 {
     run_laws();

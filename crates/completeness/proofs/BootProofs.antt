@@ -22,7 +22,7 @@ use Rattle.rollback_record.specs.SoundFlash.{IsInstalled, Sound, key_bytes}
 use Rattle.step_machine.specs.declared.plan_end.PlanEnd.{PlanEnd}
 use Rattle.step_machine.specs.declared.plan_end.PlanEnd.TheVariants as plays
 use Rattle.step_machine.specs.declared.spot.Standing.{Standing}
-use Rattle.step_machine.specs.Devices.{contents_of}
+use Rattle.step_machine.specs.Devices.{contents_of, device_at}
 use Rattle.path_model.specs.Settings.{steady}
 use Rattle.step_machine.specs.PlanRuns.{CountsFor, PlaysPlan, counts_of, setting_of}
 use Rattle.invoke_proc.specs.declared.boot_end.BootEnd.{BootEnd}
@@ -124,14 +124,14 @@ module _ (configs : OneConfigAnswer) (records : OneAnswer) (laws : BootLaws) whe
       pub plays_so : PlaysPlan (invocation_tree R.is.said) (setting_of ready.on.standings [] [] (steady b.files)) play
           (contents_of ready.on.standings (empty_ram R.layout) b.flash.reads) (contents_of ready.on.standings ram a.flash.reads) l.launches n.launches
 
-    replayed : (play : PlanEnd) → PlaysBoot R.frame R.layout R.key b.files b.flash.reads a.flash.reads l.launches n.launches play → Replayed play
+    replayed : (play : PlanEnd) → PlaysBoot R.frame R.layout R.key b.files (device_at b.flash.reads l.launches) (device_at a.flash.reads n.launches) play → Replayed play
     replayed play p =
         let record_is = same_record p.installed p.starts.recorded in
         let start = laws.installed R.layout R.key Bank R.installed R.is in
         let started = subst (λ (z : Record). IsStarted R.layout (key_bytes R.key) (bank_in R.frame b.flash.reads z) p.starts.said p.manifest) record_is p.starts.started in
         let manifest = (laws.same R.layout (key_bytes R.key) Bank p.starts.said start.0 p.manifest R.is.said R.is.are_bytes started start.1).1 in
-        let on = subst (λ (z : Record). PlaysOn R.layout R.is.said z.active b.files b.flash.reads a.flash.reads l.launches n.launches play) record_is
-        (subst (λ (z : Manifest). PlaysOn R.layout z p.installed.active b.files b.flash.reads a.flash.reads l.launches n.launches play) manifest p.on) in
+        let on = subst (λ (z : Record). PlaysOn R.layout R.is.said z.active b.files (device_at b.flash.reads l.launches) (device_at a.flash.reads n.launches) play) record_is
+        (subst (λ (z : Manifest). PlaysOn R.layout z p.installed.active b.files (device_at b.flash.reads l.launches) (device_at a.flash.reads n.launches) play) manifest p.on) in
         let standings = one_active R.frame b.flash.size R.layout (R.configured ready.told.flash).page.allowed R.is.said.components R.installed.active ready.on.standings on.standings
         ready.on.stand on.stand in
         record {
@@ -150,10 +150,10 @@ module _ (configs : OneConfigAnswer) (records : OneAnswer) (laws : BootLaws) whe
       mid_flash_told : IsTrue mid.flash.told
       mid_flash_told = subst IsTrue (sym sees.flash_told) ready.told.flash
 
-      plays_there : (play : PlanEnd) → PlaysBoot R.frame R.layout R.key mid.files mid.flash.reads a.flash.reads l.launches n.launches play → Replayed play
+      plays_there : (play : PlanEnd) → PlaysBoot R.frame R.layout R.key mid.files (device_at mid.flash.reads l.launches) (device_at a.flash.reads n.launches) play → Replayed play
       plays_there play p = replayed play
-          (subst (λ (z : List ℕ → Option (List ℕ)). PlaysBoot R.frame R.layout R.key z b.flash.reads a.flash.reads l.launches n.launches play) sees.files
-          (subst (λ (z : List ℕ). PlaysBoot R.frame R.layout R.key mid.files z a.flash.reads l.launches n.launches play) sees.reads p))
+          (subst (λ (z : List ℕ → Option (List ℕ)). PlaysBoot R.frame R.layout R.key z (device_at b.flash.reads l.launches) (device_at a.flash.reads n.launches) play) sees.files
+          (subst (λ (z : List ℕ). PlaysBoot R.frame R.layout R.key mid.files (device_at z l.launches) (device_at a.flash.reads n.launches) play) sees.reads p))
 
       recorded_there : (r : Option Record) → RecordOf R.frame (head_of R.frame mid.flash.reads) r → RecordOf R.frame (head_of R.frame b.flash.reads) r
       recorded_there r recorded = subst (λ (z : List ℕ). RecordOf R.frame (head_of R.frame z) r) sees.reads recorded
@@ -162,7 +162,7 @@ module _ (configs : OneConfigAnswer) (records : OneAnswer) (laws : BootLaws) whe
       declined_there r recorded end declined = never_declined r (recorded_there (Some r) recorded) end
           (subst (λ (z : List ℕ). IsDeclined R.layout (key_bytes R.key) (bank_in R.frame z r) end) sees.reads declined)
 
-      never_stopped : (place : ℕ) (cause : Cause) → PlaysBoot R.frame R.layout R.key mid.files mid.flash.reads a.flash.reads l.launches n.launches (plays.DirectiveFailed place cause)
+      never_stopped : (place : ℕ) (cause : Cause) → PlaysBoot R.frame R.layout R.key mid.files (device_at mid.flash.reads l.launches) (device_at a.flash.reads n.launches) (plays.DirectiveFailed place cause)
           → CountsFor cause (counts_of mid.faults mid.flash.faults l.faults) (counts_of a.faults a.flash.faults n.faults) → ⊥
       never_stopped place causes.Missing p c = never_stops _ place causes.Missing _ ready.completes (plays_there (plays.DirectiveFailed place causes.Missing) p).plays_so.ends
       never_stopped place causes.SelfCopy p c = never_stops _ place causes.SelfCopy _ ready.completes (plays_there (plays.DirectiveFailed place causes.SelfCopy) p).plays_so.ends
@@ -219,10 +219,10 @@ module _ (configs : OneConfigAnswer) (records : OneAnswer) (laws : BootLaws) whe
       seen : SeesSame b u.middle
       seen = boot_sees l n b a ends.Ended lines u told
 
-      play : PlaysBoot u.config.2 u.config.0 u.config.1 b.files b.flash.reads a.flash.reads l.launches n.launches plays.Done
+      play : PlaysBoot u.config.2 u.config.0 u.config.1 b.files (device_at b.flash.reads l.launches) (device_at a.flash.reads n.launches) plays.Done
       play =
-          subst (λ (z : List ℕ → Option (List ℕ)). PlaysBoot u.config.2 u.config.0 u.config.1 z b.flash.reads a.flash.reads l.launches n.launches plays.Done) seen.files
-          (subst (λ (z : List ℕ). PlaysBoot u.config.2 u.config.0 u.config.1 u.middle.files z a.flash.reads l.launches n.launches plays.Done) seen.reads
+          subst (λ (z : List ℕ → Option (List ℕ)). PlaysBoot u.config.2 u.config.0 u.config.1 z (device_at b.flash.reads l.launches) (device_at a.flash.reads n.launches) plays.Done) seen.files
+          (subst (λ (z : List ℕ). PlaysBoot u.config.2 u.config.0 u.config.1 u.middle.files (device_at z l.launches) (device_at a.flash.reads n.launches) plays.Done) seen.reads
           (u.boot.plays (subst IsTrue (sym seen.flash_told) told.flash) told.launcher))
 
       has_recorded : HasRecorded u.config.2 u.config.0 u.config.1 play.installed b.flash.reads
@@ -237,10 +237,10 @@ module _ (configs : OneConfigAnswer) (records : OneAnswer) (laws : BootLaws) whe
       records_there : Records b
       records_there = record { layout = u.config.0; key = u.config.1; frame = u.config.2; configured = u.held.1; installed = play.installed; recorded = play.starts.recorded; is = is_installed }
 
-      on_there : PlaysOn u.config.0 is_installed.said play.installed.active b.files b.flash.reads a.flash.reads l.launches n.launches plays.Done
+      on_there : PlaysOn u.config.0 is_installed.said play.installed.active b.files (device_at b.flash.reads l.launches) (device_at a.flash.reads n.launches) plays.Done
       on_there =
           let start = laws.installed u.config.0 u.config.1 (bank_in u.config.2 b.flash.reads play.installed) play.installed is_installed in
-          subst (λ (z : Manifest). PlaysOn u.config.0 z play.installed.active b.files b.flash.reads a.flash.reads l.launches n.launches plays.Done)
+          subst (λ (z : Manifest). PlaysOn u.config.0 z play.installed.active b.files (device_at b.flash.reads l.launches) (device_at a.flash.reads n.launches) plays.Done)
           (laws.same u.config.0 (key_bytes u.config.1) (bank_in u.config.2 b.flash.reads play.installed) play.starts.said start.0 play.manifest is_installed.said is_installed.are_bytes play.starts.started start.1).1
           play.on
 

@@ -23,13 +23,13 @@ use Rattle.rollback_record.specs.Judging.{IsAcceptable, IsNotBack}
 use Rattle.step_machine.specs.declared.plan_end.PlanEnd.{PlanEnd}
 use Rattle.step_machine.specs.declared.plan_end.PlanEnd.TheVariants as plays
 use Rattle.step_machine.specs.declared.spot.Standing.{Standing}
-use Rattle.step_machine.specs.Devices.{contents_of}
+use Rattle.step_machine.specs.Devices.{contents_of, device_at}
 use Rattle.step_machine.specs.PlanRuns.{CountsFor, PlaysPlan, counts_of, setting_of}
 use Rattle.step_machine.specs.Worlds.{IsChoice}
 use Rattle.update_proc.specs.declared.update_end.UpdateEnd.{UpdateEnd}
 use Rattle.update_proc.specs.declared.update_end.UpdateEnd.TheVariants as ends
 use Rattle.update_proc.specs.Choices.{active_slots}
-use Rattle.update_proc.specs.Moments.{KeepsContents}
+use Rattle.update_proc.specs.Moments.{KeepsContents, placed_on}
 use Rattle.path_model.specs.Settings.{steady}
 use Rattle.update_proc.specs.Updates.{PlaysUpdate, hosted, sources}
 use Rattle.suit_cli.specs.Acceptance.{Accepted}
@@ -108,7 +108,7 @@ module _ (layout : List Entry) (bytes : List ℕ) (s : EnvelopeSays) (m : Manife
     chosen_once : (numbers : List ℕ) → Rattle.update_proc.specs.Choices.AreChosen layout q Tree (active_slots held) numbers → numbers ≡ sets.numbers
     chosen_once numbers chosen = one_choice layout p Tree (active_slots held) sets.numbers numbers sets.chosen (chosen_there layout q p (turned p q same) Tree (active_slots held) numbers chosen)
 
-    replayed : (made : List ℕ) (play : PlanEnd) → PlaysUpdate layout q Tree held (sources sets.payloads uris (hosted mid.told mid.files mid.asked a.asked)) mid.flash.reads made l.launches n.launches play → Replayed made play
+    replayed : (made : List ℕ) (play : PlanEnd) → PlaysUpdate (placed_on frame layout q Tree) held (sources sets.payloads uris (hosted mid.told mid.files mid.asked a.asked)) (device_at mid.flash.reads l.launches) (device_at made n.launches) play → Replayed made play
     replayed made play u =
         let numbers = chosen_once u.numbers u.chosen in
         let standings : u.standings ≡ sets.standings = one_standing layout p (record { number = sets.numbers }) (record { number = u.numbers }) sets.standings u.standings
@@ -168,7 +168,7 @@ module _ (layout : List Entry) (bytes : List ℕ) (s : EnvelopeSays) (m : Manife
       -- a play that was stopped by itself is no play that completes
       module _ (place : ℕ) (cause : Cause) where
         abbrev Stopped : Type 0
-        Stopped = (made : List ℕ) × PlaysUpdate layout q Tree held (sources sets.payloads uris (hosted mid.told mid.files mid.asked a.asked)) mid.flash.reads made l.launches n.launches (plays.DirectiveFailed place cause)
+        Stopped = (made : List ℕ) × PlaysUpdate (placed_on frame layout q Tree) held (sources sets.payloads uris (hosted mid.told mid.files mid.asked a.asked)) (device_at mid.flash.reads l.launches) (device_at made n.launches) (plays.DirectiveFailed place cause)
 
       never_by_itself : (place : ℕ) (cause : Cause) → Stopped place cause → CountsFor cause (counts_of mid.faults mid.flash.faults l.faults) (counts_of a.faults a.flash.faults n.faults) → ⊥
       never_by_itself place causes.Missing st c = never_stops _ place causes.Missing _ done (replayed st.0 (plays.DirectiveFailed place causes.Missing) st.1).plays_so.ends

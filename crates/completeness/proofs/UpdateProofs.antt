@@ -31,6 +31,7 @@ use Rattle.suit_cli.specs.Launching.{Launching}
 use Rattle.suit_cli.specs.Outside.{Flashed, Files, Outside}
 use Rattle.suit_cli.specs.Program.{ComesTo, answers}
 use Rattle.suit_cli.specs.Stages.{Ending, FaultOf, NoMemory, Says}
+use Rattle.suit_cli.specs.Surroundings.{seen}
 use Rattle.suit_cli.specs.UpdateLaws.{UpdateLaws}
 use Rattle.suit_cli.specs.Updating.{IsUpdate, Updates, update_line, update_status, offer}
 use Rattle.suit_cli.specs.Words.{Named, RunBoot, RunUpdate, pairs_of, task_of}
@@ -60,7 +61,7 @@ inside_there layout ids p are k lt = (are.each k [] (omega (arith, lt, are.count
 
 -- ---- the update found the outside as it was
 
-module _ (name : List ℕ) (uris : List (List ℕ × List ℕ)) (l n : Launching) (b a : Outside) (end : UpdateEnd) (lines : List ℕ) (u : Updates name uris l n b a end lines) (told : AreTold l b) where
+module _ (name : List ℕ) (uris : List (List ℕ × List ℕ)) (l n : Launching) (b a : Outside) (end : UpdateEnd) (lines : List ℕ) (u : Updates name uris (seen b l) (seen a n) end lines) (told : AreTold l b) where
   still_told : u.configured.told ≡ b.told
   still_told = ap (λ (o : Outside). o.told) u.held.0.beside
 
@@ -108,7 +109,7 @@ module _ (configs : OneAnswer) (envelopes : EnvelopeLaws) (manifests : ManifestL
     abbrev O : Offers ready.name b
     O = ready.offers
 
-    module _ (end : UpdateEnd) (lines : List ℕ) (u : Updates ready.name (pairs_of ready.uris) l n b a end lines) where
+    module _ (end : UpdateEnd) (lines : List ℕ) (u : Updates ready.name (pairs_of ready.uris) (seen b l) (seen a n) end lines) where
       config : (u.o.layout ≡ O.layout) × (u.o.key ≡ O.key) × (u.o.frame ≡ O.frame)
       config = configured_once u.o.layout O.layout u.o.key O.key u.o.frame O.frame (configs b.flash.size b.flash.reads (Configured u.o.layout u.o.key u.o.frame) (Configured O.layout O.key O.frame)
           (u.held.1 ready.told.flash) (O.configured ready.told.flash))
@@ -198,13 +199,13 @@ module _ (configs : OneAnswer) (envelopes : EnvelopeLaws) (manifests : ManifestL
     update_completes _ faultless (ByBoot end lines word boots) = let never : Some RunBoot ≡ Some (RunUpdate ready.name ready.uris) = sym word ∙ ready.asks in absurd cc
     update_completes _ faultless (ByUpdate name uris end lines word updates) =
         let task = task_once name ready.name uris ready.uris (sym word ∙ ready.asks) in
-        of_update end lines (subst (λ (z : List Named). Updates ready.name (pairs_of z) l n b a end lines) task.1
-        (subst (λ (z : List ℕ). Updates z (pairs_of uris) l n b a end lines) task.0 updates)) faultless
+        of_update end lines (subst (λ (z : List Named). Updates ready.name (pairs_of z) (seen b l) (seen a n) end lines) task.1
+        (subst (λ (z : List ℕ). Updates z (pairs_of uris) (seen b l) (seen a n) end lines) task.0 updates)) faultless
 
   -- ---- and only there
 
   module _ (records : SomeAnswer) (words : List (List ℕ)) (l n : Launching) (b a : Outside) (told : AreTold l b) where
-    module _ (name : List ℕ) (uris : List Named) (r : Record) (lines : List ℕ) (u : Updates name (pairs_of uris) l n b a (ends.Installed r) lines) (word : task_of words ≡ Some (RunUpdate name uris)) where
+    module _ (name : List ℕ) (uris : List Named) (r : Record) (lines : List ℕ) (u : Updates name (pairs_of uris) (seen b l) (seen a n) (ends.Installed r) lines) (word : task_of words ≡ Some (RunUpdate name uris)) where
       abbrev V : Accepted
       V = u.o.accepted
 
@@ -221,17 +222,17 @@ module _ (configs : OneAnswer) (envelopes : EnvelopeLaws) (manifests : ManifestL
       itself : AreSame V.places V.places
       itself = record { count = refl; each = λ k lt. refl }
 
-      seen : SeesSame b u.middle
-      seen = sees name (pairs_of uris) l n b a (ends.Installed r) lines u told
+      same : SeesSame b u.middle
+      same = sees name (pairs_of uris) l n b a (ends.Installed r) lines u told
 
       middle_told : IsTrue u.middle.told
-      middle_told = subst IsTrue (sym seen.told) told.host
+      middle_told = subst IsTrue (sym same.told) told.host
 
       middle_flash_told : IsTrue u.middle.flash.told
-      middle_flash_told = subst IsTrue (sym seen.flash_told) told.flash
+      middle_flash_told = subst IsTrue (sym same.flash_told) told.flash
 
       recorded_there : RecordOf u.o.frame (head_of u.o.frame u.middle.flash.reads) held
-      recorded_there = subst (λ (z : List ℕ). RecordOf u.o.frame (head_of u.o.frame z) held) (sym seen.reads) recorded
+      recorded_there = subst (λ (z : List ℕ). RecordOf u.o.frame (head_of u.o.frame z) held) (sym same.reads) recorded
 
       offers : Offers name b
       offers = record {
@@ -259,9 +260,9 @@ module _ (configs : OneAnswer) (envelopes : EnvelopeLaws) (manifests : ManifestL
           record { numbers = played.numbers; chosen = played.chosen; standings = played.standings; stand = played.stand; payloads = payloads.0; has = payloads.1 }
 
       installed_there : InstalledSo u.o.layout u.o.bytes V.said V.manifest V.members V.places V.places itself h.authentic.digest h.authentic.blocks h.authentic.says
-          (inside_there u.o.layout V.manifest.components V.places h.placed) held (pairs_of uris) l n b u.middle a seen told u.o.frame recorded sets (ends.Installed r)
+          (inside_there u.o.layout V.manifest.components V.places h.placed) held (pairs_of uris) l n b u.middle a same told u.o.frame recorded sets (ends.Installed r)
       installed_there = installed_so u.o.layout u.o.bytes V.said V.manifest V.members V.places V.places itself h.authentic.digest h.authentic.blocks h.authentic.says
-          (inside_there u.o.layout V.manifest.components V.places h.placed) held (pairs_of uris) l n b u.middle a seen told u.o.frame recorded sets u.o.key r u.update
+          (inside_there u.o.layout V.manifest.components V.places h.placed) held (pairs_of uris) l n b u.middle a same told u.o.frame recorded sets u.o.key r u.update
 
       was_ready : ReadyToUpdate words l b
       unfolding offers
@@ -278,7 +279,7 @@ module _ (configs : OneAnswer) (envelopes : EnvelopeLaws) (manifests : ManifestL
         files = files_left name (pairs_of uris) l n b a (ends.Installed r) lines u told;
       }
 
-    of_end : (name : List ℕ) (uris : List Named) (end : UpdateEnd) (lines : List ℕ) → Updates name (pairs_of uris) l n b a end lines → task_of words ≡ Some (RunUpdate name uris) → update_status end ≡ 0
+    of_end : (name : List ℕ) (uris : List Named) (end : UpdateEnd) (lines : List ℕ) → Updates name (pairs_of uris) (seen b l) (seen a n) end lines → task_of words ≡ Some (RunUpdate name uris) → update_status end ≡ 0
         → (ready : ReadyToUpdate words l b) × Installs words l b ready n a (Updated end lines)
     of_end name uris (ends.Installed r) lines u word zero = (was_ready name uris r lines u word, was_installed name uris r lines u word)
     of_end name uris (ends.Lower recorded_number offered) lines u word zero = absurd (omega (arith, zero))

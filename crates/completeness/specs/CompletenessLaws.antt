@@ -9,6 +9,7 @@ use Rattle.suit_cli.specs.Coming.{Ended, ended_status}
 use Rattle.suit_cli.specs.Launching.{Launching}
 use Rattle.suit_cli.specs.Outside.{Outside, Sunk}
 use Rattle.suit_cli.specs.Program.{ComesTo, Performs}
+use Rattle.suit_cli.specs.Surroundings.{seen}
 use Rattle.suit_cli.specs.Words.{Named, RunBoot, RunMigrate, RunUpdate, task_of}
 use Rattle.completeness.specs.Outcomes.{AreTold, EndsWell, IsFaultless, LeavesFlash, PutsDone}
 use Rattle.completeness.specs.Updates.{Installs, Meets, Offers, ReadyToUpdate, Sets}
@@ -62,7 +63,7 @@ EndsWhole Ready IsDone =
     (words : List (List ℕ)) (launched now : Launching) (before after : Outside)
     (sunk_before sunk_after : Sunk) (result : ℕ) (ready : Ready words launched before)
     → IsFaultless launched now before after
-    → Performs words launched now before after sunk_before sunk_after result
+    → Performs words (seen before launched) (seen after now) sunk_before sunk_after result
     → EndsWell (IsDone words launched before ready now after)
     (LeavesFlash launched now before after) sunk_before sunk_after result
 
@@ -98,7 +99,7 @@ SaysSo Asks Ready IsDone =
     (words : List (List ℕ)) (launched now : Launching) (before after : Outside)
     (sunk_before sunk_after : Sunk)
     → Asks words before → AreTold launched before
-    → Performs words launched now before after sunk_before sunk_after 0
+    → Performs words (seen before launched) (seen after now) sunk_before sunk_after 0
     → (ready : Ready words launched before)
     × PutsDone (IsDone words launched before ready now after) sunk_before sunk_after
 

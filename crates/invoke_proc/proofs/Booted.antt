@@ -1,5 +1,6 @@
 -- The clauses of a boot about the flash, from those of its stages.
 use Rattle.std.proofs.Common.{◌≡◌, ◌⊎◌, inl, inr, ⊎_elim, ℕ, List, Option, Some, refl, sym, subst}
+use Rattle.step_machine.specs.Devices.{device_at}
 use Rattle.suit_edge.specs.Flash.{Flash, IsFlash, IsSame, IsSettled}
 use Rattle.suit_edge.specs.FlashLaws.{keeps_same, keeps_then, same_flash_then}
 use Rattle.suit_edge.specs.declared.launch.Launch.{Launch}
@@ -111,12 +112,12 @@ payloads_in bytes said envelope = (integrated_payloads (map_entries envelope.say
 
 pub plays_boot : (frame : Frame) (layout : List Entry) (key : Key) (files : List ℕ → Option (List ℕ)) (reads before after : List ℕ) (launched now : List Launch) (r : Record) (m : Manifest)
     → Starts frame layout key reads r m → before ≡ reads
-    → (end : PlanEnd) → PlaysOn layout m r.active files before after launched now end → PlaysBoot frame layout key files reads after launched now end
+    → (end : PlanEnd) → PlaysOn layout m r.active files (device_at before launched) (device_at after now) end → PlaysBoot frame layout key files (device_at reads launched) (device_at after now) end
 plays_boot frame layout key files reads before after launched now r m starts read end on = record {
   installed = r;
   manifest = m;
   starts = starts;
-  on = subst (λ (l : List ℕ). PlaysOn layout m r.active files l after launched now end) read on;
+  on = subst (λ (l : List ℕ). PlaysOn layout m r.active files (device_at l launched) (device_at after now) end) read on;
 }
 
 pub keeps_boot : (frame : Frame) (layout : List Entry) (key : Key) (r : Record) (m : Manifest) (a b c : Flash) (size : ℕ) → IsFlash b size → IsSame a b

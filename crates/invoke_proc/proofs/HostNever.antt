@@ -1,5 +1,6 @@
 -- A boot has no names of files, so that no fault of the host stops its procedure.
 use Rattle.std.proofs.Common.{◌≡◌, ℕ, List, [], Option, Some, None, refl, sym, subst}
+use Rattle.step_machine.specs.Devices.{device_at}
 use Rattle.suit_edge.specs.declared.launch.Launch.{Launch}
 use Rattle.suit_commands.specs.Tree.{PlanTree}
 use Rattle.path_model.specs.declared.cause.Cause.{Cause}
@@ -37,7 +38,7 @@ never_stopped laws plan setting place before after launched now empty played =
     none_named named.0 (subst (λ (words : List (List ℕ × List ℕ)). NamesFile words named.0) empty named.1)
 
 module _ (laws : FaultedEnds) (frame : Frame) (layout : List Entry) (key : Key) (files : List ℕ → Option (List ℕ)) (before after : List ℕ) (launched now : List Launch) where
-  pub never_host : (Same : Type 0) (answer : BootEnd) → PlayedSo (PlaysBoot frame layout key files before after launched now) Same launched now answer → NeverHost answer
+  pub never_host : (Same : Type 0) (answer : BootEnd) → PlayedSo (PlaysBoot frame layout key files (device_at before launched) (device_at after now)) Same launched now answer → NeverHost answer
   never_host Same (ends.Stopped place causes.HostFault) p = never_stopped laws _ _ place _ _ launched now refl p.on.plays
   never_host Same (ends.Stopped place causes.Missing) p = tt
   never_host Same (ends.Stopped place causes.SelfCopy) p = tt

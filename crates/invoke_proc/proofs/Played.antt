@@ -14,7 +14,7 @@ use Rattle.flash_slots.specs.RamContents.{Held, empty_ram}
 use Rattle.step_machine.specs.declared.plan_end.PlanEnd.{PlanEnd}
 use Rattle.step_machine.specs.declared.plan_end.PlanEnd.TheVariants as plays
 use Rattle.step_machine.specs.declared.spot.Standing.{Standing}
-use Rattle.step_machine.specs.Devices.{contents_of}
+use Rattle.step_machine.specs.Devices.{contents_of, device_at}
 use Rattle.path_model.specs.Settings.{steady}
 use Rattle.step_machine.specs.PlanRuns.{Counts, EndCounts, OutsideTargets, PlaysPlan, counts_of, setting_of}
 use Rattle.step_machine.proofs.Counting.{failed_behind, not_fallen}
@@ -82,7 +82,7 @@ pub plays_on : (layout : List Entry) (manifest : Manifest) (active : List ℕ) (
     → (plan : PlanTree) → plan ≡ invocation_tree manifest
     → (given : ℕ → List ℕ → Option (List ℕ)) → given ≡ steady files
     → PlaysPlan plan (setting_of standings [] uris given) end (contents_of standings ram before) (contents_of standings left between) launched now
-    → PlaysOn layout manifest active files before after launched now end
+    → PlaysOn layout manifest active files (device_at before launched) (device_at after now) end
 plays_on layout manifest active uris files before between after launched now end standings ram left stand none words same plan is given gives played = record {
   standings = standings;
   stand = stand;

@@ -33,7 +33,7 @@ use Rattle.rollback_record.specs.SoundFlash.{IsInstalled, Settled, Sound, key_by
 use Rattle.rollback_record.proofs.SoundBy.{SoundBy, BlankBy, EmptyBy, InstalledBy, sound_by}
 use Rattle.step_machine.specs.declared.plan_end.PlanEnd.{PlanEnd}
 use Rattle.step_machine.specs.declared.plan_end.PlanEnd.TheVariants as plays
-use Rattle.step_machine.specs.Devices.{contents_of}
+use Rattle.step_machine.specs.Devices.{contents_of, device_at}
 use Rattle.flash_slots.specs.RamContents.{empty_ram}
 use Rattle.step_machine.specs.Invoking.{launched_as}
 use Rattle.path_model.specs.Settings.{steady}
@@ -124,7 +124,7 @@ module _ (safe : SafeLaunches) (faulted : FaultedSafeLaunches) (plan : PlanTree)
 
 module _ (safe : SafeLaunches) (faulted : FaultedSafeLaunches) (manifests : ManifestLaws) (frame : Frame) (size : ℕ) (layout : List Entry) (is : IsLayout frame size layout)
     (typed : All HasIdentifiers layout) (key : Key) (files : List ℕ → Option (List ℕ)) (before after : List ℕ) (launched now : List Launch) where
-  pub gains : (end : PlanEnd) → (p : PlaysBoot frame layout key files before after launched now end) → Safe (invocation_tree p.manifest) → GainsSafe launched now
+  pub gains : (end : PlanEnd) → (p : PlaysBoot frame layout key files (device_at before launched) (device_at after now) end) → Safe (invocation_tree p.manifest) → GainsSafe launched now
   gains end p safe_plan =
       let holds = p.starts.started.1.spell.says in
       let grammar = manifests.grammatical p.starts.said.manifest_place holds.item p.manifest holds.says_so in

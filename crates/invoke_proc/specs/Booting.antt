@@ -21,7 +21,7 @@ use Rattle.step_machine.specs.declared.plan_end.PlanEnd.{PlanEnd}
 use Rattle.step_machine.specs.declared.plan_end.PlanEnd.TheVariants as plays
 use Rattle.step_machine.specs.declared.spot.Standing.{Standing}
 use Rattle.step_machine.specs.declared.world.SlotChoice.{SlotChoice}
-use Rattle.step_machine.specs.Devices.{contents_of}
+use Rattle.step_machine.specs.Devices.{DeviceAt, contents_of}
 use Rattle.step_machine.specs.Invoking.{launched_as}
 use Rattle.step_machine.specs.PlanRuns.{IsUnfaulted, OutsideTargets, PlaysPlan, setting_of}
 use Rattle.step_machine.specs.Worlds.{StandAs}
@@ -77,22 +77,21 @@ Answers frame layout key reads ends.FlashFault = Unit {0}
 -- The invocation procedure of the manifest is played on the active slots, with empty working memory, no files for URIs
 -- and no payloads. It ends like this, and leaves these contents and launches.
 pub record PlaysOn (layout : List Entry) (manifest : Manifest) (active : List ℕ)
-    (files : List ℕ → Option (List ℕ)) (before after : List ℕ) (launched now : List Launch) (end : PlanEnd) : Type 0 where
+    (files : List ℕ → Option (List ℕ)) (before now : DeviceAt) (end : PlanEnd) : Type 0 where
   pub standings : List Standing
   pub stand : StandActive layout manifest.components active standings
   pub ram : List Held
   pub plays : PlaysPlan (invocation_tree manifest) (setting_of standings [] [] (steady files)) end
-      (contents_of standings (empty_ram layout) before) (contents_of standings ram after) launched
-      now
+      (contents_of standings (empty_ram layout) before.reads)
+      (contents_of standings ram now.reads) before.launches now.launches
 
 -- the same for the record and the manifest that the flash has
 pub record PlaysBoot (frame : Frame) (layout : List Entry) (key : Key)
-    (files : List ℕ → Option (List ℕ)) (before after : List ℕ) (launched now : List Launch) (end : PlanEnd)
-    : Type 0 where
+    (files : List ℕ → Option (List ℕ)) (before now : DeviceAt) (end : PlanEnd) : Type 0 where
   pub installed : Record
   pub manifest : Manifest
-  pub starts : Starts frame layout key before installed manifest
-  pub on : PlaysOn layout manifest installed.active files before after launched now end
+  pub starts : Starts frame layout key before.reads installed manifest
+  pub on : PlaysOn layout manifest installed.active files before now end
 
 -- If the boot tells how the procedure ended, the procedure was played and ended like that; if not, nothing was
 -- launched. A fault that is told as one of the flash came before the procedure, and then the flash reads the same, or

@@ -8,6 +8,7 @@ ghost use Rattle.invoke_proc.specs.Counting.{BootCounts};
 ghost use Rattle.invoke_proc.specs.Sound.{IsUnrefused};
 ghost use Rattle.rollback_record.specs.SoundFlash.{Follows, Settled, Sound};
 ghost use Rattle.std.specs.Prelude.{◌≡◌, ◌⊎◌, IsTrue};
+ghost use Rattle.step_machine.specs.Devices.{device_at};
 ghost use Rattle.step_machine.specs.PlanRuns.{counts_of};
 ghost use Rattle.suit_edge.specs.Flash.{Grows, IsSame, IsSettled, Passes};
 
@@ -58,9 +59,9 @@ fn start_installed<H: Host, D: Disk, L: Launcher>(
         (counts_of (H.faults host.new) (D.faults disk.new) (L.faults launcher.new)) }
     ensures files { IsTrue H.told → H.file host.new ≡ H.file host.old }
     ensures plays { IsTrue D.told → IsTrue L.told
-        → PlayedSo (PlaysBoot frame layout.now key.now (H.file host.old) (D.flash disk.old).reads
-        (D.flash disk.new).reads
-        (L.launches launcher.old) (L.launches launcher.new))
+        → PlayedSo (PlaysBoot frame layout.now key.now (H.file host.old)
+        (device_at (D.flash disk.old).reads (L.launches launcher.old))
+        (device_at (D.flash disk.new).reads (L.launches launcher.new)))
         ((D.flash disk.new).reads ≡ (D.flash disk.old).reads)
         (L.launches launcher.old) (L.launches launcher.new) result }
     ensures unasked { host.new ≡ host.old }
@@ -117,9 +118,9 @@ pub fn boot<H: Host, D: Disk, L: Launcher>(
     ensures unrefused { IsTrue D.told → Sound (D.flash disk.old).reads
         → IsUnrefused result }
     ensures plays { IsTrue D.told → IsTrue L.told
-        → PlayedSo (PlaysBoot frame layout.now key.now (H.file host.old) (D.flash disk.old).reads
-        (D.flash disk.new).reads
-        (L.launches launcher.old) (L.launches launcher.new))
+        → PlayedSo (PlaysBoot frame layout.now key.now (H.file host.old)
+        (device_at (D.flash disk.old).reads (L.launches launcher.old))
+        (device_at (D.flash disk.new).reads (L.launches launcher.new)))
         ((D.flash disk.new).reads ≡ (D.flash disk.old).reads)
         (L.launches launcher.old) (L.launches launcher.new) result }
     ensures host { IsTrue D.told → IsTrue L.told → NeverHost result }

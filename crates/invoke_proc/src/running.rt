@@ -7,6 +7,7 @@ ghost use Rattle.invoke_proc.specs.Booting.{IfUnfaulted, IsStartEnd, KeepsOthers
 ghost use Rattle.invoke_proc.specs.Counting.{BootCounts};
 ghost use Rattle.manifest_view.specs.Views.{manifest_of};
 ghost use Rattle.std.specs.Prelude.{◌≡◌, ◌≤◌, ◌⊎◌, [], IsTrue, false, length};
+ghost use Rattle.step_machine.specs.Devices.{device_at};
 ghost use Rattle.step_machine.specs.PlanRuns.{counts_of};
 ghost use Rattle.step_machine.specs.Worlds.{AreDistinct};
 ghost use Rattle.suit_commands.specs.Allowed.{IsPlan};
@@ -84,9 +85,10 @@ pub(crate) fn start<H: Host, D: Disk, L: Launcher>(
     ensures unasked { host.new ≡ host.old }
     ensures plays { IsTrue D.told → IsTrue L.told
         → PlayedSo
-        (PlaysOn layout.now (manifest_of startable.entry.manifest) installed.now.active (H.file host.old)
-        (D.flash disk.old).reads (D.flash disk.new).reads (L.launches launcher.old)
-        (L.launches launcher.new))
+        (PlaysOn layout.now (manifest_of startable.entry.manifest) installed.now.active
+        (H.file host.old)
+        (device_at (D.flash disk.old).reads (L.launches launcher.old))
+        (device_at (D.flash disk.new).reads (L.launches launcher.new)))
         ((D.flash disk.new).reads ≡ (D.flash disk.old).reads)
         (L.launches launcher.old) (L.launches launcher.new) result }
     ensures keeps { IsTrue D.told → KeptSo

@@ -21,7 +21,7 @@ use Rattle.step_machine.specs.Comes.{Comes}
 use Rattle.step_machine.specs.Copying.{CopiesAs, IsRamButBoth, OutsideBoth, Side, SwapsAs, side_of}
 use Rattle.step_machine.specs.Devices.{AreSpotsClear}
 use Rattle.step_machine.specs.Directives.{ActsSo, WritesAs}
-use Rattle.step_machine.specs.Fetching.{ArePayloads, AreRequests, FetchesAs, Request, names_of, with_asked}
+use Rattle.step_machine.specs.Fetching.{ArePayloads, AreRequests, FetchesAs, Request, fetch_of, names_of, with_asked}
 use Rattle.step_machine.specs.Invoking.{InvokesAs}
 use Rattle.step_machine.specs.Parts.{act_part}
 use Rattle.step_machine.specs.Running.{Moment, Past, Stays, StopCounts, Fits, Part, RunsPart, IsReady, IsUnderWay, counts_at, device_at, stopped}
@@ -99,7 +99,7 @@ module _ (machine : Machine) (m n : Moment) (s : State) (place c : ℕ) (lt : c 
 
     pub fetch_runs : (IsTrue m.disk.told → (requests : List Request) × AreRequests m.host.told machine.uris.now m.host.files m.host.asked.names n.host.asked.names requests
         × ((payloads : List (List ℕ × List ℕ)) → ArePayloads machine.envelope payloads
-        → FetchesAs (stands_at machine c).component (stands_at machine c).capacity s.parameters payloads machine.uris.now requests (holds_at machine c m) (holds_at machine c n) r))
+        → FetchesAs (fetch_of (stands_at machine c).component (stands_at machine c).capacity s.parameters payloads machine.uris.now) requests (holds_at machine c m) (holds_at machine c n) r))
         → RunsPart machine (act_part acts.Fetch place c) s m result s n
     fetch_runs fetches =
         subst (λ (x : Result (Unit {0}) Stop). RunsPart machine (act_part acts.Fetch place c) s m x s n) (sym is)
@@ -111,7 +111,7 @@ module _ (machine : Machine) (m n : Moment) (s : State) (place c : ℕ) (lt : c 
               let asked : Past = record { launches = past.launches; asked = past.asked ++ names_of f.0 } in
               subst (λ (v : Device). Comes (directive_play setting acts.Fetch place c) s (device_at machine m past) (stopped place r) s v) (one_device machine m n c no_standing lt ready but (law told).fits (keeps told) asked)
               (acts_come (directive_play setting acts.Fetch place c) place s (device_at machine m past) (with_content (with_asked (device_at machine m past) (names_of f.0)) c (holds_at machine c n)) r
-              (subst (λ (k : ℕ). FetchesAs k (stands_at machine c).capacity s.parameters setting.payloads machine.uris.now f.0 (holds_at machine c m) (holds_at machine c n) r) component_is (f.2 setting.payloads fits.payloads)
+              (subst (λ (k : ℕ). FetchesAs (fetch_of k (stands_at machine c).capacity s.parameters setting.payloads machine.uris.now) f.0 (holds_at machine c m) (holds_at machine c n) r) component_is (f.2 setting.payloads fits.payloads)
               setting place s (device_at machine m past) refl (capacity_here machine m c no_standing lt setting fits past) refl fits.words given (content_here machine m c no_standing lt setting fits past) (within_here machine m c no_standing lt setting fits past))),
         )))
 

@@ -14,7 +14,7 @@ use Rattle.path_model.specs.Behaviour.{State}
 use Rattle.path_model.specs.Settings.{Setting, asked_by, capacity_of, found_under, payload_of, NamesFile}
 use Rattle.path_model.specs.Plays.{Outcome}
 use Rattle.path_model.specs.DevicePlays.{Device, Made, Refused, content_at, with_content, asking, concluded, fetched, fetching, acted, ActIsCut, FetchLeaves, directive_play}
-use Rattle.step_machine.specs.Fetching.{AreGiven, FetchesAs, Request, TakesIn, TakesNamed, TakesOf, names_of, payload_by, request, with_asked}
+use Rattle.step_machine.specs.Fetching.{AreGiven, FetchesAs, Request, TakesIn, TakesNamed, TakesOf, fetch_of, names_of, payload_by, request, with_asked}
 use Rattle.step_machine.proofs.Writing.{stopped, when_false, when_true, with_same}
 
 -- no URI is answered where there are no names of files
@@ -43,14 +43,14 @@ module _ (c : ℕ) where
 module _ (c cap : ℕ) (ps : Parameters) (payloads words : List (List ℕ × List ℕ)) where
   -- ---- nothing was asked for
 
-  pub fetch_missing : (before : List ℕ) → bytes_of (in_force ps c keys.Uri) ≡ None → FetchesAs c cap ps payloads words [] before before (Err causes.Missing)
+  pub fetch_missing : (before : List ℕ) → bytes_of (in_force ps c keys.Uri) ≡ None → FetchesAs (fetch_of c cap ps payloads words) [] before before (Err causes.Missing)
   unfolding uri_in
   fetch_missing before none setting p s w same room e f given here inside =
       stopped p [] s causes.Missing w (with_content (with_asked w []) c before) ((directive_play setting acts.Fetch p c).comes s w)
       (ap (acted p (λ x. Wrote c ∷ []) (λ x. fetching setting c x) s w) (ap (uri_in c) same ∙ none))
       (unchanged w c before here inside)
 
-  pub fetch_unasked : (uri before : List ℕ) → bytes_of (in_force ps c keys.Uri) ≡ Some uri → NamesFile words uri → FetchesAs c cap ps payloads words [] before before (Err causes.HostFault)
+  pub fetch_unasked : (uri before : List ℕ) → bytes_of (in_force ps c keys.Uri) ≡ Some uri → NamesFile words uri → FetchesAs (fetch_of c cap ps payloads words) [] before before (Err causes.HostFault)
   unfolding uri_in
   fetch_unasked uri before some named setting p s w same room e f given here inside =
       let outcome : Outcome Device = concluded p (Wrote c ∷ []) s (Refused causes.HostFault w) in
@@ -86,7 +86,7 @@ module _ (c cap : ℕ) (ps : Parameters) (payloads words : List (List ℕ × Lis
         ∙ ap (λ (o : Option (List ℕ)). concluded p (Wrote c ∷ []) s (fetched setting c o (asking setting uri w))) (payload_is setting (length w.asked) e f ∙ finds setting.files (length w.asked) given)
         ∙ ap (λ (v : Device). concluded p (Wrote c ∷ []) s (fetched setting c named v)) (asked_is setting w f)
 
-    pub fetch_absent : (before : List ℕ) → Finds None → FetchesAs c cap ps payloads words requests before before (Err causes.Absent)
+    pub fetch_absent : (before : List ℕ) → Finds None → FetchesAs (fetch_of c cap ps payloads words) requests before before (Err causes.Absent)
     unfolding uri_in
     fetch_absent before finds setting p s w same room e f given here inside =
         let v : Device = with_asked w (names_of requests) in
@@ -95,7 +95,7 @@ module _ (c cap : ℕ) (ps : Parameters) (payloads words : List (List ℕ × Lis
         (sym (with_same v c before here inside))
 
     pub fetch_done : (before after payload : List ℕ) (u : Unit {0}) → Finds (Some payload) → length payload ≤ cap → after ≡ payload
-        → FetchesAs c cap ps payloads words requests before after (Ok u)
+        → FetchesAs (fetch_of c cap ps payloads words) requests before after (Ok u)
     unfolding uri_in
     fetch_done before after payload u finds fits is setting p s w same room e f given here inside =
         let v : Device = with_asked w (names_of requests) in
@@ -106,7 +106,7 @@ module _ (c cap : ℕ) (ps : Parameters) (payloads words : List (List ℕ × Lis
         (ap (λ (o : Outcome Device). o.ending) comes, ap (λ (o : Outcome Device). o.world) comes ∙ ap (with_content v c) (sym is))
 
     pub fetch_large : (before after payload : List ℕ) → Finds (Some payload) → cap < length payload → after ≡ []
-        → FetchesAs c cap ps payloads words requests before after (Err causes.TooLarge)
+        → FetchesAs (fetch_of c cap ps payloads words) requests before after (Err causes.TooLarge)
     unfolding uri_in
     fetch_large before after payload finds large is setting p s w same room e f given here inside =
         let v : Device = with_asked w (names_of requests) in
@@ -119,7 +119,7 @@ module _ (c cap : ℕ) (ps : Parameters) (payloads words : List (List ℕ × Lis
     -- ---- cut by a fault
 
     -- before anything changed: a piece could not be pulled, or the file could not be started
-    pub fetch_unstarted : (before : List ℕ) → NamesFile words uri → FetchesAs c cap ps payloads words requests before before (Err causes.HostFault)
+    pub fetch_unstarted : (before : List ℕ) → NamesFile words uri → FetchesAs (fetch_of c cap ps payloads words) requests before before (Err causes.HostFault)
     unfolding uri_in
     fetch_unstarted before named setting p s w same room e f given here inside =
         let v : Device = with_asked w (names_of requests) in
@@ -131,7 +131,7 @@ module _ (c cap : ℕ) (ps : Parameters) (payloads words : List (List ℕ × Lis
         }
 
     -- after the content was emptied
-    pub fetch_emptied : (before after : List ℕ) → NamesFile words uri → after ≡ [] → FetchesAs c cap ps payloads words requests before after (Err causes.HostFault)
+    pub fetch_emptied : (before after : List ℕ) → NamesFile words uri → after ≡ [] → FetchesAs (fetch_of c cap ps payloads words) requests before after (Err causes.HostFault)
     unfolding uri_in
     fetch_emptied before after named is setting p s w same room e f given here inside =
         let v : Device = with_asked w (names_of requests) in
@@ -143,7 +143,7 @@ module _ (c cap : ℕ) (ps : Parameters) (payloads words : List (List ℕ × Lis
           stops = stopped p (Wrote c ∷ []) s causes.HostFault left (with_content v c after) outcome refl (ap (with_content v c) (sym is));
         }
 
-    pub fetch_unwritten : (before after : List ℕ) → length after ≤ cap → FetchesAs c cap ps payloads words requests before after (Err causes.FlashFault)
+    pub fetch_unwritten : (before after : List ℕ) → length after ≤ cap → FetchesAs (fetch_of c cap ps payloads words) requests before after (Err causes.FlashFault)
     unfolding uri_in
     fetch_unwritten before after short setting p s w same room e f given here inside =
         let le : length after ≤ capacity_of setting c = omega (arith, short, room) in
@@ -158,7 +158,7 @@ module _ (c cap : ℕ) (ps : Parameters) (payloads words : List (List ℕ × Lis
     -- ---- a file that was started and then taken
 
     pub fetch_taken : (r : Result (Unit {0}) Cause) (before after file : List ℕ) → Finds (Some file) → (r ≡ Err causes.HostFault → NamesFile words uri) → TakesIn r cap file after
-        → FetchesAs c cap ps payloads words requests before after r
+        → FetchesAs (fetch_of c cap ps payloads words) requests before after r
     fetch_taken (Ok u) before after file found host is = fetch_done before after file u found is.0 is.1
     fetch_taken (Err causes.TooLarge) before after file found host is = fetch_large before after file found is.0 is.1
     fetch_taken (Err causes.HostFault) before after file found host is = fetch_emptied before after (host refl) is
@@ -171,14 +171,14 @@ module _ (c cap : ℕ) (ps : Parameters) (payloads words : List (List ℕ × Lis
     -- ---- the payload that a URI names, where it was looked for
 
     pub fetch_named : (r : Result (Unit {0}) Cause) (named : Option (List ℕ)) (before after : List ℕ) → Finds named → (r ≡ Err causes.HostFault → NamesFile words uri) → TakesNamed r cap named before after
-        → FetchesAs c cap ps payloads words requests before after r
+        → FetchesAs (fetch_of c cap ps payloads words) requests before after r
     fetch_named (Ok u) named before after finds host (file, some, takes) = fetch_taken (Ok u) before after file (λ files number given. finds files number given ∙ some) host takes
     fetch_named (Err causes.TooLarge) named before after finds host (file, some, takes) = fetch_taken (Err causes.TooLarge) before after file (λ files number given. finds files number given ∙ some) host takes
     fetch_named (Err causes.FlashFault) named before after finds host (file, some, takes) = fetch_unwritten before after takes
     fetch_named (Err causes.Absent) named before after finds host (none, same) =
-        subst (λ (x : List ℕ). FetchesAs c cap ps payloads words requests before x (Err causes.Absent)) (sym same) (fetch_absent before (λ files number given. finds files number given ∙ none))
+        subst (λ (x : List ℕ). FetchesAs (fetch_of c cap ps payloads words) requests before x (Err causes.Absent)) (sym same) (fetch_absent before (λ files number given. finds files number given ∙ none))
     fetch_named (Err causes.HostFault) named before after finds host (inl same) =
-        subst (λ (x : List ℕ). FetchesAs c cap ps payloads words requests before x (Err causes.HostFault)) (sym same) (fetch_unstarted before (host refl))
+        subst (λ (x : List ℕ). FetchesAs (fetch_of c cap ps payloads words) requests before x (Err causes.HostFault)) (sym same) (fetch_unstarted before (host refl))
     fetch_named (Err causes.HostFault) named before after finds host (inr empty) = fetch_emptied before after (host refl) empty
     fetch_named (Err causes.Missing) named before after finds host (file, some, takes) = absurd takes
     fetch_named (Err causes.SelfCopy) named before after finds host (file, some, takes) = absurd takes
@@ -187,7 +187,7 @@ module _ (c cap : ℕ) (ps : Parameters) (payloads words : List (List ℕ × Lis
   -- ---- each URI
 
   pub fetch_by_key : (uri : List ℕ) (r : Result (Unit {0}) Cause) (before after : List ℕ) → bytes_of (in_force ps c keys.Uri) ≡ Some uri → (get_or uri 0 0 == 35) ≡ true → (r ≡ Err causes.HostFault → ⊥)
-      → TakesNamed r cap (found_under payloads uri) before after → FetchesAs c cap ps payloads words [] before after r
+      → TakesNamed r cap (found_under payloads uri) before after → FetchesAs (fetch_of c cap ps payloads words) [] before after r
   fetch_by_key uri r before after some key host takes =
       fetch_named [] uri some (when_true (get_or uri 0 0 == 35) [] (option_to_list (found_under words uri)) key) r (found_under payloads uri) before after
       (λ files number given. when_true (get_or uri 0 0 == 35) (found_under payloads uri) (option_and_then (files number) (found_under words uri)) key) (λ is. absurd (host is)) takes
@@ -202,14 +202,14 @@ module _ (c cap : ℕ) (ps : Parameters) (payloads words : List (List ℕ × Lis
 
     -- any other URI, by the file that it names
     pub fetch_by_name : (o : Option (List ℕ)) (requests : List Request) (r : Result (Unit {0}) Cause) (before after : List ℕ) → found_under words uri ≡ o → (r ≡ Err causes.HostFault → NamesFile words uri)
-        → TakesOf o requests r cap before after → FetchesAs c cap ps payloads words requests before after r
+        → TakesOf o requests r cap before after → FetchesAs (fetch_of c cap ps payloads words) requests before after r
     fetch_by_name None requests r before after found host (none, takes) =
-        subst (λ (l : List Request). FetchesAs c cap ps payloads words l before after r) (sym none)
+        subst (λ (l : List Request). FetchesAs (fetch_of c cap ps payloads words) l before after r) (sym none)
         (fetch_named [] uri some (names_by None found) r None before after (λ files number given. found_by None found (files number)) host takes)
     fetch_by_name (Some name) requests r before after found host (inl (none, failed, same)) =
-        subst (λ (l : List Request). FetchesAs c cap ps payloads words l before after r) (sym none)
-        (subst (λ (x : Result (Unit {0}) Cause). FetchesAs c cap ps payloads words [] before after x) (sym failed)
-        (subst (λ (x : List ℕ). FetchesAs c cap ps payloads words [] before x (Err causes.HostFault)) (sym same) (fetch_unasked uri before some (host failed))))
+        subst (λ (l : List Request). FetchesAs (fetch_of c cap ps payloads words) l before after r) (sym none)
+        (subst (λ (x : Result (Unit {0}) Cause). FetchesAs (fetch_of c cap ps payloads words) [] before after x) (sym failed)
+        (subst (λ (x : List ℕ). FetchesAs (fetch_of c cap ps payloads words) [] before x (Err causes.HostFault)) (sym same) (fetch_unasked uri before some (host failed))))
     fetch_by_name (Some name) requests r before after found host (inr (given, one, takes)) =
-        subst (λ (l : List Request). FetchesAs c cap ps payloads words l before after r) (sym one)
+        subst (λ (l : List Request). FetchesAs (fetch_of c cap ps payloads words) l before after r) (sym one)
         (fetch_named (request name given ∷ []) uri some (names_by (Some name) found) r given before after (λ files number are. found_by (Some name) found (files number) ∙ are.0) host takes)

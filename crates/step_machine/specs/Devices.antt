@@ -1,5 +1,6 @@
--- The contents of a procedure's components, as a device of plays has them.
+-- A device at a moment, and the contents of a procedure's components, as a device of plays has them.
 use Rattle.std.specs.Prelude.{◌≢◌, ◌<◌, ℕ, List, length, map, get_or}
+use Rattle.suit_edge.specs.declared.launch.Launch.{Launch}
 use Rattle.flash_layout.specs.Layouts.{AreClear}
 use Rattle.flash_layout.specs.Slots.{extent_of}
 use Rattle.flash_slots.specs.RamContents.{Held}
@@ -7,6 +8,14 @@ use Rattle.step_machine.specs.declared.spot.Spot.{Spot}
 use Rattle.step_machine.specs.declared.spot.Spot.TheVariants as spots
 use Rattle.step_machine.specs.declared.spot.Standing.{Standing}
 use Rattle.step_machine.specs.Spots.{content_of}
+
+-- the bytes that reads of its flash give, and its launches so far
+pub record DeviceAt : Type 0 where
+  pub reads : List ℕ
+  pub launches : List Launch
+
+abbrev pub device_at : List ℕ → List Launch → DeviceAt
+device_at reads launches = record { reads = reads; launches = launches }
 
 -- the content of each component
 abbrev pub contents_of : List Standing → List Held → List ℕ → List (List ℕ)

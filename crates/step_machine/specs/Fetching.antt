@@ -157,18 +157,34 @@ file_by component parameters payloads words files =
 abbrev pub with_asked : Device → List (List ℕ) → Device
 with_asked device names = record device { asked = device.asked ++ names }
 
+-- a fetch: the component, its room, the parameters in force, the payloads that URIs may name, and their names of files
+pub record Fetch : Type 0 where
+  pub component : ℕ
+  pub capacity : ℕ
+  pub parameters : Parameters
+  pub payloads : List (List ℕ × List ℕ)
+  pub words : List (List ℕ × List ℕ)
+
+abbrev pub fetch_of : ℕ → ℕ → Parameters → List (List ℕ × List ℕ) → List (List ℕ × List ℕ) → Fetch
+fetch_of component capacity parameters payloads words = record {
+  component = component;
+  capacity = capacity;
+  parameters = parameters;
+  payloads = payloads;
+  words = words;
+}
+
 -- the play of the fetch has this result, in each setting with these payloads and names of files that gives the requests
 -- what they were given, and on each device where the component has this room, one content before and the other after
-abbrev pub FetchesAs : ℕ → ℕ → Parameters → List (List ℕ × List ℕ) → List (List ℕ × List ℕ)
-    → List Request → List ℕ → List ℕ → Result (Unit {0}) Cause → Type 0
-FetchesAs component capacity parameters payloads words requests before after result =
+abbrev pub FetchesAs : Fetch → List Request → List ℕ → List ℕ → Result (Unit {0}) Cause → Type 0
+FetchesAs fetch requests before after result =
     (setting : Setting) (place : ℕ) (state : State) (device : Device)
-    → state.parameters ≡ parameters → capacity_of setting component ≡ capacity
-    → setting.payloads ≡ payloads → setting.words ≡ words
+    → state.parameters ≡ fetch.parameters → capacity_of setting fetch.component ≡ fetch.capacity
+    → setting.payloads ≡ fetch.payloads → setting.words ≡ fetch.words
     → AreGiven setting.files (length device.asked) requests
-    → content_at device component ≡ before → component < length device.contents
-    → ActsSo (directive_play setting acts.Fetch place component) place state device result
-    (with_content (with_asked device (names_of requests)) component after)
+    → content_at device fetch.component ≡ before → fetch.component < length device.contents
+    → ActsSo (directive_play setting acts.Fetch place fetch.component) place state device result
+    (with_content (with_asked device (names_of requests)) fetch.component after)
 
 -- ---- calls of the host
 

@@ -4,7 +4,7 @@ ghost use Rattle.path_model.specs.declared.cause.Cause.TheVariants as causes;
 ghost use Rattle.path_model.specs.Settings.{found_under};
 ghost use Rattle.std.specs.Prelude.{[], ◌≡◌, ◌≢◌, ◌⊎◌, ◌<◌, ◌≤◌, ◌+◌, ◌==◌, ℕ, Err, IsTrue, List, Some, get_or, length};
 ghost use Rattle.std.specs.Option.{option_and_then};
-ghost use Rattle.step_machine.specs.Fetching.{ArePayloads, AreRequests, AsksAtMost, FetchCounts, FetchesAs, Request, TakesNamed, TakesOf, asked_at, file_by, file_named};
+ghost use Rattle.step_machine.specs.Fetching.{ArePayloads, AreRequests, AsksAtMost, FetchCounts, FetchesAs, Request, TakesNamed, TakesOf, asked_at, fetch_of, file_by, file_named};
 ghost use Rattle.step_machine.specs.Replacing.{IsReplaced};
 ghost use Rattle.step_machine.specs.Spots.{IsPlaced, IsRamBut, IsSpot, OutsideSpot, content_of, room_at};
 ghost use Rattle.suit_edge.specs.Flash.{Grows, Keeps};
@@ -184,8 +184,8 @@ pub fn fetch<H: Host, D: Disk>(
         × AreRequests H.told sources.now.uris.now (H.file host.old) (H.asked host.old)
         (H.asked host.new) requests
         × ((payloads : List (List ℕ × List ℕ)) → ArePayloads sources.now.envelope payloads
-        → FetchesAs standing.now.component standing.now.capacity params.now payloads
-        sources.now.uris.now requests
+        → FetchesAs (fetch_of standing.now.component standing.now.capacity params.now payloads
+        sources.now.uris.now) requests
         (content_of standing.now.spot ram.old (D.flash disk.old).reads)
         (content_of standing.now.spot ram.new (D.flash disk.new).reads) result) }
     ensures replaced { IsTrue D.told → IsReplaced standing.now.spot

@@ -10,6 +10,7 @@ use Rattle.flash_layout.specs.ConfigLaws.{OneAnswer as OneConfigAnswer}
 use Rattle.flash_layout.specs.Frames.{head_of}
 use Rattle.rollback_record.specs.RecordLaws.{OneAnswer}
 use Rattle.rollback_record.specs.SoundFlash.{key_bytes}
+use Rattle.step_machine.specs.Devices.{device_at}
 use Rattle.step_machine.specs.declared.plan_end.PlanEnd.{PlanEnd}
 use Rattle.step_machine.specs.declared.plan_end.PlanEnd.TheVariants as plays
 use Rattle.invoke_proc.specs.declared.boot_end.BootEnd.{BootEnd}
@@ -65,12 +66,12 @@ module _ (launched now : Launching) (before after : Outside) where
       answers = subst (λ (l : List ℕ). Answers b.config.2 b.config.0 b.config.1 l end) reads (b.boot.answers middle_told)
 
       abbrev Plays : PlanEnd → Type 0
-      Plays = PlaysBoot b.config.2 b.config.0 b.config.1 before.files before.flash.reads after.flash.reads launched.launches now.launches
+      Plays = PlaysBoot b.config.2 b.config.0 b.config.1 before.files (device_at before.flash.reads launched.launches) (device_at after.flash.reads now.launches)
 
       played : PlayedSo Plays (after.flash.reads ≡ before.flash.reads) launched.launches now.launches end
       played =
-          subst (λ (f : List ℕ → Option (List ℕ)). PlayedSo (PlaysBoot b.config.2 b.config.0 b.config.1 f before.flash.reads after.flash.reads launched.launches now.launches) (after.flash.reads ≡ before.flash.reads) launched.launches now.launches end) files
-          (subst (λ (l : List ℕ). PlayedSo (PlaysBoot b.config.2 b.config.0 b.config.1 b.middle.files l after.flash.reads launched.launches now.launches) (after.flash.reads ≡ l) launched.launches now.launches end) reads
+          subst (λ (f : List ℕ → Option (List ℕ)). PlayedSo (PlaysBoot b.config.2 b.config.0 b.config.1 f (device_at before.flash.reads launched.launches) (device_at after.flash.reads now.launches)) (after.flash.reads ≡ before.flash.reads) launched.launches now.launches end) files
+          (subst (λ (l : List ℕ). PlayedSo (PlaysBoot b.config.2 b.config.0 b.config.1 b.middle.files (device_at l launched.launches) (device_at after.flash.reads now.launches)) (after.flash.reads ≡ l) launched.launches now.launches end) reads
           (b.boot.plays middle_told launcher))
 
       with_lines : Caused (Booted end (boot_line end)) → Caused (Booted end lines)

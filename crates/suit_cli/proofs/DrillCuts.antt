@@ -13,7 +13,7 @@ use Rattle.suit_cli.specs.Coming.{Answered, Booted, Ended, StaysOrKeeps, Updated
 use Rattle.suit_cli.specs.DrillLaws.{HasOldOrNew, IsLeftByUpdate}
 use Rattle.suit_cli.specs.DrillRounds.{envelope_name}
 use Rattle.suit_cli.specs.Surroundings.{Surroundings}
-use Rattle.suit_cli.specs.Updating.{IsDone, KeepsFlash, Offer, new_of, tree_of}
+use Rattle.suit_cli.specs.Updating.{IsDone, KeepsFlash, Offer, new_of, placed_of}
 
 module _ (uris : List (List ℕ × List ℕ)) (before after : Surroundings) (extent : ℕ) (law : IsFlash after.flash extent) (settled : Settled before.flash) (image : List ℕ) (now : Now after.flash image) where
   abbrev old : Flash
@@ -42,12 +42,12 @@ module _ (uris : List (List ℕ × List ℕ)) (before after : Surroundings) (ext
 
     abbrev Kept : Type 0
     Kept =
-        KeepsUpdate o.frame o.layout o.accepted.places (tree_of o.accepted) (IsDone o uris before after held) held (new_of o.frame o.accepted held old.reads digest) old new end
+        KeepsUpdate (placed_of o) (IsDone o uris before after held) held (new_of o.frame o.accepted held old.reads digest) old new end
 
     cut_off : HasOldOrNew o uris before after held digest image → Stands
     cut_off is_left = inr (record { o = o; config = k.config; read = k.read; is_accepted = k.is_accepted; offered = k.offered; is_left = is_left })
 
-    of_old : (kept : Kept) → IsOld o.frame o.layout o.accepted.places (tree_of o.accepted) kept.numbers held old.reads image → Stands
+    of_old : (kept : Kept) → IsOld (placed_of o) kept.numbers held old.reads image → Stands
     of_old kept is_old = cut_off (record { numbers = kept.numbers; chosen = kept.chosen; made = kept.made; others = kept.others; stands = inl is_old })
 
     of_new : (kept : Kept) → IsNew o.frame o.layout (new_of o.frame o.accepted held old.reads digest kept.numbers) kept.made image → IsDone o uris before after held kept.made → Stands
@@ -56,10 +56,10 @@ module _ (uris : List (List ℕ × List ℕ)) (before after : Surroundings) (ext
 
     -- the old record stood at each moment, or the procedure is done
     of_either : (kept : Kept)
-        → Passes old new (IsOld o.frame o.layout o.accepted.places (tree_of o.accepted) kept.numbers held old.reads) ⊎ IsDone o uris before after held kept.made → Stands
+        → Passes old new (IsOld (placed_of o) kept.numbers held old.reads) ⊎ IsDone o uris before after held kept.made → Stands
     of_either kept (inl stays) = of_old kept (each_now old new extent _ law stays image now)
     of_either kept (inr done) = of_moment (each_now old new extent _ law kept.any_moment image now) where
-      of_moment : IsOld o.frame o.layout o.accepted.places (tree_of o.accepted) kept.numbers held old.reads image
+      of_moment : IsOld (placed_of o) kept.numbers held old.reads image
           ⊎ IsNew o.frame o.layout (new_of o.frame o.accepted held old.reads digest kept.numbers) kept.made image → Stands
       of_moment (inl is_old) = of_old kept is_old
       of_moment (inr is_new) = of_new kept is_new done

@@ -14,6 +14,7 @@ use Rattle.flash_layout.specs.Layouts.{IsOfMemory, IsTypedEntry, slot_starts, st
 use Rattle.step_machine.specs.Fetching.{IsFileOf}
 use Rattle.step_machine.specs.Worlds.{HaveAtMost}
 use Rattle.update_proc.specs.declared.update_end.UpdateEnd.{UpdateEnd}
+use Rattle.suit_cli.specs.Surroundings.{seen}
 use Rattle.suit_cli.specs.declared.reply.Object.{Object}
 use Rattle.suit_cli.specs.declared.reply.Object.TheVariants as objects
 use Rattle.suit_cli.specs.declared.reply.Reply.{Reply}
@@ -142,7 +143,7 @@ named : (plan : PlanTree) (uris : List (List ℕ × List ℕ)) (names : List (Li
 named plan uris [] all = tt
 named plan uris (name ∷ names) all = ((all.0.0, all.0.2), named plan uris names all.1)
 
-pub update_asks : (name : List ℕ) (uris : List (List ℕ × List ℕ)) (l m : Launching) (b a : Outside) (end : UpdateEnd) (lines : List ℕ) → Updates name uris l m b a end lines → IsTrue b.told → AsksForUpdate name uris b a
+pub update_asks : (name : List ℕ) (uris : List (List ℕ × List ℕ)) (l m : Launching) (b a : Outside) (end : UpdateEnd) (lines : List ℕ) → Updates name uris (seen b l) (seen a m) end lines → IsTrue b.told → AsksForUpdate name uris b a
 update_asks name uris l m b a end lines u told =
     let before = unasked_beside b u.configured u.held.0.beside in
     let configured_told : IsTrue u.configured.told = subst IsTrue (sym before.told) told in

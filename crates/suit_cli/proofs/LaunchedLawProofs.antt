@@ -1,6 +1,7 @@
 -- The launches of a boot of a sound flash.
 use Rattle.std.proofs.Common.{◌≡◌, ◌⊎◌, inl, inr, ⊎_elim, ℕ, List, length, Option, sym, ◌∙◌, ap, subst}
 use Rattle.std.specs.Prelude.{IsTrue}
+use Rattle.step_machine.specs.Devices.{device_at}
 use Rattle.suit_edge.specs.declared.launch.Launch.{Launch}
 use Rattle.suit_manifest.specs.declared.manifest.Manifest.{Manifest}
 use Rattle.flash_layout.specs.declared.frame.Frame.{Frame}
@@ -28,7 +29,7 @@ module _ (configs : OneConfigAnswer) (records : OneAnswer) (laws : BootLaws) whe
   module _ (frame : Frame) (layout : List Entry) (key : Key) (files : List ℕ → Option (List ℕ)) (image after : List ℕ) (launched now : List Launch) (sound : Sound image)
       (config : ConfigOf (length image) image (Configured layout key frame)) (gains : GainsSafe launched now) where
     abbrev Plays : PlanEnd → Type 0
-    Plays end = PlaysBoot frame layout key files image after launched now end
+    Plays end = PlaysBoot frame layout key files (device_at image launched) (device_at after now) end
 
     abbrev Launches : Type 0
     Launches = LaunchesRecorded layout key files image after launched now
@@ -45,7 +46,7 @@ module _ (configs : OneConfigAnswer) (records : OneAnswer) (laws : BootLaws) whe
           recorded = has;
           is = is;
           end = end;
-          plays = subst (λ (m : Manifest). PlaysOn layout m p.installed.active files image after launched now end) same.1 p.on;
+          plays = subst (λ (m : Manifest). PlaysOn layout m p.installed.active files (device_at image launched) (device_at after now) end) same.1 p.on;
           gains = gains;
         }
 
@@ -71,8 +72,8 @@ module _ (configs : OneConfigAnswer) (records : OneAnswer) (laws : BootLaws) whe
       subst (λ (n : ℕ). ConfigOf n image (Configured boots.config.0 boots.config.1 boots.config.2)) holds.size
       (subst (λ (l : List ℕ). ConfigOf before.flash.size l (Configured boots.config.0 boots.config.1 boots.config.2)) holds.reads (boots.held.1 holds.flash)) in
       let gains = boots.boot.safe flash_told holds.launcher (subst Sound (sym reads) sound) in
-      let played = subst (λ (f : List ℕ → Option (List ℕ)). PlayedSo (λ e. PlaysBoot boots.config.2 boots.config.0 boots.config.1 f image after.flash.reads launched.launches now.launches e) (after.flash.reads ≡ image) launched.launches now.launches end) files
-      (subst (λ (l : List ℕ). PlayedSo (λ e. PlaysBoot boots.config.2 boots.config.0 boots.config.1 boots.middle.files l after.flash.reads launched.launches now.launches e) (after.flash.reads ≡ l) launched.launches now.launches end) reads
+      let played = subst (λ (f : List ℕ → Option (List ℕ)). PlayedSo (λ e. PlaysBoot boots.config.2 boots.config.0 boots.config.1 f (device_at image launched.launches) (device_at after.flash.reads now.launches) e) (after.flash.reads ≡ image) launched.launches now.launches end) files
+      (subst (λ (l : List ℕ). PlayedSo (λ e. PlaysBoot boots.config.2 boots.config.0 boots.config.1 boots.middle.files (device_at l launched.launches) (device_at after.flash.reads now.launches) e) (after.flash.reads ≡ l) launched.launches now.launches end) reads
       (boots.boot.plays flash_told holds.launcher)) in
       ⊎_elim (λ same. inl same) (λ some. inr (boots.config.0, boots.config.1, some))
       (of_end boots.config.2 boots.config.0 boots.config.1 before.files image after.flash.reads launched.launches now.launches sound config gains (after.flash.reads ≡ image) end played)

@@ -1,6 +1,7 @@
 -- The launches of an update.
 use Rattle.std.proofs.Common.{◌≡◌, ◌⊎◌, inl, inr, ⊎_elim, ℕ, List, length, Option, sym, ◌∙◌, ap, subst}
 use Rattle.std.specs.Prelude.{IsTrue}
+use Rattle.step_machine.specs.Devices.{device_at}
 use Rattle.suit_params.specs.declared.digest.Digest.{Digest}
 use Rattle.flash_layout.specs.Configs.{ConfigOf, Configured}
 use Rattle.flash_layout.specs.Frames.{head_of}
@@ -17,12 +18,13 @@ use Rattle.suit_cli.specs.Launching.{Launching}
 use Rattle.suit_cli.specs.LaunchedLaws.{TellsImage}
 use Rattle.suit_cli.specs.LaunchedUpdateLaws.{LaunchedUpdateLaws, LaunchesAccepted}
 use Rattle.suit_cli.specs.Outside.{Flashed, Outside, with_flash}
-use Rattle.suit_cli.specs.Updating.{Updates, tree_of}
+use Rattle.suit_cli.specs.Surroundings.{seen}
+use Rattle.suit_cli.specs.Updating.{Updates, placed_of}
 use Rattle.suit_cli.proofs.AcceptedFacts.{facts}
 
 module _ (records : SomeAnswer) where
   module _ (image : List ℕ) (name : List ℕ) (uris : List (List ℕ × List ℕ)) (launched now : Launching) (before after : Outside) (end : UpdateEnd) (lines : List ℕ)
-      (holds : TellsImage image launched before) (u : Updates name uris launched now before after end lines) where
+      (holds : TellsImage image launched before) (u : Updates name uris (seen before launched) (seen after now) end lines) where
     flash_told : IsTrue u.middle.flash.told
     flash_told = subst IsTrue (sym (ap (λ (f : Flashed). f.told) u.read.0.flash ∙ u.held.0.still.told)) holds.flash
 
@@ -42,7 +44,7 @@ module _ (records : SomeAnswer) where
 
     abbrev Plays : Option Record → List (List ℕ × List ℕ) → List ℕ → List ℕ → PlanEnd → Type 0
     Plays held payloads from made play =
-        PlaysUpdate u.o.layout u.o.accepted.places (tree_of u.o.accepted) held (sources payloads uris host) from made launched.launches now.launches play
+        PlaysUpdate (placed_of u.o) held (sources payloads uris host) (device_at from launched.launches) (device_at made now.launches) play
 
     launches : (now.launches ≡ launched.launches) ⊎ LaunchesAccepted uris u.o.layout u.o.key u.o.bytes image launched.launches now.launches
     launches =
@@ -71,7 +73,7 @@ module _ (records : SomeAnswer) where
         (some_play (Plays some.0 payloads.0 u.middle.flash.reads) _ u.o.layout after.flash.reads launched.launches now.launches end played)
 
   pub laws : LaunchedUpdateLaws
-  laws image name uris launched now before after end lines holds u =
+  laws image name uris before after end lines holds u =
       ⊎_elim (λ same. inl same)
-      (λ some. inr (u.o.layout, u.o.key, u.o.bytes, (there image name uris launched now before after end lines holds u).holds, some))
-      (launches image name uris launched now before after end lines holds u)
+      (λ some. inr (u.o.layout, u.o.key, u.o.bytes, (there image name uris before.launcher after.launcher before.outside after.outside end lines holds u).holds, some))
+      (launches image name uris before.launcher after.launcher before.outside after.outside end lines holds u)

@@ -13,6 +13,7 @@ use Rattle.invoke_proc.specs.declared.boot_end.BootEnd.{BootEnd}
 use Rattle.invoke_proc.specs.declared.boot_end.BootEnd.TheVariants as ends
 use Rattle.invoke_proc.specs.Booting.{GainsSafe}
 use Rattle.invoke_proc.specs.Counting.{BootCounts}
+use Rattle.suit_cli.specs.Surroundings.{seen}
 use Rattle.suit_cli.specs.Words.{Named, Task, Check, RunUpdate, RunBoot, pairs_of, task_of}
 use Rattle.suit_cli.specs.Outside.{Outside, Leaves, Sunk}
 use Rattle.suit_cli.specs.Judgement.{AreSafe}
@@ -38,7 +39,7 @@ data Way (words : List (List ℕ)) (l m : Launching) (b a : Outside) (sb sa : Su
   InStages : Staged words b a sb sa result → m ≡ l → Way words l m b a sb sa result
   AsBoot : (end : BootEnd) (lines : List ℕ) → task_of words ≡ Some RunBoot → Boots l m b a end lines → PutsText sb sa (boot_status end) lines result
       → Way words l m b a sb sa result
-  AsUpdate : (name : List ℕ) (uris : List Named) (end : UpdateEnd) (lines : List ℕ) → task_of words ≡ Some (RunUpdate name uris) → Updates name (pairs_of uris) l m b a end lines
+  AsUpdate : (name : List ℕ) (uris : List Named) (end : UpdateEnd) (lines : List ℕ) → task_of words ≡ Some (RunUpdate name uris) → Updates name (pairs_of uris) (seen b l) (seen a m) end lines
       → PutsText sb sa (update_status end) lines result → Way words l m b a sb sa result
 
 -- ---- the status of a boot
@@ -106,7 +107,7 @@ leaves_by _ b a left = left
 
 -- ---- the clauses
 
-module _ (words : List (List ℕ)) (l m : Launching) (b a : Outside) (sb sa : Sunk) (result : ℕ) (runs : Performs words l m b a sb sa result) where
+module _ (words : List (List ℕ)) (l m : Launching) (b a : Outside) (sb sa : Sunk) (result : ℕ) (runs : Performs words (seen b l) (seen a m) sb sa result) where
   way : Way words l m b a sb sa result
   way = of_comes runs.ended runs.comes runs.puts where
     of_comes : (ended : Ended) → ComesTo words l m b a ended → Puts sb sa ended result → Way words l m b a sb sa result
@@ -231,7 +232,7 @@ module _ (words : List (List ℕ)) (l m : Launching) (b a : Outside) (sb sa : Su
   -- of a boot or an update
   counted_by : (n : ℕ) (text : List ℕ) → MayLaunch (task_of words) → PutsText sb sa n text result
       → ByStatus n (counts_of b.faults b.flash.faults l.faults) (counts_of a.faults a.flash.faults m.faults)
-      → AreCounted words l m b a sb sa result
+      → AreCounted words (seen b l) (seen a m) sb sa result
   counted_by n text launches puts by = record {
     host = λ is. by.host (sym (put_status n text puts (λ nine. omega (arith, is, nine))) ∙ is);
     only_host = λ never cut hides. by.only_host (λ e. never (put_status n text puts cut ∙ e)) (λ e. hides (launches, put_status n text puts cut ∙ e));
@@ -242,9 +243,9 @@ module _ (words : List (List ℕ)) (l m : Launching) (b a : Outside) (sb sa : Su
     only_output = only_output_fault;
   }
 
-  pub counts : AreCounted words l m b a sb sa result
+  pub counts : AreCounted words (seen b l) (seen a m) sb sa result
   counts = of_way way where
-    of_way : Way words l m b a sb sa result → AreCounted words l m b a sb sa result
+    of_way : Way words l m b a sb sa result → AreCounted words (seen b l) (seen a m) sb sa result
     of_way (InStages run same) =
         let kept = staged.kept words b a sb sa result run in
         let host = staged.host_counts words b a sb sa result run run.ending kept in
@@ -271,9 +272,9 @@ module _ (words : List (List ℕ)) (l m : Launching) (b a : Outside) (sb sa : Su
         boots_without l m b a end lines boots flash_told launcher_told (sym (put_status _ _ puts (λ nine. omega (arith, seven, nine))) ∙ seven)
     of_way (AsUpdate name uris end lines word updates puts) = let never : Some (RunUpdate name uris) ≡ Some RunBoot = sym word ∙ is_boot in absurd cc
 
-  pub starved : SomeAnswer → result ≡ 11 → AsFound l m b a
+  pub starved : SomeAnswer → result ≡ 11 → AsFound (seen b l) (seen a m)
   starved records eleven = of_way way where
-    of_way : Way words l m b a sb sa result → AsFound l m b a
+    of_way : Way words l m b a sb sa result → AsFound (seen b l) (seen a m)
     of_way (InStages run same) =
         let near = starved_near words b a run.ending (sym (put_status _ _ run.puts (λ nine. omega (arith, eleven, nine))) ∙ eleven) run.answer in
         record { files = near.files; reads = near.flash.reads; launches = λ flash launcher. ap (λ (x : Launching). x.launches) same }
@@ -281,8 +282,8 @@ module _ (words : List (List ℕ)) (l m : Launching) (b a : Outside) (sb sa : Su
     of_way (AsUpdate name uris end lines word updates puts) =
         update_starved name (pairs_of uris) l m b a records end lines updates (sym (put_status _ _ puts (λ nine. omega (arith, eleven, nine))) ∙ eleven)
 
-  pub cut_off : result ≡ 9 → IsCutOff words l m b a sb sa
+  pub cut_off : result ≡ 9 → IsCutOff words (seen b l) (seen a m) sb sa
   cut_off nine = of_puts runs.puts where
-    of_puts : Puts sb sa runs.ended result → IsCutOff words l m b a sb sa
+    of_puts : Puts sb sa runs.ended result → IsCutOff words (seen b l) (seen a m) sb sa
     of_puts (IsPut is still puts) = absurd (not_nine_ended runs.ended (sym is ∙ nine))
     of_puts (IsCut is faulted puts) = record { faulted = faulted; ended = runs.ended; comes = runs.comes; puts = puts }

@@ -17,6 +17,7 @@ use Rattle.invoke_proc.specs.declared.boot_end.BootEnd.TheVariants as boot_ends
 use Rattle.invoke_proc.proofs.Booted.{payloads_in}
 use Rattle.update_proc.specs.declared.update_end.UpdateEnd.{UpdateEnd}
 use Rattle.update_proc.specs.declared.update_end.UpdateEnd.TheVariants as update_ends
+use Rattle.suit_cli.specs.Surroundings.{seen}
 use Rattle.suit_cli.specs.declared.reply.Object.TheVariants as objects
 use Rattle.suit_cli.specs.declared.reply.Reply.{Reply}
 use Rattle.suit_cli.specs.Words.{Task, Make, Describe, Show, Check, RunInit, RunUpdate, RunBoot, RunStatus, RunMigrate, Drill}
@@ -137,8 +138,8 @@ boot_not_eleven _ eleven = omega (arith, eleven)
 -- ---- an update
 
 module _ (name : List ℕ) (uris : List (List ℕ × List ℕ)) (l m : Launching) (b a : Outside) where
-  update_found : (lines : List ℕ) (u : Updates name uris l m b a update_ends.NoMemory lines)
-      → (IsTrue b.flash.told → (held : Option Record) × RecordOf u.o.frame (head_of u.o.frame b.flash.reads) held) → AsFound l m b a
+  update_found : (lines : List ℕ) (u : Updates name uris (seen b l) (seen a m) update_ends.NoMemory lines)
+      → (IsTrue b.flash.told → (held : Option Record) × RecordOf u.o.frame (head_of u.o.frame b.flash.reads) held) → AsFound (seen b l) (seen a m)
   update_found lines u recorded =
       let f = facts u.o.frame u.o.layout u.o.key u.o.bytes u.o.accepted u.is_accepted in
       let digest : Digest = f.authentic.digest in
@@ -156,7 +157,7 @@ module _ (name : List ℕ) (uris : List (List ℕ × List ℕ)) (l m : Launching
             (recorded flash).0 digest f.authentic.blocks (there flash) states payloads.0 payloads.1;
       }
 
-  pub update_starved : SomeAnswer → (end : UpdateEnd) (lines : List ℕ) → Updates name uris l m b a end lines → update_status end ≡ 11 → AsFound l m b a
+  pub update_starved : SomeAnswer → (end : UpdateEnd) (lines : List ℕ) → Updates name uris (seen b l) (seen a m) end lines → update_status end ≡ 11 → AsFound (seen b l) (seen a m)
   update_starved records update_ends.NoMemory lines u eleven = update_found lines u (λ t. records u.o.frame (head_of u.o.frame b.flash.reads))
   update_starved records (update_ends.Stopped place cause) lines u eleven = absurd (cause_not_eleven cause eleven)
   update_starved records _ lines u eleven = absurd (omega (arith, eleven))

@@ -1,6 +1,7 @@
 -- The answer to `run update`.
 use Rattle.std.specs.Prelude.{IsTrue}
 use Rattle.std.proofs.Common.{◌≡◌, ℕ, List, Option, Err, refl, sym, subst}
+use Rattle.step_machine.specs.Devices.{device_at}
 use Rattle.suit_edge.specs.Flash.{Flash, IsFlash, IsSame}
 use Rattle.suit_edge.specs.FlashLaws.{same_flash_then}
 use Rattle.suit_envelope.specs.Trimmed.{trimmed}
@@ -14,6 +15,7 @@ use Rattle.flash_layout.specs.Frames.{head_of}
 use Rattle.flash_layout.specs.ConfigLaws.{OneAnswer}
 use Rattle.rollback_record.specs.HeadRecord.{RecordOf}
 use Rattle.rollback_record.specs.SoundFlash.{Settled}
+use Rattle.update_proc.specs.Moments.{placed_on}
 use Rattle.update_proc.specs.declared.update_end.UpdateEnd.{UpdateEnd}
 use Rattle.update_proc.specs.Updates.{PlaysToEnd}
 use Rattle.update_proc.proofs.Reread.{keeps_from, kept_from}
@@ -124,8 +126,8 @@ module _ (name : List ℕ) (uris : List (List ℕ × List ℕ)) (l : Launching) 
 
   done_since : (held : Option Record) (made : List ℕ) → IsDone (offer frame layout key bytes x) uris since after held made → IsDone (offer frame layout key bytes x) uris start after held made
   done_since held made did host launcher =
-      subst (λ (r : List ℕ). PlaysToEnd layout x.places (update_tree x.manifest x.members) held bytes uris before.files r l.launches after.launcher.launches made) same.reads
-      (subst (λ (f : Files). PlaysToEnd layout x.places (update_tree x.manifest x.members) held bytes uris f b.reads l.launches after.launcher.launches made) (files_are host)
+      subst (λ (r : List ℕ). PlaysToEnd (placed_on frame layout x.places (update_tree x.manifest x.members)) held bytes uris before.files (device_at r l.launches) (device_at made after.launcher.launches)) same.reads
+      (subst (λ (f : Files). PlaysToEnd (placed_on frame layout x.places (update_tree x.manifest x.members)) held bytes uris f (device_at b.reads l.launches) (device_at made after.launcher.launches)) (files_are host)
       (did (subst IsTrue (sym told_is) host) launcher))
 
   kept_since : (end : UpdateEnd) → KeepsOffer (offer frame layout key bytes x) uris since after end → KeepsOffer (offer frame layout key bytes x) uris start after end

@@ -1,6 +1,7 @@
 -- Why an update ends so.
 use Rattle.std.proofs.Common.{◌≡◌, ◌⊎◌, inl, inr, ℕ, Bool, List, Option, Some, None, refl, sym, ap, subst, ◌∙◌, arith}
 use Rattle.std.specs.Prelude.{IsTrue}
+use Rattle.step_machine.specs.Devices.{device_at}
 use Rattle.suit_edge.specs.declared.launch.Launch.{Launch}
 use Rattle.suit_envelope.specs.EnvelopeLaws.{EnvelopeLaws}
 use Rattle.suit_envelope.specs.Envelopes.{EnvelopeSays}
@@ -30,7 +31,8 @@ use Rattle.suit_cli.specs.Envelopes.{ManifestOf}
 use Rattle.suit_cli.specs.Launching.{Launching}
 use Rattle.suit_cli.specs.Inputs.{IsRead, longest_file}
 use Rattle.suit_cli.specs.Outside.{Flashed, Outside, with_flash}
-use Rattle.suit_cli.specs.Updating.{Updates, Offer, offer, tree_of}
+use Rattle.suit_cli.specs.Surroundings.{seen}
+use Rattle.suit_cli.specs.Updating.{Updates, Offer, offer, placed_of}
 use Rattle.suit_cli.specs.UpdateEndLaws.{Beside, UpdateEnds, IsLower, IsOther, IsWorn, IsInstalled, IsStopped, IsFailed, FlashFailed, MemoryRanOut, UpdateEndLaws, UpdateIsCaused, UpdateIsJudged, IsOffered, IsEndOf, IsNoEnd}
 use Rattle.suit_cli.proofs.AcceptedFacts.{facts}
 use Rattle.suit_cli.proofs.OneStage.{one_envelope, one_manifest, one_read}
@@ -42,7 +44,7 @@ module _ (o : Offer) (uris : List (List ℕ × List ℕ)) (launched now : Launch
   abbrev IsPlayedSo : UpdateEnd → Type 0
   IsPlayedSo end =
       Beside o before (λ number digest held. (payloads : List (List ℕ × List ℕ)) → HasPayloads o.bytes payloads
-      → PlayedSo (λ made play. (since : List (List ℕ)) × PlaysUpdate o.layout o.accepted.places (tree_of o.accepted) held (sources payloads uris (hosted before.told before.files since after.asked)) before.flash.reads made launched.launches now.launches play)
+      → PlayedSo (λ made play. (since : List (List ℕ)) × PlaysUpdate (placed_of o) held (sources payloads uris (hosted before.told before.files since after.asked)) (device_at before.flash.reads launched.launches) (device_at made now.launches) play)
       (after.flash.reads ≡ before.flash.reads) o.layout after.flash.reads launched.launches now.launches end)
 
   of_end : (end : UpdateEnd) → IsJudgedSo end → IsPlayedSo end → UpdateEnds o uris launched now before after end
@@ -69,7 +71,7 @@ somewhere P Same layout after launched now ends.Worn since p = p
 somewhere P Same layout after launched now ends.NoMemory since p = p
 
 module _ (name : List ℕ) (uris : List (List ℕ × List ℕ)) (launched now : Launching) (before after : Outside) (end : UpdateEnd) (lines : List ℕ) (flash_told : IsTrue before.flash.told)
-    (u : Updates name uris launched now before after end lines) where
+    (u : Updates name uris (seen before launched) (seen after now) end lines) where
   here_told : u.configured.told ≡ before.told
   here_told = ap (λ (x : Outside). x.told) u.held.0.beside
 
@@ -101,19 +103,19 @@ module _ (name : List ℕ) (uris : List (List ℕ × List ℕ)) (launched now : 
 
     abbrev Plays : Option Record → List (List ℕ × List ℕ) → Bool → (List ℕ → Option (List ℕ)) → List ℕ → Type 0
     Plays held payloads t f l =
-        PlayedSo (λ made play. PlaysUpdate u.o.layout u.o.accepted.places (tree_of u.o.accepted) held (sources payloads uris (hosted t f u.middle.asked after.asked)) l made launched.launches now.launches play)
+        PlayedSo (λ made play. PlaysUpdate (placed_of u.o) held (sources payloads uris (hosted t f u.middle.asked after.asked)) (device_at l launched.launches) (device_at made now.launches) play)
         (after.flash.reads ≡ l) u.o.layout after.flash.reads launched.launches now.launches end
 
     played : IsPlayedSo u.o uris launched now before after end
     played held digest blocks record_is says payloads has =
-        somewhere (λ made play since. PlaysUpdate u.o.layout u.o.accepted.places (tree_of u.o.accepted) held (sources payloads uris (hosted before.told before.files since after.asked)) before.flash.reads made launched.launches now.launches play)
+        somewhere (λ made play since. PlaysUpdate (placed_of u.o) held (sources payloads uris (hosted before.told before.files since after.asked)) (device_at before.flash.reads launched.launches) (device_at made now.launches) play)
         (after.flash.reads ≡ before.flash.reads) u.o.layout after.flash.reads launched.launches now.launches end u.middle.asked
         (subst (λ (t : Bool). Plays held payloads t before.files before.flash.reads) (u.read.0.quiet.told ∙ here_told)
         (subst (λ (f : List ℕ → Option (List ℕ)). Plays held payloads u.middle.told f before.flash.reads) files
         (subst (λ (l : List ℕ). Plays held payloads u.middle.told u.middle.files l) reads
         (u.update.plays flash_tells launcher held digest blocks (subst (λ (l : List ℕ). RecordOf u.o.frame (head_of u.o.frame l) held) (sym reads) record_is) says payloads has))))
 
-    pub only : UpdateIsCaused name uris launched now before after end lines
+    pub only : UpdateIsCaused name uris (seen before launched) (seen after now) end lines
     only = record {
       layout = u.o.layout;
       key = u.o.key;
@@ -162,7 +164,7 @@ module _ (number : ℕ) (digest : Digest) where
 
 module _ (configs : OneAnswer) (envelopes : EnvelopeLaws) (manifests : ManifestLaws) (name : List ℕ) (uris : List (List ℕ × List ℕ)) (launched now : Launching) (before after : Outside) (verdict : Judged)
     (told : IsTrue before.told) (flash_told : IsTrue before.flash.told) (f : IsOffered name before verdict) where
-  module _ (end : UpdateEnd) (lines : List ℕ) (u : UpdateIsCaused name uris launched now before after end lines) where
+  module _ (end : UpdateEnd) (lines : List ℕ) (u : UpdateIsCaused name uris (seen before launched) (seen after now) end lines) where
     same_config : Configured u.layout u.key u.frame ≡ Configured f.layout f.key f.frame
     same_config = configs before.flash.size before.flash.reads (Configured u.layout u.key u.frame) (Configured f.layout f.key f.frame) (u.config flash_told) (f.config flash_told)
 
@@ -221,9 +223,9 @@ module _ (configs : OneAnswer) (envelopes : EnvelopeLaws) (manifests : ManifestL
 
 pub update_end_laws : OneAnswer → EnvelopeLaws → ManifestLaws → UpdateEndLaws
 update_end_laws configs envelopes manifests = record {
-  only = λ name uris launched now before after end lines told flash launcher u. only name uris launched now before after end lines flash u told launcher;
-  judged = λ name uris launched now before after end lines flash u. judged name uris launched now before after end lines flash u;
-  always = λ name uris launched now before after end lines verdict told flash launcher f u.
-      let caused = only name uris launched now before after end lines flash u told launcher in
-      by_end configs envelopes manifests name uris launched now before after verdict told flash f end lines caused end caused.ends;
+  only = λ name uris before after end lines told flash launcher u. only name uris before.launcher after.launcher before.outside after.outside end lines flash u told launcher;
+  judged = λ name uris before after end lines flash u. judged name uris before.launcher after.launcher before.outside after.outside end lines flash u;
+  always = λ name uris before after end lines verdict told flash launcher f u.
+      let caused = only name uris before.launcher after.launcher before.outside after.outside end lines flash u told launcher in
+      by_end configs envelopes manifests name uris before.launcher after.launcher before.outside after.outside verdict told flash f end lines caused end caused.ends;
 }

@@ -11,6 +11,7 @@ use Rattle.update_proc.specs.declared.update_end.UpdateEnd.TheVariants as ends
 use Rattle.update_proc.specs.Ends.{UpdateCounts}
 use Rattle.suit_cli.specs.Outside.{Outside, Flashed}
 use Rattle.suit_cli.specs.Launching.{Launching, cause_status}
+use Rattle.suit_cli.specs.Surroundings.{seen}
 use Rattle.suit_cli.specs.Updating.{Updates, update_status}
 
 -- ---- the counts, by a status
@@ -94,7 +95,7 @@ by_update (ends.Stopped place cause) before now c = by_cause cause before now c
 
 -- ---- from the start of the run
 
-module _ (name : List ℕ) (uris : List (List ℕ × List ℕ)) (l m : Launching) (b a : Outside) (end : UpdateEnd) (lines : List ℕ) (u : Updates name uris l m b a end lines) where
+module _ (name : List ℕ) (uris : List (List ℕ × List ℕ)) (l m : Launching) (b a : Outside) (end : UpdateEnd) (lines : List ℕ) (u : Updates name uris (seen b l) (seen a m) end lines) where
   same_told : u.middle.told ≡ b.told
   same_told = u.read.0.quiet.told ∙ ap (λ (o : Outside). o.told) u.held.0.beside
 

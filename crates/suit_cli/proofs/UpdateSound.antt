@@ -25,7 +25,7 @@ use Rattle.flash_slots.specs.RamContents.{empty_ram}
 use Rattle.rollback_record.specs.HeadRecord.{RecordOf}
 use Rattle.rollback_record.specs.SoundFlash.{IsInstalled, Sound}
 use Rattle.rollback_record.proofs.SoundBy.{SoundBy, BlankBy, EmptyBy, InstalledBy, sound_by}
-use Rattle.step_machine.specs.Devices.{contents_of}
+use Rattle.step_machine.specs.Devices.{contents_of, device_at}
 use Rattle.step_machine.specs.Invoking.{launched_as}
 use Rattle.step_machine.specs.PlanRuns.{setting_of}
 use Rattle.step_machine.specs.Worlds.{AreDistinct}
@@ -36,6 +36,7 @@ use Rattle.invoke_proc.proofs.Places.{are_distinct, are_identities}
 use Rattle.invoke_proc.proofs.SoundBoot.{have_digests}
 use Rattle.update_proc.specs.Choices.{AreChosen, active_slots}
 use Rattle.update_proc.specs.Installing.{MayBeInstalled}
+use Rattle.update_proc.specs.Moments.{placed_on}
 use Rattle.update_proc.specs.Offered.{ForOffer}
 use Rattle.update_proc.specs.Updates.{Hosted, LaunchesBy, PlaysUpdate, sources}
 use Rattle.place_laws.specs.Installing.{InstalledAnywhere}
@@ -130,7 +131,7 @@ module _ (safe : SafeLaunches) (faulted : FaultedSafeLaunches) (manifests : Mani
   has_payloads = record { said = a.said; envelope = f.envelope; are = refl }
 
   abbrev Plays : Option Record → List ℕ → PlanEnd → Type 0
-  Plays held made end = PlaysUpdate layout a.places (update_tree a.manifest a.members) held (sources payloads uris host) before made launched now end
+  Plays held made end = PlaysUpdate (placed_on frame layout a.places (update_tree a.manifest a.members)) held (sources payloads uris host) (device_at before launched) (device_at made now) end
 
   gains_played : (held : Option Record) (made : List ℕ) (end : PlanEnd) → Plays held made end → GainsSafe launched now
   gains_played held made end p = record {
@@ -149,6 +150,6 @@ module _ (safe : SafeLaunches) (faulted : FaultedSafeLaunches) (manifests : Mani
 
   -- whatever payloads it is said of
   pub gains_update : ((p : List (List ℕ × List ℕ)) → HasPayloads bytes p
-      → LaunchesBy frame (λ held made end. PlaysUpdate layout a.places (update_tree a.manifest a.members) held (sources p uris host) before made launched now end) before launched now)
+      → LaunchesBy frame (λ held made end. PlaysUpdate (placed_on frame layout a.places (update_tree a.manifest a.members)) held (sources p uris host) (device_at before launched) (device_at made now) end) before launched now)
       → GainsSafe launched now
   gains_update launches = of_launches (launches payloads has_payloads)

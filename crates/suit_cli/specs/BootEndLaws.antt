@@ -1,5 +1,6 @@
 -- Why `run boot` ends so: the cause of each status, over a flash that tells what it holds.
 use Rattle.std.specs.Prelude.{◌≡◌, ◌⊎◌, ℕ, IsTrue, List, Some, None, codes}
+use Rattle.step_machine.specs.Devices.{device_at}
 use Rattle.suit_params.specs.declared.refusal.Refusal.{Refusal}
 use Rattle.suit_manifest.specs.declared.manifest.Manifest.{Manifest}
 use Rattle.flash_layout.specs.declared.frame.Frame.{Frame}
@@ -86,9 +87,9 @@ pub record Played (launched now : Launching) (before after : Outside) (ended : E
   pub config : Holds before.flash (layout, key, frame)
   pub end : PlanEnd
   pub plays :
-      PlaysBoot frame layout key before.files before.flash.reads after.flash.reads
-      launched.launches
-      now.launches end
+      PlaysBoot frame layout key before.files
+      (device_at before.flash.reads launched.launches) (device_at after.flash.reads now.launches)
+      end
   pub ends_so : ended ≡ Booted (end_of end) (boot_line (end_of end))
 
 -- the flash failed outside of the procedure, status 8, or memory ran out, 11

@@ -1,5 +1,6 @@
 -- The result of `run boot`.
 use Rattle.std.specs.Prelude.{◌≡◌, ℕ, IsTrue, List, codes}
+use Rattle.step_machine.specs.Devices.{device_at}
 use Rattle.suit_edge.specs.Flash.{Flash}
 use Rattle.flash_layout.specs.declared.frame.Frame.{Frame}
 use Rattle.flash_layout.specs.declared.key.Key.{Key}
@@ -69,9 +70,9 @@ pub record IsBoot (config : List Entry × Key × Frame) (launched now : Launchin
       → booting.KeptSo (Unit {0}) (after.flash.reads ≡ before.flash.reads) end
   pub plays : IsTrue before.flash.told → IsTrue launched.told
       → PlayedSo
-      (PlaysBoot config.2 config.0 config.1 before.files before.flash.reads after.flash.reads
-      launched.launches
-      now.launches)
+      (PlaysBoot config.2 config.0 config.1 before.files
+      (device_at before.flash.reads launched.launches)
+      (device_at after.flash.reads now.launches))
       (after.flash.reads ≡ before.flash.reads) launched.launches now.launches end
   pub safe : IsTrue before.flash.told → IsTrue launched.told
       → Sound before.flash.reads

@@ -15,7 +15,7 @@ use Rattle.suit_cli.specs.Outside.{Outside}
 use Rattle.suit_cli.specs.Stages.{Ending, NoMemory, Answers, ending_of}
 use Rattle.suit_cli.specs.Statuses.{ending_status, ending_text}
 use Rattle.suit_cli.specs.Launching.{Launching}
-use Rattle.suit_cli.specs.Surroundings.{Surroundings}
+use Rattle.suit_cli.specs.Surroundings.{Surroundings, seen}
 use Rattle.suit_cli.specs.Migrating.{KeepsTold}
 use Rattle.suit_cli.specs.Booting.{IsBoot, Boots, KeepsBooted, boot_line, boot_status}
 use Rattle.suit_cli.specs.Updating.{IsUpdate, KeepsFlash, KeepsOffer, Offer, Updates, update_line, update_status}
@@ -50,7 +50,7 @@ pub data Comes (stages : Answers) (Is : Task → Type 0) (launched now : Launchi
       → Comes stages Is launched now before after (Booted end lines)
   ByUpdate : (name : List ℕ) (uris : List Named) (end : UpdateEnd) (lines : List ℕ)
       → Is (RunUpdate name uris)
-      → Updates name (pairs_of uris) launched now before after end lines
+      → Updates name (pairs_of uris) (seen before launched) (seen after now) end lines
       → Comes stages Is launched now before after (Updated end lines)
 
 -- each image that a power loss may leave on the way is sound, and goes on from what reads gave at the start

@@ -18,7 +18,7 @@ use Rattle.suit_cli.specs.Inputs.{IsRead, longest_file}
 use Rattle.suit_cli.specs.Outside.{Files}
 use Rattle.suit_cli.specs.Replies.{IsReply}
 use Rattle.suit_cli.specs.Surroundings.{Surroundings}
-use Rattle.suit_cli.specs.Updating.{HasOffer, IsDone, Offer, new_of, tree_of}
+use Rattle.suit_cli.specs.Updating.{HasOffer, IsDone, Offer, new_of, tree_of, placed_of}
 use Rattle.suit_cli.specs.Words.{pairs_of}
 
 -- ---- the image that a cut leaves
@@ -35,8 +35,7 @@ pub record HasOldOrNew (o : Offer) (uris : List (List ℕ × List ℕ)) (before 
   pub others :
       KeepsContents o.layout o.accepted.places (tree_of o.accepted) numbers before.flash.reads made
   pub stands :
-      IsOld o.frame o.layout o.accepted.places (tree_of o.accepted) numbers held
-      before.flash.reads left
+      IsOld (placed_of o) numbers held before.flash.reads left
       ⊎
       (IsNew o.frame o.layout (new_of o.frame o.accepted held before.flash.reads digest numbers)
       made left

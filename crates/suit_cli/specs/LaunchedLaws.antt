@@ -1,5 +1,6 @@
 -- The launches of a boot of a sound flash, and so over the whole life of a flash.
 use Rattle.std.specs.Prelude.{◌≡◌, ◌⊎◌, ℕ, IsTrue, List, length, Option, All}
+use Rattle.step_machine.specs.Devices.{device_at}
 use Rattle.suit_edge.specs.declared.launch.Launch.{Launch}
 use Rattle.flash_layout.specs.declared.frame.Frame.{Frame}
 use Rattle.flash_layout.specs.declared.key.Key.{Key}
@@ -27,7 +28,9 @@ pub record LaunchesRecorded (layout : List Entry) (key : Key) (files : List ℕ 
   pub is :
       IsInstalled layout key (recorded_bank frame (head_of frame image) installed) installed
   pub end : PlanEnd
-  pub plays : PlaysOn layout is.said installed.active files image after launched now end
+  pub plays :
+      PlaysOn layout is.said installed.active files (device_at image launched)
+      (device_at after now) end
   pub gains : GainsSafe launched now
 
 -- flash and launcher tell what they hold, and the flash reads the image

@@ -1,5 +1,6 @@
 -- The launches of an update.
 use Rattle.std.specs.Prelude.{◌≡◌, ◌⊎◌, ℕ, IsTrue, List, length, Option, Some}
+use Rattle.step_machine.specs.Devices.{device_at}
 use Rattle.suit_edge.specs.declared.launch.Launch.{Launch}
 use Rattle.suit_envelope.specs.Payloads.{HasPayloads}
 use Rattle.flash_layout.specs.declared.frame.Frame.{Frame}
@@ -11,12 +12,12 @@ use Rattle.flash_layout.specs.Frames.{head_of}
 use Rattle.rollback_record.specs.HeadRecord.{RecordOf}
 use Rattle.step_machine.specs.declared.plan_end.PlanEnd.{PlanEnd}
 use Rattle.invoke_proc.specs.Booting.{GainsSafe}
+use Rattle.update_proc.specs.Moments.{placed_on}
 use Rattle.update_proc.specs.declared.update_end.UpdateEnd.{UpdateEnd}
 use Rattle.update_proc.specs.Updates.{Hosted, PlaysUpdate, sources}
 use Rattle.suit_cli.specs.Acceptance.{Accepted, IsAccepted}
-use Rattle.suit_cli.specs.Launching.{Launching}
 use Rattle.suit_cli.specs.LaunchedLaws.{TellsImage}
-use Rattle.suit_cli.specs.Outside.{Outside}
+use Rattle.suit_cli.specs.Surroundings.{Seen}
 use Rattle.suit_cli.specs.Updating.{Updates, tree_of}
 
 -- These bytes were accepted under the configuration of the image: they are an envelope that is authentic under its key, and
@@ -37,20 +38,21 @@ pub record LaunchesAccepted (uris : List (List ℕ × List ℕ)) (layout : List 
   pub made : List ℕ
   pub end : PlanEnd
   pub plays :
-      PlaysUpdate layout accepted.places (tree_of accepted) held (sources payloads uris host) image
-      made launched now end
+      PlaysUpdate (placed_on frame layout accepted.places (tree_of accepted)) held
+      (sources payloads uris host) (device_at image launched) (device_at made now) end
   pub gains : GainsSafe launched now
 
 -- each update of the image launches nothing, or what the file's procedure does; a host that tells has that file
 abbrev pub UpdatesAccepted : List ℕ → Type 0
 UpdatesAccepted image =
-    (name : List ℕ) (uris : List (List ℕ × List ℕ)) (launched now : Launching)
-    (before after : Outside) (end : UpdateEnd) (lines : List ℕ)
-    → TellsImage image launched before → Updates name uris launched now before after end lines
-    → (now.launches ≡ launched.launches)
+    (name : List ℕ) (uris : List (List ℕ × List ℕ)) (before after : Seen) (end : UpdateEnd)
+    (lines : List ℕ)
+    → TellsImage image before.launcher before.outside → Updates name uris before after end lines
+    → (after.launcher.launches ≡ before.launcher.launches)
     ⊎ ((layout : List Entry) × (key : Key) × (bytes : List ℕ)
-    × (IsTrue before.told → before.files name ≡ Some bytes)
-    × LaunchesAccepted uris layout key bytes image launched.launches now.launches)
+    × (IsTrue before.outside.told → before.outside.files name ≡ Some bytes)
+    × LaunchesAccepted uris layout key bytes image before.launcher.launches
+    after.launcher.launches)
 
 -- so it is with each image, whatever the host is and gives
 abbrev pub LaunchedUpdateLaws : Type 0

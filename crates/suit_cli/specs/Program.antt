@@ -15,7 +15,7 @@ use Rattle.suit_cli.specs.Outside.{Outside, Files, Sunk, Leaves}
 use Rattle.suit_cli.specs.Stages.{Stage, judging, Answers, ◌>>=◌}
 use Rattle.suit_cli.specs.Statuses.{sink_fault_status}
 use Rattle.suit_cli.specs.Launching.{Launching}
-use Rattle.suit_cli.specs.Surroundings.{Surroundings}
+use Rattle.suit_cli.specs.Surroundings.{Seen, Surroundings, seen}
 use Rattle.suit_cli.specs.Updating.{most_room}
 use Rattle.suit_cli.specs.Coming.{Ended, Comes, BootKeeps, MigrateKeeps, KeepsSound, StaysOrKeeps, ended_status, ended_text}
 use Rattle.suit_cli.specs.Inputs.{longest_file, longest_device, longest_key}
@@ -57,10 +57,11 @@ Puts before after ended result =
     PutsText before after (ended_status ended) (ended_text ended) result
 
 -- the words had an answer over the outside and the launcher, and it was put
-pub record Performs (words : List (List ℕ)) (launched now : Launching) (before after : Outside)
-    (sunk_before sunk_after : Sunk) (result : ℕ) : Type 0 where
+pub record Performs (words : List (List ℕ)) (before after : Seen) (sunk_before sunk_after : Sunk)
+    (result : ℕ) : Type 0 where
   pub ended : Ended
-  pub comes : ComesTo words launched now before after ended
+  pub comes :
+      ComesTo words before.launcher after.launcher before.outside after.outside ended
   pub puts : Puts sunk_before sunk_after ended result
 
 -- ---- statuses
@@ -143,11 +144,12 @@ pub record IsUsage (words : List (List ℕ)) (sunk_before sunk_after : Sunk) : T
 -- ---- output that is cut off
 
 -- the sink counted a fault, and only the beginning of the answer's lines was put
-pub record IsCutOff (words : List (List ℕ)) (launched now : Launching) (before after : Outside)
-    (sunk_before sunk_after : Sunk) : Type 0 where
+pub record IsCutOff (words : List (List ℕ)) (before after : Seen) (sunk_before sunk_after : Sunk)
+    : Type 0 where
   pub faulted : Faulted sunk_before.faults sunk_after.faults
   pub ended : Ended
-  pub comes : ComesTo words launched now before after ended
+  pub comes :
+      ComesTo words before.launcher after.launcher before.outside after.outside ended
   pub puts : IsTrue sunk_before.told
       → (n : ℕ) × (sunk_after.put ≡ sunk_before.put ++ take n (ended_text ended))
 
@@ -225,26 +227,28 @@ MayHide words result = MayLaunch (task_of words) × (result ≡ 8)
 -- Each status of a fault comes only where the count of its object rose. Where it does not come, and the sink did not fail
 -- either, that count stays, but that in `run boot` and `run update` a fault of the flash may come behind one of another
 -- object, and a launcher may fail where the flash did.
-pub record AreCounted (words : List (List ℕ)) (launched now : Launching) (before after : Outside)
-    (sunk_before sunk_after : Sunk) (result : ℕ) : Type 0 where
-  pub host : result ≡ 7 → Faulted before.faults after.faults
+pub record AreCounted (words : List (List ℕ)) (before after : Seen) (sunk_before sunk_after : Sunk)
+    (result : ℕ) : Type 0 where
+  pub host : result ≡ 7 → Faulted before.outside.faults after.outside.faults
   pub only_host : result ≢ 7 → result ≢ 9 → (MayHide words result → ⊥)
-      → after.faults ≡ before.faults
-  pub flash : result ≡ 8 → Faulted before.flash.faults after.flash.faults
-  pub only_flash : result ≢ 8 → result ≢ 9 → result ≢ 10 → after.flash.faults ≡ before.flash.faults
-  pub launcher : result ≡ 10 → Faulted launched.faults now.faults
+      → after.outside.faults ≡ before.outside.faults
+  pub flash : result ≡ 8 → Faulted before.outside.flash.faults after.outside.flash.faults
+  pub only_flash : result ≢ 8 → result ≢ 9 → result ≢ 10
+      → after.outside.flash.faults ≡ before.outside.flash.faults
+  pub launcher : result ≡ 10 → Faulted before.launcher.faults after.launcher.faults
   pub only_launcher : result ≢ 10 → result ≢ 9 → (MayHide words result → ⊥)
-      → now.faults ≡ launched.faults
+      → after.launcher.faults ≡ before.launcher.faults
   pub only_output : result ≢ 9 → sunk_after.faults ≡ sunk_before.faults
 
 -- ---- running out of memory
 
 -- Status 11: no file changed, the flash reads as it did, and nothing was launched.
-pub record AsFound (launched now : Launching) (before after : Outside) : Type 0 where
-  pub files : IsTrue before.told → after.files ≡ before.files
-  pub reads : IsTrue before.flash.told → after.flash.reads ≡ before.flash.reads
-  pub launches : IsTrue before.flash.told → IsTrue launched.told
-      → now.launches ≡ launched.launches
+pub record AsFound (before after : Seen) : Type 0 where
+  pub files : IsTrue before.outside.told → after.outside.files ≡ before.outside.files
+  pub reads : IsTrue before.outside.flash.told
+      → after.outside.flash.reads ≡ before.outside.flash.reads
+  pub launches : IsTrue before.outside.flash.told → IsTrue before.launcher.told
+      → after.launcher.launches ≡ before.launcher.launches
 
 -- ---- launches
 
@@ -307,8 +311,8 @@ beside_sink w = record { outside = w.outside; launcher = w.launcher; flash = w.f
 -- power loss leaves no other image than these.
 pub record Runs (words : List (List ℕ)) (before after : World) (result : ℕ) : Type 0 where
   pub performs :
-      Performs words before.launcher after.launcher before.outside after.outside before.sink
-      after.sink result
+      Performs words (seen before.outside before.launcher) (seen after.outside after.launcher)
+      before.sink after.sink result
   pub any_moment : IsTrue before.outside.flash.told
       → Passes before.flash after.flash (MayBeLeft (task_of words) before.outside before.flash)
   pub keeps : IsTrue before.outside.flash.told

@@ -1,5 +1,6 @@
 -- Why an update that `run update` began ends so: the cause of each status, over objects that tell what they hold.
 use Rattle.std.specs.Prelude.{◌≡◌, ◌⊎◌, ℕ, IsTrue, List, Option}
+use Rattle.step_machine.specs.Devices.{device_at}
 use Rattle.suit_envelope.specs.Payloads.{HasPayloads}
 use Rattle.suit_envelope.specs.WrapperParts.{WrapperSays}
 use Rattle.suit_params.specs.declared.digest.Digest.{Digest}
@@ -25,7 +26,8 @@ use Rattle.suit_cli.specs.Inputs.{longest_file, IsRead}
 use Rattle.suit_cli.specs.Installed.{Holds}
 use Rattle.suit_cli.specs.Launching.{Launching}
 use Rattle.suit_cli.specs.Outside.{Outside}
-use Rattle.suit_cli.specs.Updating.{Updates, Offer, offer, tree_of, update_line}
+use Rattle.suit_cli.specs.Surroundings.{Seen}
+use Rattle.suit_cli.specs.Updating.{Updates, Offer, offer, placed_of, update_line}
 
 -- the number of what is offered and the digest of its manifest, beside the record that the flash has
 abbrev pub Beside : Offer → Outside → (ℕ → Digest → Option Record → Type 0) → Type 0
@@ -46,9 +48,9 @@ PlayedBeside o uris launched now before after end =
     × ((payloads : List (List ℕ × List ℕ)) → HasPayloads o.bytes payloads
     → PlaysAndLeaves
     (λ made play. (since : List (List ℕ))
-    × PlaysUpdate o.layout o.accepted.places (tree_of o.accepted) held
+    × PlaysUpdate (placed_of o) held
     (sources payloads uris (hosted before.told before.files since after.asked))
-    before.flash.reads made launched.launches now.launches play)
+    (device_at before.flash.reads launched.launches) (device_at made now.launches) play)
     o.layout after.flash.reads end))
 
 pub data UpdateEnds (o : Offer) (uris : List (List ℕ × List ℕ)) (launched now : Launching)
@@ -77,18 +79,19 @@ pub data UpdateEnds (o : Offer) (uris : List (List ℕ × List ℕ)) (launched n
   MemoryRanOut : UpdateEnds o uris launched now before after ends.NoMemory
 
 -- the file was accepted under the configuration of the flash, and its end has that cause and that line
-pub record UpdateIsCaused (name : List ℕ) (uris : List (List ℕ × List ℕ)) (launched now : Launching)
-    (before after : Outside) (end : UpdateEnd) (lines : List ℕ) : Type 0 where
+pub record UpdateIsCaused (name : List ℕ) (uris : List (List ℕ × List ℕ)) (before after : Seen)
+    (end : UpdateEnd) (lines : List ℕ) : Type 0 where
   pub layout : List Entry
   pub key : Key
   pub frame : Frame
-  pub config : Holds before.flash (layout, key, frame)
+  pub config : Holds before.outside.flash (layout, key, frame)
   pub bytes : List ℕ
-  pub read : IsRead longest_file name before bytes
+  pub read : IsRead longest_file name before.outside bytes
   pub accepted : Accepted
   pub is_accepted : IsAccepted frame layout key bytes accepted
   pub ends :
-      UpdateEnds (offer frame layout key bytes accepted) uris launched now before after end
+      UpdateEnds (offer frame layout key bytes accepted) uris before.launcher after.launcher
+      before.outside after.outside end
   pub lines_are : lines ≡ update_line accepted.manifest.sequence end
 
 -- the same of the record alone: a file was accepted, and the verdict on it beside the record leads to that end
@@ -136,20 +139,22 @@ IsNoEnd _ = ⊥
 
 pub record UpdateEndLaws : Type 0 where
   -- each end has its cause
-  pub only : (name : List ℕ) (uris : List (List ℕ × List ℕ)) (launched now : Launching)
-      (before after : Outside) (end : UpdateEnd) (lines : List ℕ)
-      → IsTrue before.told → IsTrue before.flash.told → IsTrue launched.told
-      → Updates name uris launched now before after end lines
-      → UpdateIsCaused name uris launched now before after end lines
+  pub only : (name : List ℕ) (uris : List (List ℕ × List ℕ)) (before after : Seen)
+      (end : UpdateEnd) (lines : List ℕ)
+      → IsTrue before.outside.told → IsTrue before.outside.flash.told
+      → IsTrue before.launcher.told
+      → Updates name uris before after end lines
+      → UpdateIsCaused name uris before after end lines
   -- the verdict on what was accepted is that of the flash alone, whatever the host and the launcher are: statuses 5 and 19
-  pub judged : (name : List ℕ) (uris : List (List ℕ × List ℕ)) (launched now : Launching)
-      (before after : Outside) (end : UpdateEnd) (lines : List ℕ)
-      → IsTrue before.flash.told
-      → Updates name uris launched now before after end lines → UpdateIsJudged name before end
+  pub judged : (name : List ℕ) (uris : List (List ℕ × List ℕ)) (before after : Seen)
+      (end : UpdateEnd) (lines : List ℕ)
+      → IsTrue before.outside.flash.told
+      → Updates name uris before after end lines → UpdateIsJudged name before.outside end
   -- and where a verdict stands, each end is the one that it leads to, unless the flash failed or memory ran out
-  pub always : (name : List ℕ) (uris : List (List ℕ × List ℕ)) (launched now : Launching)
-      (before after : Outside) (end : UpdateEnd) (lines : List ℕ) (verdict : Judged)
-      → IsTrue before.told → IsTrue before.flash.told → IsTrue launched.told
-      → IsOffered name before verdict
-      → Updates name uris launched now before after end lines
+  pub always : (name : List ℕ) (uris : List (List ℕ × List ℕ)) (before after : Seen)
+      (end : UpdateEnd) (lines : List ℕ) (verdict : Judged)
+      → IsTrue before.outside.told → IsTrue before.outside.flash.told
+      → IsTrue before.launcher.told
+      → IsOffered name before.outside verdict
+      → Updates name uris before after end lines
       → IsEndOf verdict end ⊎ IsNoEnd end

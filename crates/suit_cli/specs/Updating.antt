@@ -15,6 +15,7 @@ use Rattle.flash_layout.specs.declared.slot.Record.{Record}
 use Rattle.flash_layout.specs.Configs.{ConfigOf, Configured}
 use Rattle.flash_layout.specs.Frames.{head_of}
 use Rattle.rollback_record.specs.HeadRecord.{RecordOf}
+use Rattle.step_machine.specs.Devices.{device_at}
 use Rattle.step_machine.specs.Fetching.{AsksAmong, asked_at}
 use Rattle.step_machine.specs.PlanRuns.{counts_of}
 use Rattle.step_machine.specs.UrisSet.{HasFetch}
@@ -22,6 +23,7 @@ use Rattle.invoke_proc.specs.Booting.{GainsSafe}
 use Rattle.update_proc.specs.declared.update_end.UpdateEnd.{UpdateEnd}
 use Rattle.update_proc.specs.declared.update_end.UpdateEnd.TheVariants as ends
 use Rattle.update_proc.specs.Ends.{IsUnbegun, JudgedSo, UpdateCounts}
+use Rattle.update_proc.specs.Moments.{Placed, placed_on}
 use Rattle.update_proc.specs.Offered.{ForOffer}
 use Rattle.update_proc.specs.Records.{new_record}
 use Rattle.update_proc.specs.Updates.{KeepsUpdate, KeptSo, LeavesUpdate, PlayedSo, PlaysToEnd, PlaysUpdate, hosted, sources}
@@ -31,7 +33,7 @@ use Rattle.suit_cli.specs.Outside.{Outside}
 use Rattle.suit_cli.specs.Inputs.{longest_file, IsRead, file}
 use Rattle.suit_cli.specs.Installed.{config_in}
 use Rattle.suit_cli.specs.Launching.{Launching, LeavesAlone, cause_status, cause_text, stopped_line}
-use Rattle.suit_cli.specs.Surroundings.{Surroundings}
+use Rattle.suit_cli.specs.Surroundings.{Seen, Surroundings}
 use Rattle.suit_cli.specs.Acceptance.{Accepted, IsAccepted}
 
 -- ---- the lines
@@ -88,6 +90,10 @@ pub record Offer : Type 0 where
   pub bytes : List ℕ
   pub accepted : Accepted
 
+-- its update procedure, on that flash
+abbrev pub placed_of : Offer → Placed
+placed_of o = placed_on o.frame o.layout o.accepted.places (tree_of o.accepted)
+
 -- No component has room for more on a flash of this size: a slot lies in it, and each working memory has at most 1,048,576
 -- bytes.
 abbrev pub most_room : ℕ → ℕ
@@ -115,15 +121,15 @@ pub record IsUpdate (o : Offer) (uris : List (List ℕ × List ℕ)) (launched n
       → ForOffer o.frame before.flash.reads o.accepted.said.wrapper (λ held digest.
       (payloads : List (List ℕ × List ℕ)) → HasPayloads o.bytes payloads
       → PlayedSo
-      (λ made play. PlaysUpdate o.layout o.accepted.places (tree_of o.accepted) held
+      (λ made play. PlaysUpdate (placed_of o) held
       (sources payloads uris (hosted before.told before.files before.asked after.asked))
-      before.flash.reads made launched.launches now.launches play)
+      (device_at before.flash.reads launched.launches) (device_at made now.launches) play)
       (after.flash.reads ≡ before.flash.reads) o.layout after.flash.reads launched.launches
       now.launches end)
   pub left : IsTrue before.flash.told
       → ForOffer o.frame before.flash.reads o.accepted.said.wrapper (λ held digest.
       KeptSo
-      (LeavesUpdate o.frame o.layout o.accepted.places (tree_of o.accepted) held
+      (LeavesUpdate (placed_of o) held
       (new_of o.frame o.accepted held before.flash.reads digest) before.flash.reads
       after.flash.reads end)
       (after.flash.reads ≡ before.flash.reads) end)
@@ -132,16 +138,15 @@ pub record IsUpdate (o : Offer) (uris : List (List ℕ × List ℕ)) (launched n
 
 -- the flash holds a configuration, the file was read and accepted under it, an update was made of it, and these lines tell
 -- how that ended
-pub record Updates (name : List ℕ) (uris : List (List ℕ × List ℕ)) (launched now : Launching)
-    (before after : Outside) (end : UpdateEnd) (lines : List ℕ)
-    : Type 0 where
+pub record Updates (name : List ℕ) (uris : List (List ℕ × List ℕ)) (before after : Seen)
+    (end : UpdateEnd) (lines : List ℕ) : Type 0 where
   pub o : Offer
   pub configured : Outside
-  pub held : config_in.gives before configured (o.layout, o.key, o.frame)
+  pub held : config_in.gives before.outside configured (o.layout, o.key, o.frame)
   pub middle : Outside
   pub read : (file longest_file name).gives configured middle o.bytes
   pub is_accepted : IsAccepted o.frame o.layout o.key o.bytes o.accepted
-  pub update : IsUpdate o uris launched now middle after end
+  pub update : IsUpdate o uris before.launcher after.launcher middle after.outside end
   pub lines_are : lines ≡ update_line o.accepted.manifest.sequence end
 
 -- ---- at each moment
@@ -152,8 +157,8 @@ abbrev pub IsDone : Offer → List (List ℕ × List ℕ) → Surroundings → S
     → List ℕ → Type 0
 IsDone o uris before after held made =
     IsTrue before.outside.told → IsTrue before.launcher.told
-    → PlaysToEnd o.layout o.accepted.places (tree_of o.accepted) held o.bytes uris
-    before.outside.files before.flash.reads before.launcher.launches after.launcher.launches made
+    → PlaysToEnd (placed_of o) held o.bytes uris before.outside.files
+    (device_at before.flash.reads before.launcher.launches) (device_at made after.launcher.launches)
 
 -- At each moment of an update that ended so, the flash had the old record, and no content changed but those of slots that
 -- may be written; or it had the new record, and the contents that its procedure made, which was done. Where it was not done
@@ -163,8 +168,7 @@ abbrev pub KeepsOffer : Offer → List (List ℕ × List ℕ) → Surroundings �
 KeepsOffer o uris before after end =
     ForOffer o.frame before.flash.reads o.accepted.said.wrapper (λ held digest.
     KeptSo
-    (KeepsUpdate o.frame o.layout o.accepted.places (tree_of o.accepted)
-    (IsDone o uris before after held) held
+    (KeepsUpdate (placed_of o) (IsDone o uris before after held) held
     (new_of o.frame o.accepted held before.flash.reads digest) before.flash after.flash end)
     (IsSame before.flash after.flash) end)
 

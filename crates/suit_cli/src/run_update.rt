@@ -39,7 +39,7 @@ use step_machine::{Uris, has_identifiers};
 use suit_edge::{Disk, Host, Launcher};
 use suit_envelope::envelope_laws;
 use suit_manifest::{manifest_laws, procedure_laws};
-use update_proc::update;
+use update_proc::{Update, update};
 
 // Runs the update of an accepted envelope. The room for the line is taken before anything is done.
 fn update_by<H: Host, D: Disk, L: Launcher>(
@@ -97,19 +97,14 @@ fn update_by<H: Host, D: Disk, L: Launcher>(
         Ok(()) => {}
         Err(_) => return Answer::Said(Err(Stop::NoMemory)),
     }
-    let end = update(
-        alloc,
-        host,
-        flash,
-        launcher,
-        &config.0,
-        config.2,
-        &accepted.places,
-        &accepted.envelope,
-        &accepted.manifest,
-        &accepted.members,
+    let offered = Update {
+        envelope: &accepted.envelope,
+        manifest: &accepted.manifest,
+        members: &accepted.members,
+        places: &accepted.places,
         uris,
-    );
+    };
+    let end = update(alloc, host, flash, launcher, &config.0, config.2, &offered);
     let text = update_line(line, accepted.manifest.sequence, &end);
     Answer::Updated(end, text)
 }

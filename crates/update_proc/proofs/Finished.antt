@@ -20,7 +20,7 @@ use Rattle.rollback_record.specs.SoundFlash.{IsNoEarlier}
 use Rattle.step_machine.specs.declared.plan_end.PlanEnd.{PlanEnd}
 use Rattle.step_machine.specs.declared.plan_end.PlanEnd.TheVariants as plays
 use Rattle.step_machine.specs.declared.spot.Standing.{Standing}
-use Rattle.step_machine.specs.Devices.{contents_of}
+use Rattle.step_machine.specs.Devices.{DeviceAt, contents_of, device_at}
 use Rattle.step_machine.specs.PlanRuns.{Counts, EndCounts, GivesAs, IsUnfaulted, PlaysPlan, counts_of, setting_of}
 use Rattle.step_machine.proofs.Counting.{failed_behind, not_fallen}
 use Rattle.step_machine.specs.Worlds.{IsChoice, StandAs}
@@ -32,7 +32,7 @@ use Rattle.update_proc.specs.declared.update_end.UpdateEnd.{UpdateEnd}
 use Rattle.update_proc.specs.declared.update_end.UpdateEnd.TheVariants as ends
 use Rattle.update_proc.specs.Ends.{FinishedSo, IfInstalled, IfStopped, IfTold, IfUnfaulted, IsEnd, IsRefusal, IsUnbegun, JudgedSo, SettledSo, StoppedSo, UpdateCounts}
 use Rattle.update_proc.specs.Installing.{BesideHead, IsNotWorn}
-use Rattle.update_proc.specs.Moments.{HasContentsOf}
+use Rattle.update_proc.specs.Moments.{HasContentsOf, Placed, placed_on}
 use Rattle.update_proc.specs.Records.{next_generation}
 use Rattle.update_proc.specs.Updates.{Hosted, hosted, KeptSo, LaunchesBy, PlayedSo, PlaysUpdate, sources}
 
@@ -174,12 +174,12 @@ Runs tree standings payloads words host end before after launched now =
     (given : ℕ → List ℕ → Option (List ℕ)) × GivesAs host.told words host.files given
     × (plays : PlaysPlan tree (setting_of standings payloads words given) end before after launched now) × (IsTrue host.told → host.now ≡ host.before ++ plays.asks)
 
-pub plays_update : (layout : List Entry) (places : Places) (tree : PlanTree) (held : Option Record) (payloads words uris : List (List ℕ × List ℕ)) (host : Hosted)
+pub plays_update : (frame : Frame) (layout : List Entry) (places : Places) (tree : PlanTree) (held : Option Record) (payloads words uris : List (List ℕ × List ℕ)) (host : Hosted)
     (before made : List ℕ) (launched now : List Launch) (end : PlanEnd) (numbers : List ℕ) (standings : List Standing) (ram left : List Held)
     → AreChosen layout places tree (active_slots held) numbers → IsChoice layout (record { number = numbers }) → StandAs layout places (record { number = numbers }) standings → ram ≡ empty_ram layout → words ≡ uris
     → (program : PlanTree) → program ≡ tree → Runs program standings payloads words host end (contents_of standings ram before) (contents_of standings left made) launched now
-    → PlaysUpdate layout places tree held (sources payloads uris host) before made launched now end
-plays_update layout places tree held payloads words uris host before made launched now end numbers standings ram left chosen choice stand none same program is played_so =
+    → PlaysUpdate (placed_on frame layout places tree) held (sources payloads uris host) (device_at before launched) (device_at made now) end
+plays_update frame layout places tree held payloads words uris host before made launched now end numbers standings ram left chosen choice stand none same program is played_so =
     let played = subst (λ (x : PlanTree). Runs x standings payloads words host end (contents_of standings ram before) (contents_of standings left made) launched now) is played_so in
     let run = subst (λ (r : List Held). Runs tree standings payloads uris host end (contents_of standings r before) (contents_of standings left made) launched now) none
     (subst (λ (u : List (List ℕ × List ℕ)). Runs tree standings payloads u host end (contents_of standings ram before) (contents_of standings left made) launched now) same played) in
@@ -197,11 +197,11 @@ plays_update layout places tree held payloads words uris host before made launch
     }
 
 -- of a host that tells
-pub told_plays : (layout : List Entry) (places : Places) (tree : PlanTree) (held : Option Record) (payloads uris : List (List ℕ × List ℕ)) (told : Bool) (files : List ℕ → Option (List ℕ)) (since later : List (List ℕ))
-    (before made : List ℕ) (launched now : List Launch) (end : PlanEnd) (host : IsTrue told)
-    → PlaysUpdate layout places tree held (sources payloads uris (hosted told files since later)) before made launched now end
-    → PlaysUpdate layout places tree held (sources payloads uris (hosted true files since later)) before made launched now end
-told_plays layout places tree held payloads uris told files since later before made launched now end host p = record {
+pub told_plays : (on : Placed) (held : Option Record) (payloads uris : List (List ℕ × List ℕ)) (told : Bool) (files : List ℕ → Option (List ℕ)) (since later : List (List ℕ))
+    (before now : DeviceAt) (end : PlanEnd) (host : IsTrue told)
+    → PlaysUpdate on held (sources payloads uris (hosted told files since later)) before now end
+    → PlaysUpdate on held (sources payloads uris (hosted true files since later)) before now end
+told_plays on held payloads uris told files since later before now end host p = record {
   numbers = p.numbers;
   chosen = p.chosen;
   choice = p.choice;

@@ -5,7 +5,6 @@ use Rattle.std.proofs.lemmas.List.{get_or-map}
 use Rattle.std.specs.List.{All}
 use Rattle.suit_commands.specs.Tree.{PlanTree}
 use Rattle.suit_edge.specs.Ranges.{SameOn, Within}
-use Rattle.suit_edge.specs.declared.launch.Launch.{Launch}
 use Rattle.path_model.specs.DevicePlays.{Device, played}
 use Rattle.flash_layout.specs.declared.frame.Frame.{Frame}
 use Rattle.flash_layout.specs.declared.layout.Entry.{Entry}
@@ -21,7 +20,7 @@ use Rattle.flash_layout.specs.Slots.{extent_of, slot_at, slot_content}
 use Rattle.flash_slots.specs.RamContents.{Held, empty_ram}
 use Rattle.step_machine.specs.declared.plan_end.PlanEnd.TheVariants as plays
 use Rattle.step_machine.specs.declared.spot.Standing.{Standing}
-use Rattle.step_machine.specs.Devices.{contents_of}
+use Rattle.step_machine.specs.Devices.{DeviceAt, contents_of}
 use Rattle.step_machine.specs.PlanRuns.{setting_of}
 use Rattle.step_machine.specs.Spots.{content_of}
 use Rattle.step_machine.specs.Worlds.{spot_of, standing_of}
@@ -29,7 +28,7 @@ use Rattle.update_proc.specs.Banks.{BesideBank}
 use Rattle.update_proc.specs.Choices.{AreChosen, HasOther, HaveTwoSlots, IsInUse, IsSlotOf, IsTouched, IsWritten, active_slots}
 use Rattle.update_proc.specs.Installing.{BesideHead, IsRecording}
 use Rattle.update_proc.specs.MomentLaws.{EachMoment}
-use Rattle.update_proc.specs.Moments.{HasContentsOf, HasInUse, HasPlayed, IsNew, IsOld, KeepsContents, OutsideTouched}
+use Rattle.update_proc.specs.Moments.{HasContentsOf, HasInUse, HasPlayed, IsNew, IsOld, KeepsContents, OutsideTouched, placed_on}
 use Rattle.update_proc.specs.Updates.{PlaysUpdate, Sources}
 use Rattle.update_proc.proofs.Installs.{beside_banks, beside_page}
 use Rattle.update_proc.proofs.SlotsApart.{content_kept, lies, one_or_clear, outside_clear, untouched}
@@ -83,7 +82,7 @@ module _ (frame : Frame) (size : ℕ) (layout : List Entry) (is_frame : IsFrame 
       (one_or_clear frame size layout allowed typed some_entry used.index touched.index (get_or active used.index 0) (get_or numbers touched.index 0) slot slot used.stands touched.stands)
 
   old : (places : Places) (tree : PlanTree) (numbers : List ℕ) (held : Option Record) (first image : List ℕ) → HaveTwoSlots layout places tree → AreChosen layout places tree (active_slots held) numbers
-      → IsOld frame layout places tree numbers held first image → HasInUse layout (active_slots held) first image
+      → IsOld (placed_on frame layout places tree) numbers held first image → HasInUse layout (active_slots held) first image
   old places tree numbers held first image two chosen is slot used =
       is.contents used.index (get_or (active_slots held) used.index 0) slot used.stands (in_use places tree (active_slots held) numbers two chosen slot used)
 
@@ -104,10 +103,10 @@ content_there : (e : Entry) (index n : ℕ) (ram : List Held) (made : List ℕ) 
 content_there e index n ram made flash =
     subst (λ (m : Memory). slot_content (slot_at e (get_or e.starts n 0)) made ≡ content_of (spot_of m e index n) ram made) (sym flash) refl
 
-module _ (frame : Frame) (layout : List Entry) (places : Places) (tree : PlanTree) (held : Option Record) (from : Sources) (before made image : List ℕ)
-    (launched now : List Launch) (r : Record) (chosen : AreChosen layout places tree (active_slots held) r.active)
-    (play : PlaysUpdate layout places tree held from before made launched now plays.Done) (is : IsNew frame layout r made image) where
-  from_play : HasPlayed layout places r.active (played tree (setting_of play.standings from.payloads from.words play.given) (contents_of play.standings (empty_ram layout) before)).world.contents image
+module _ (frame : Frame) (layout : List Entry) (places : Places) (tree : PlanTree) (held : Option Record) (from : Sources) (before now : DeviceAt) (image : List ℕ)
+    (r : Record) (chosen : AreChosen layout places tree (active_slots held) r.active)
+    (play : PlaysUpdate (placed_on frame layout places tree) held from before now plays.Done) (is : IsNew frame layout r now.reads image) where
+  from_play : HasPlayed layout places r.active (played tree (setting_of play.standings from.payloads from.words play.given) (contents_of play.standings (empty_ram layout) before.reads)).world.contents image
   from_play k slot short stands =
       let index = get_or places.layout_index k 0 in
       let e = get_or layout index some_entry in
@@ -116,11 +115,11 @@ module _ (frame : Frame) (layout : List Entry) (places : Places) (tree : PlanTre
       let same : get_or r.active index 0 ≡ n = one_choice layout places tree (active_slots held) r.active play.numbers chosen play.chosen index in
       let inside : k < length play.standings = omega (arith, short, play.stand.count) in
       is.contents index (get_or r.active index 0) slot stands
-      ∙ ap (λ (s : Slot). slot_content s made) (stands.is some_entry)
-      ∙ ap (λ (m : ℕ). slot_content (slot_at e (get_or e.starts m 0)) made) same
-      ∙ content_there e index n play.ram made (stands.flash some_entry)
-      ∙ ap (λ (s : Standing). content_of s.spot play.ram made) (sym (play.stand.each k d some_entry short))
-      ∙ sym (get_or-map (λ (s : Standing). content_of s.spot play.ram made) play.standings k d [] inside)
+      ∙ ap (λ (s : Slot). slot_content s now.reads) (stands.is some_entry)
+      ∙ ap (λ (m : ℕ). slot_content (slot_at e (get_or e.starts m 0)) now.reads) same
+      ∙ content_there e index n play.ram now.reads (stands.flash some_entry)
+      ∙ ap (λ (s : Standing). content_of s.spot play.ram now.reads) (sym (play.stand.each k d some_entry short))
+      ∙ sym (get_or-map (λ (s : Standing). content_of s.spot play.ram now.reads) play.standings k d [] inside)
       ∙ ap (λ (v : Device). get_or v.contents k []) (sym play.plays.ends.2)
 
 pub each_moment : EachMoment

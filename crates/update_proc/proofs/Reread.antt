@@ -25,7 +25,7 @@ use Rattle.rollback_record.specs.SoundFlash.{Follows, Settled, Sound}
 use Rattle.rollback_record.specs.SoundLaws.{SoundLaws}
 use Rattle.update_proc.specs.declared.update_end.UpdateEnd.{UpdateEnd}
 use Rattle.update_proc.specs.declared.update_end.UpdateEnd.TheVariants as ends
-use Rattle.update_proc.specs.Moments.{IsNew, IsOld, KeepsContents}
+use Rattle.update_proc.specs.Moments.{IsNew, IsOld, KeepsContents, placed_on}
 use Rattle.update_proc.specs.Offered.{ForOffer}
 use Rattle.update_proc.specs.Records.{new_record}
 use Rattle.update_proc.specs.Updates.{KeepsUpdate, KeptSo, LeftSo, WholeSo}
@@ -105,20 +105,20 @@ module _ (a b c : Flash) (same : IsSame a b) where
     config_a = subst (λ (n : ℕ). ConfigOf n a.reads (Configured layout key frame)) (sym law.fits) config
 
     -- an image that a power loss then may have left has the old record and the old contents
-    old_now : (numbers : List ℕ) (image : List ℕ) → Now a image → IsOld frame layout places tree numbers held a.reads image
+    old_now : (numbers : List ℕ) (image : List ℕ) → Now a image → IsOld (placed_on frame layout places tree) numbers held a.reads image
     old_now numbers image now = record {
       record_is = subst (λ (h : List ℕ). RecordOf frame h held) (sym (settled_head frame layout key a settled config_a image now)) was;
       contents = λ i n slot is not. settled_slots frame layout key a settled config_a (listed frame size layout allowed config.typed.entries none) image now i n slot is;
     }
 
-    old_from : (numbers : List ℕ) → Passes b c (IsOld frame layout places tree numbers held b.reads) → Passes a c (IsOld frame layout places tree numbers held a.reads)
+    old_from : (numbers : List ℕ) → Passes b c (IsOld (placed_on frame layout places tree) numbers held b.reads) → Passes a c (IsOld (placed_on frame layout places tree) numbers held a.reads)
     old_from numbers run =
-        since_read (IsOld frame layout places tree numbers held a.reads) (old_now numbers)
-        (subst (λ (l : List ℕ). Passes b c (IsOld frame layout places tree numbers held l)) same.reads run)
+        since_read (IsOld (placed_on frame layout places tree) numbers held a.reads) (old_now numbers)
+        (subst (λ (l : List ℕ). Passes b c (IsOld (placed_on frame layout places tree) numbers held l)) same.reads run)
 
     pub keeps_from : (Then Done : List ℕ → Type 0) → ((made : List ℕ) → Then made → Done made) → (answer : UpdateEnd)
-        → KeepsUpdate frame layout places tree Then held (λ numbers. new_record frame held b.reads bytes sequence digest numbers) b c answer
-        → KeepsUpdate frame layout places tree Done held (λ numbers. new_record frame held a.reads bytes sequence digest numbers) a c answer
+        → KeepsUpdate (placed_on frame layout places tree) Then held (λ numbers. new_record frame held b.reads bytes sequence digest numbers) b c answer
+        → KeepsUpdate (placed_on frame layout places tree) Done held (λ numbers. new_record frame held a.reads bytes sequence digest numbers) a c answer
     keeps_from Then Done done answer k = record {
       numbers = k.numbers;
       chosen = k.chosen;
@@ -127,10 +127,10 @@ module _ (a b c : Flash) (same : IsSame a b) where
       others = subst (λ (l : List ℕ). KeepsContents layout places tree k.numbers l k.made) same.reads k.others;
       whole = whole_from _ _ _ _ (old_from k.numbers) (done k.made) answer k.whole;
       any_moment =
-          since_read (λ image. IsOld frame layout places tree k.numbers held a.reads image ⊎ IsNew frame layout (new_record frame held a.reads bytes sequence digest k.numbers) k.made image)
+          since_read (λ image. IsOld (placed_on frame layout places tree) k.numbers held a.reads image ⊎ IsNew frame layout (new_record frame held a.reads bytes sequence digest k.numbers) k.made image)
           (λ image now. inl (old_now k.numbers image now))
-          (subst (λ (l : List ℕ). Passes b c (λ image. IsOld frame layout places tree k.numbers held l image ⊎ IsNew frame layout (new_record frame held l bytes sequence digest k.numbers) k.made image))
+          (subst (λ (l : List ℕ). Passes b c (λ image. IsOld (placed_on frame layout places tree) k.numbers held l image ⊎ IsNew frame layout (new_record frame held l bytes sequence digest k.numbers) k.made image))
           same.reads k.any_moment);
-      left = subst (λ (l : List ℕ). LeftSo (λ r. r ≡ new_record frame held l bytes sequence digest k.numbers) (IsOld frame layout places tree k.numbers held l c.reads)
+      left = subst (λ (l : List ℕ). LeftSo (λ r. r ≡ new_record frame held l bytes sequence digest k.numbers) (IsOld (placed_on frame layout places tree) k.numbers held l c.reads)
           (IsNew frame layout (new_record frame held l bytes sequence digest k.numbers) k.made c.reads) answer) same.reads k.left;
     }

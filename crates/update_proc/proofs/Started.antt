@@ -38,7 +38,7 @@ use Rattle.update_proc.specs.Choices.{AreChosen, IsTouched, active_slots}
 use Rattle.update_proc.specs.Ends.{NowOr}
 use Rattle.update_proc.specs.Installing.{BesideHead, HasActiveSlots, IsInstalling, MayBeInstalled}
 use Rattle.update_proc.specs.MomentLaws.{EachMoment, MomentLaws}
-use Rattle.update_proc.specs.Moments.{IsNew, IsOld, KeepsContents, OutsideTouched}
+use Rattle.update_proc.specs.Moments.{IsNew, IsOld, KeepsContents, OutsideTouched, placed_on}
 use Rattle.update_proc.specs.Records.{new_record}
 use Rattle.update_proc.proofs.Finished.{not_held}
 use Rattle.update_proc.proofs.MomentProofs.{beside}
@@ -172,7 +172,7 @@ module _ (laws : SoundLaws) (moments : EachMoment) (choosing : ChoiceLaw) (frame
       new = new_record frame held a.reads bytes sequence digest numbers
 
       abbrev Moment : List ℕ → Type 0
-      Moment image = IsOld frame layout places tree numbers held a.reads image ⊎ IsNew frame layout new b.reads image
+      Moment image = IsOld (placed_on frame layout places tree) numbers held a.reads image ⊎ IsNew frame layout new b.reads image
 
       pub new_is : new_record frame held b.reads bytes sequence digest numbers ≡ new
       new_is = same_new frame held a.reads b.reads bytes sequence digest numbers head_b
@@ -195,17 +195,17 @@ module _ (laws : SoundLaws) (moments : EachMoment) (choosing : ChoiceLaw) (frame
             (λ now. now)
             moment_at_end
 
-      pub old_b : IsOld frame layout places tree numbers held a.reads b.reads
+      pub old_b : IsOld (placed_on frame layout places tree) numbers held a.reads b.reads
       old_b =
           reads_old frame size is layout laws_here places tree numbers held a law was (head_out frame size layout allowed typed none here places tree numbers)
           (settled_head frame layout key a settled config_a) (settled_slots frame layout key a settled config_a (listed frame size layout allowed typed none))
           b law_b kept_touched.images laws new bytes few fits told_b sound_b firm_b
 
-      pub old_at_end : d.reads ≡ b.reads → IsOld frame layout places tree numbers held a.reads d.reads
-      old_at_end same = subst (λ (l : List ℕ). IsOld frame layout places tree numbers held a.reads l) (sym same) old_b
+      pub old_at_end : d.reads ≡ b.reads → IsOld (placed_on frame layout places tree) numbers held a.reads d.reads
+      old_at_end same = subst (λ (l : List ℕ). IsOld (placed_on frame layout places tree) numbers held a.reads l) (sym same) old_b
 
       -- and the whole time, where nothing was installed
-      pub old_all : Passes b d (Now b) → Passes a d (IsOld frame layout places tree numbers held a.reads)
+      pub old_all : Passes b d (Now b) → Passes a d (IsOld (placed_on frame layout places tree) numbers held a.reads)
       old_all still =
           kept_old frame size is layout laws_here places tree numbers held a law was (head_out frame size layout allowed typed none here places tree numbers)
           (settled_head frame layout key a settled config_a) (settled_slots frame layout key a settled config_a (listed frame size layout allowed typed none))

@@ -29,7 +29,7 @@ use Rattle.update_proc.specs.Choices.{IsSlotOf}
 use Rattle.update_proc.specs.Ends.{NowOr}
 use Rattle.update_proc.specs.Installing.{Filling, IsInstalling, Recording}
 use Rattle.update_proc.specs.MomentLaws.{MomentLaws}
-use Rattle.update_proc.specs.Moments.{HasContentsOf, IsNew, IsOld, OutsideTouched}
+use Rattle.update_proc.specs.Moments.{HasContentsOf, IsNew, IsOld, OutsideTouched, placed_on}
 use Rattle.update_proc.proofs.Installs.{filling_still}
 use Rattle.update_proc.proofs.SlotsApart.{lies, start_at, start_in}
 
@@ -62,7 +62,7 @@ module _ (frame : Frame) (size : ℕ) (is : IsFrame size frame) (layout : List E
     (out_of_head : (i : ℕ) → InHead frame i → OutsideTouched layout places tree numbers i)
     (firm_head : (image : List ℕ) → Now a image → head_of frame image ≡ head_of frame a.reads)
     (firm_slots : (image : List ℕ) → Now a image → HasContentsOf layout a.reads image) where
-  pub still_old : (image : List ℕ) → ImageOn (OutsideTouched layout places tree numbers) a image → IsOld frame layout places tree numbers held a.reads image
+  pub still_old : (image : List ℕ) → ImageOn (OutsideTouched layout places tree numbers) a image → IsOld (placed_on frame layout places tree) numbers held a.reads image
   still_old image on =
       let long : length on.from ≡ size = law.sized a.clock on.from (omega arith) on.was in
       let here : FrameFacts size frame = facts size frame is in
@@ -77,21 +77,21 @@ module _ (frame : Frame) (size : ℕ) (is : IsFrame size frame) (layout : List E
 
   module _ (b : Flash) (law_b : IsFlash b size) (run : Passes a b (ImageOn (OutsideTouched layout places tree numbers) a)) (sound_laws : SoundLaws) (new : Record) (bytes : List ℕ) (few : IfSome held (IsLoadable frame)) (fits : length bytes ≤ bank_size frame)
       (told : frame_told b.reads ≡ Some frame) (sound : Sound b.reads) (firm : IsFirmOn (InHead frame) b) where
-    old_run : Passes a b (IsOld frame layout places tree numbers held a.reads)
-    old_run = weakens a b (ImageOn (OutsideTouched layout places tree numbers) a) (IsOld frame layout places tree numbers held a.reads) still_old run
+    old_run : Passes a b (IsOld (placed_on frame layout places tree) numbers held a.reads)
+    old_run = weakens a b (ImageOn (OutsideTouched layout places tree numbers) a) (IsOld (placed_on frame layout places tree) numbers held a.reads) still_old run
 
-    pub reads_old : IsOld frame layout places tree numbers held a.reads b.reads
-    reads_old = each_read a b size (IsOld frame layout places tree numbers held a.reads) law_b old_run
+    pub reads_old : IsOld (placed_on frame layout places tree) numbers held a.reads b.reads
+    reads_old = each_read a b size (IsOld (placed_on frame layout places tree) numbers held a.reads) law_b old_run
 
     -- it stays so while nothing is installed
-    pub kept_old : (d : Flash) → Passes b d (Now b) → Passes a d (IsOld frame layout places tree numbers held a.reads)
+    pub kept_old : (d : Flash) → Passes b d (Now b) → Passes a d (IsOld (placed_on frame layout places tree) numbers held a.reads)
     kept_old d still =
-        joined a b d (IsOld frame layout places tree numbers held a.reads) old_run
-        (weakens b d (Now b) (IsOld frame layout places tree numbers held a.reads) (each_now a b size (IsOld frame layout places tree numbers held a.reads) law_b old_run) still)
+        joined a b d (IsOld (placed_on frame layout places tree) numbers held a.reads) old_run
+        (weakens b d (Now b) (IsOld (placed_on frame layout places tree) numbers held a.reads) (each_now a b size (IsOld (placed_on frame layout places tree) numbers held a.reads) law_b old_run) still)
 
-    installing : (image : List ℕ) → IsInstalling frame held new bytes b image → IsOld frame layout places tree numbers held a.reads image ⊎ IsNew frame layout new b.reads image
+    installing : (image : List ℕ) → IsInstalling frame held new bytes b image → IsOld (placed_on frame layout places tree) numbers held a.reads image ⊎ IsNew frame layout new b.reads image
     installing image (Filling on) =
-        let before = each_now a b size (IsOld frame layout places tree numbers held a.reads) law_b old_run on.from on.was in
+        let before = each_now a b size (IsOld (placed_on frame layout places tree) numbers held a.reads) law_b old_run on.from on.was in
         let long : length on.from ≡ size = law_b.sized b.clock on.from (omega arith) on.was in
         let is_b : IsFrame (length b.reads) frame = subst (λ (n : ℕ). IsFrame n frame) (sym law_b.fits) is in
         inl (record {
@@ -107,14 +107,14 @@ module _ (frame : Frame) (size : ℕ) (is : IsFrame size frame) (layout : List E
         is.record_is
 
     -- the same where what stands may be left alone instead
-    moment_of : (image : List ℕ) → NowOr (IsInstalling frame held new bytes b) b image → IsOld frame layout places tree numbers held a.reads image ⊎ IsNew frame layout new b.reads image
-    moment_of image is = ⊎_elim (λ now. inl (each_now a b size (IsOld frame layout places tree numbers held a.reads) law_b old_run image now)) (installing image) is
+    moment_of : (image : List ℕ) → NowOr (IsInstalling frame held new bytes b) b image → IsOld (placed_on frame layout places tree) numbers held a.reads image ⊎ IsNew frame layout new b.reads image
+    moment_of image is = ⊎_elim (λ now. inl (each_now a b size (IsOld (placed_on frame layout places tree) numbers held a.reads) law_b old_run image now)) (installing image) is
 
-    pub finished : (d : Flash) → Passes b d (NowOr (IsInstalling frame held new bytes b) b) → Passes a d (λ image. IsOld frame layout places tree numbers held a.reads image ⊎ IsNew frame layout new b.reads image)
+    pub finished : (d : Flash) → Passes b d (NowOr (IsInstalling frame held new bytes b) b) → Passes a d (λ image. IsOld (placed_on frame layout places tree) numbers held a.reads image ⊎ IsNew frame layout new b.reads image)
     finished d since =
-        joined a b d (λ image. IsOld frame layout places tree numbers held a.reads image ⊎ IsNew frame layout new b.reads image)
-        (weakens a b (IsOld frame layout places tree numbers held a.reads) (λ image. IsOld frame layout places tree numbers held a.reads image ⊎ IsNew frame layout new b.reads image) (λ image old. inl old) old_run)
-        (weakens b d (NowOr (IsInstalling frame held new bytes b) b) (λ image. IsOld frame layout places tree numbers held a.reads image ⊎ IsNew frame layout new b.reads image) moment_of since)
+        joined a b d (λ image. IsOld (placed_on frame layout places tree) numbers held a.reads image ⊎ IsNew frame layout new b.reads image)
+        (weakens a b (IsOld (placed_on frame layout places tree) numbers held a.reads) (λ image. IsOld (placed_on frame layout places tree) numbers held a.reads image ⊎ IsNew frame layout new b.reads image) (λ image old. inl old) old_run)
+        (weakens b d (NowOr (IsInstalling frame held new bytes b) b) (λ image. IsOld (placed_on frame layout places tree) numbers held a.reads image ⊎ IsNew frame layout new b.reads image) moment_of since)
 
 -- ---- on a settled flash
 

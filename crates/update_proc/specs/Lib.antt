@@ -8,3 +8,4 @@ pub mod MomentLaws
 pub mod Ends
 pub mod Updates
 pub mod Offered
+pub mod Given

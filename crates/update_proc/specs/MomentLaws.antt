@@ -2,7 +2,6 @@
 use Rattle.std.specs.Prelude.{◌≡◌, ◌≤◌, ℕ, List, All, length, Option}
 use Rattle.suit_commands.specs.Tree.{PlanTree}
 use Rattle.suit_edge.specs.Ranges.{SameOn}
-use Rattle.suit_edge.specs.declared.launch.Launch.{Launch}
 use Rattle.path_model.specs.DevicePlays.{played}
 use Rattle.flash_layout.specs.declared.frame.Frame.{Frame}
 use Rattle.flash_layout.specs.declared.layout.Entry.{Entry}
@@ -12,12 +11,12 @@ use Rattle.flash_layout.specs.Layouts.{IsLayout, IsTypedEntry}
 use Rattle.flash_layout.specs.Frames.{IsFrame, bank_size}
 use Rattle.flash_slots.specs.RamContents.{empty_ram}
 use Rattle.step_machine.specs.declared.plan_end.PlanEnd.TheVariants as plays
-use Rattle.step_machine.specs.Devices.{contents_of}
+use Rattle.step_machine.specs.Devices.{DeviceAt, contents_of}
 use Rattle.step_machine.specs.PlanRuns.{setting_of}
 use Rattle.update_proc.specs.Banks.{BesideBank}
 use Rattle.update_proc.specs.Choices.{AreChosen, HaveTwoSlots, active_slots}
 use Rattle.update_proc.specs.Installing.{IsRecording}
-use Rattle.update_proc.specs.Moments.{HasContentsOf, HasInUse, HasPlayed, IsNew, IsOld, KeepsContents, OutsideTouched}
+use Rattle.update_proc.specs.Moments.{HasContentsOf, HasInUse, HasPlayed, IsNew, IsOld, KeepsContents, OutsideTouched, placed_on}
 use Rattle.update_proc.specs.Updates.{PlaysUpdate, Sources}
 
 -- these hold of a flash of that size with that frame and layout
@@ -39,7 +38,8 @@ pub record MomentLaws (frame : Frame) (size : ℕ) (layout : List Entry) : Type 
       (places : Places) (tree : PlanTree) (numbers : List ℕ) (held : Option Record)
       (first image : List ℕ)
       → HaveTwoSlots layout places tree → AreChosen layout places tree (active_slots held) numbers
-      → IsOld frame layout places tree numbers held first image → HasInUse layout (active_slots held) first image
+      → IsOld (placed_on frame layout places tree) numbers held first image
+      → HasInUse layout (active_slots held) first image
   -- with the new record the slots in use have the contents that were made
   pub new : (r : Record) (made image : List ℕ) → IsNew frame layout r made image
       → HasInUse layout r.active made image
@@ -47,10 +47,12 @@ pub record MomentLaws (frame : Frame) (size : ℕ) (layout : List Entry) : Type 
   pub played :
       (places : Places) (tree : PlanTree) (held : Option Record)
       (from : Sources)
-      (before made image : List ℕ) (launched now : List Launch) (r : Record) → AreChosen layout places tree (active_slots held) r.active
-      → (play : PlaysUpdate layout places tree held from before made launched now plays.Done) → IsNew frame layout r made image
+      (before now : DeviceAt) (image : List ℕ) (r : Record)
+      → AreChosen layout places tree (active_slots held) r.active
+      → (play : PlaysUpdate (placed_on frame layout places tree) held from before now plays.Done)
+      → IsNew frame layout r now.reads image
       → HasPlayed layout places r.active
-      (played tree (setting_of play.standings from.payloads from.words play.given) (contents_of play.standings (empty_ram layout) before)).world.contents image
+      (played tree (setting_of play.standings from.payloads from.words play.given) (contents_of play.standings (empty_ram layout) before.reads)).world.contents image
 
 abbrev pub EachMoment : Type 0
 EachMoment = (frame : Frame) (size : ℕ) (layout : List Entry) → IsFrame size frame → IsLayout frame size layout → All IsTypedEntry layout → MomentLaws frame size layout

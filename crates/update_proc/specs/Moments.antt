@@ -12,6 +12,17 @@ use Rattle.suit_edge.specs.Ranges.{Outside}
 use Rattle.rollback_record.specs.HeadRecord.{RecordOf}
 use Rattle.update_proc.specs.Choices.{IsInUse, IsSlotOf, IsTouched}
 
+-- a procedure, and the flash that it is run on: its frame, its layout, and where that has the procedure's components
+pub record Placed : Type 0 where
+  pub frame : Frame
+  pub layout : List Entry
+  pub places : Places
+  pub tree : PlanTree
+
+abbrev pub placed_on : Frame → List Entry → Places → PlanTree → Placed
+placed_on frame layout places tree =
+    record { frame = frame; layout = layout; places = places; tree = tree }
+
 -- the place is outside the slots of components that may be written
 abbrev pub OutsideTouched : List Entry → Places → PlanTree → List ℕ → ℕ → Type 0
 OutsideTouched layout places tree numbers i =
@@ -32,10 +43,10 @@ HasContentsOf layout made image =
     → slot_content slot image ≡ slot_content slot made
 
 -- the flash has the old record, and no contents changed but those that may be written
-pub record IsOld (frame : Frame) (layout : List Entry) (places : Places) (tree : PlanTree)
-    (numbers : List ℕ) (held : Option Record) (first image : List ℕ) : Type 0 where
-  pub record_is : RecordOf frame (head_of frame image) held
-  pub contents : KeepsContents layout places tree numbers first image
+pub record IsOld (p : Placed) (numbers : List ℕ) (held : Option Record) (first image : List ℕ)
+    : Type 0 where
+  pub record_is : RecordOf p.frame (head_of p.frame image) held
+  pub contents : KeepsContents p.layout p.places p.tree numbers first image
 
 -- the flash has the new record, and the contents that were made
 pub record IsNew (frame : Frame) (layout : List Entry) (new : Record) (made image : List ℕ)

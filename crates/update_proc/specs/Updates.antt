@@ -1,11 +1,9 @@
 -- An update: its procedure, what it leaves on the flash, and the flash at each moment.
 use Rattle.std.specs.Prelude.{◌≡◌, ◌⊎◌, ◌++◌, ℕ, Bool, true, IsTrue, List, Option, Some}
-use Rattle.suit_commands.specs.Tree.{PlanTree}
 use Rattle.suit_edge.specs.Flash.{Flash, Passes}
 use Rattle.suit_edge.specs.declared.launch.Launch.{Launch}
 use Rattle.suit_envelope.specs.Payloads.{HasPayloads}
 use Rattle.flash_layout.specs.declared.layout.Entry.{Entry}
-use Rattle.flash_layout.specs.declared.place.Places.{Places}
 use Rattle.flash_layout.specs.declared.slot.Record.{Record}
 use Rattle.flash_layout.specs.declared.frame.Frame.{Frame}
 use Rattle.flash_layout.specs.Frames.{head_of}
@@ -15,13 +13,13 @@ use Rattle.flash_slots.specs.RamContents.{Held, empty_ram}
 use Rattle.step_machine.specs.declared.plan_end.PlanEnd.{PlanEnd}
 use Rattle.step_machine.specs.declared.plan_end.PlanEnd.TheVariants as plays
 use Rattle.step_machine.specs.declared.spot.Standing.{Standing}
-use Rattle.step_machine.specs.Devices.{contents_of}
+use Rattle.step_machine.specs.Devices.{DeviceAt, contents_of}
 use Rattle.step_machine.specs.PlanRuns.{GivesAs, IsUnfaulted, PlaysPlan, setting_of}
 use Rattle.step_machine.specs.Worlds.{IsChoice, StandAs}
 use Rattle.update_proc.specs.declared.update_end.UpdateEnd.{UpdateEnd}
 use Rattle.update_proc.specs.declared.update_end.UpdateEnd.TheVariants as ends
 use Rattle.update_proc.specs.Choices.{AreChosen, active_slots}
-use Rattle.update_proc.specs.Moments.{HasContentsOf, IsNew, IsOld, KeepsContents}
+use Rattle.update_proc.specs.Moments.{HasContentsOf, IsNew, IsOld, KeepsContents, Placed}
 
 -- ---- the play
 
@@ -49,20 +47,19 @@ sources payloads words host = record { payloads = payloads; words = words; host 
 -- The procedure is played on the chosen slots, with empty working memory, from these sources. It ends like this, and
 -- leaves these contents and launches. A host that tells was asked for the files of the play's fetches, in order, and
 -- gave them each time; any other host gave some file or none for each request.
-pub record PlaysUpdate (layout : List Entry) (places : Places) (tree : PlanTree)
-    (held : Option Record) (from : Sources) (before made : List ℕ) (launched now : List Launch)
+pub record PlaysUpdate (p : Placed) (held : Option Record) (from : Sources) (before now : DeviceAt)
     (end : PlanEnd) : Type 0 where
   pub numbers : List ℕ
-  pub chosen : AreChosen layout places tree (active_slots held) numbers
-  pub choice : IsChoice layout (record { number = numbers })
+  pub chosen : AreChosen p.layout p.places p.tree (active_slots held) numbers
+  pub choice : IsChoice p.layout (record { number = numbers })
   pub standings : List Standing
-  pub stand : StandAs layout places (record { number = numbers }) standings
+  pub stand : StandAs p.layout p.places (record { number = numbers }) standings
   pub ram : List Held
   pub given : ℕ → List ℕ → Option (List ℕ)
   pub gives : GivesAs from.host.told from.words from.host.files given
-  pub plays : PlaysPlan tree (setting_of standings from.payloads from.words given) end
-      (contents_of standings (empty_ram layout) before) (contents_of standings ram made) launched
-      now
+  pub plays : PlaysPlan p.tree (setting_of standings from.payloads from.words given) end
+      (contents_of standings (empty_ram p.layout) before.reads)
+      (contents_of standings ram now.reads) before.launches now.launches
   pub asks : IsTrue from.host.told → from.host.now ≡ from.host.before ++ plays.asks
 
 -- the procedure was played like this, and the slots have the contents that it made
@@ -97,16 +94,15 @@ LaunchesBy frame Plays image launched now =
     ((held : Option Record) × RecordOf frame (head_of frame image) held
     × (made : List ℕ) × (end : PlanEnd) × Plays held made end)
 
--- Over a host with these files, the procedure of the envelope of these bytes is played to its end, with these launches,
--- and makes these contents.
-abbrev pub PlaysToEnd : List Entry → Places → PlanTree → Option Record → List ℕ
-    → List (List ℕ × List ℕ)
-    → (List ℕ → Option (List ℕ)) → List ℕ → List Launch → List Launch → List ℕ → Type 0
-PlaysToEnd layout places tree held bytes uris files before launched now made =
+-- Over a host with these files, the procedure of the envelope of these bytes is played to its end, and leaves these
+-- contents and launches.
+abbrev pub PlaysToEnd : Placed → Option Record → List ℕ → List (List ℕ × List ℕ)
+    → (List ℕ → Option (List ℕ)) → DeviceAt → DeviceAt → Type 0
+PlaysToEnd p held bytes uris files before now =
     (payloads : List (List ℕ × List ℕ)) → HasPayloads bytes payloads
     → (since : List (List ℕ)) × (later : List (List ℕ))
-    × PlaysUpdate layout places tree held (sources payloads uris (hosted true files since later))
-    before made launched now plays.Done
+    × PlaysUpdate p held (sources payloads uris (hosted true files since later)) before now
+    plays.Done
 
 -- ---- what is left
 
@@ -119,16 +115,15 @@ LeftSo Is Old New _ = Old
 
 -- When the update has ended, no contents have changed but those of slots that may be written, and the record is the new
 -- one if it was installed. The new record may follow the old one.
-pub record LeavesUpdate (frame : Frame) (layout : List Entry) (places : Places) (tree : PlanTree)
-    (held : Option Record) (new : List ℕ → Record) (before after : List ℕ) (answer : UpdateEnd)
-    : Type 0 where
+pub record LeavesUpdate (p : Placed) (held : Option Record) (new : List ℕ → Record)
+    (before after : List ℕ) (answer : UpdateEnd) : Type 0 where
   pub numbers : List ℕ
-  pub chosen : AreChosen layout places tree (active_slots held) numbers
+  pub chosen : AreChosen p.layout p.places p.tree (active_slots held) numbers
   pub accepted : IsAcceptable (new numbers).sequence (new numbers).digest held
-  pub contents : KeepsContents layout places tree numbers before after
+  pub contents : KeepsContents p.layout p.places p.tree numbers before after
   pub left :
-      LeftSo (λ r. r ≡ new numbers) (RecordOf frame (head_of frame after) held)
-      (RecordOf frame (head_of frame after) (Some (new numbers))) answer
+      LeftSo (λ r. r ≡ new numbers) (RecordOf p.frame (head_of p.frame after) held)
+      (RecordOf p.frame (head_of p.frame after) (Some (new numbers))) answer
 
 -- The procedure was done if the envelope was installed, and if the procedure was stopped the old record stays. If the
 -- flash failed, it is one of the two.
@@ -140,25 +135,21 @@ WholeSo Stays Done _ = Stays
 -- At each moment the flash has the old record, and no contents changed but those of slots that may be written; or it
 -- has the new record, and the contents that the procedure made. If the procedure was not done, the flash has the old
 -- record at each moment.
-pub record KeepsUpdate (frame : Frame) (layout : List Entry) (places : Places) (tree : PlanTree)
-    (Done : List ℕ → Type 0) (held : Option Record)
+pub record KeepsUpdate (p : Placed) (Done : List ℕ → Type 0) (held : Option Record)
     (new : List ℕ → Record) (old now : Flash) (answer : UpdateEnd) : Type 0 where
   pub numbers : List ℕ
-  pub chosen : AreChosen layout places tree (active_slots held) numbers
+  pub chosen : AreChosen p.layout p.places p.tree (active_slots held) numbers
   pub accepted : IsAcceptable (new numbers).sequence (new numbers).digest held
   pub made : List ℕ
-  pub others : KeepsContents layout places tree numbers old.reads made
+  pub others : KeepsContents p.layout p.places p.tree numbers old.reads made
   pub any_moment :
       Passes old now
-      (λ image. IsOld frame layout places tree numbers held old.reads image
-      ⊎ IsNew frame layout (new numbers) made image)
-  pub whole :
-      WholeSo (Passes old now (IsOld frame layout places tree numbers held old.reads)) (Done made)
-      answer
+      (λ image. IsOld p numbers held old.reads image
+      ⊎ IsNew p.frame p.layout (new numbers) made image)
+  pub whole : WholeSo (Passes old now (IsOld p numbers held old.reads)) (Done made) answer
   pub left :
-      LeftSo (λ r. r ≡ new numbers)
-      (IsOld frame layout places tree numbers held old.reads now.reads)
-      (IsNew frame layout (new numbers) made now.reads) answer
+      LeftSo (λ r. r ≡ new numbers) (IsOld p numbers held old.reads now.reads)
+      (IsNew p.frame p.layout (new numbers) made now.reads) answer
 
 -- what is kept holds if the procedure was run, and otherwise nothing changed
 abbrev pub KeptSo : Type 0 → Type 0 → UpdateEnd → Type 0

@@ -12,6 +12,7 @@ ghost use Rattle.flash_layout.specs.Layouts.{IsLayout};
 ghost use Rattle.flash_layout.specs.Frames.{IsFrame, bank_size};
 ghost use Rattle.rollback_record.specs.SoundFlash.{Follows, Settled, Sound};
 ghost use Rattle.std.specs.Prelude.{◌^◌, ◌≡◌, ◌≤◌, ◌⊎◌, ℕ, IsTrue, List, length};
+ghost use Rattle.step_machine.specs.Devices.{device_at};
 ghost use Rattle.step_machine.specs.Fetching.{AsksAmong, asked_at};
 ghost use Rattle.step_machine.specs.PlanRuns.{counts_of};
 ghost use Rattle.step_machine.specs.UrisSet.{HasFetch};
@@ -19,26 +20,22 @@ ghost use Rattle.step_machine.specs.Worlds.{AreDistinct, HaveAtMost};
 ghost use Rattle.suit_commands.specs.Allowed.{IsPlan};
 ghost use Rattle.suit_edge.specs.Flash.{Grows, IsSame, IsSettled, Passes};
 ghost use Rattle.suit_envelope.specs.Payloads.{HasPayloads};
-ghost use Rattle.suit_envelope.specs.Trimmed.{trimmed};
 ghost use Rattle.suit_envelope.specs.WrapperParts.{HasWrapper};
-ghost use Rattle.suit_manifest.specs.Procedures.{update_tree};
 ghost use Rattle.update_proc.specs.Choices.{AreChosen, active_slots};
 ghost use Rattle.update_proc.specs.Ends.{IfUnfaulted, IsUnbegun, JudgedSo, UpdateCounts};
 ghost use Rattle.update_proc.specs.Installing.{MayBeInstalled};
-ghost use Rattle.update_proc.specs.Offered.{ForOffer};
-ghost use Rattle.update_proc.specs.Records.{new_record};
+ghost use Rattle.update_proc.specs.Given.{ForUpdate, installed_by, new_by, placed_by, tree_of};
 ghost use Rattle.update_proc.specs.Updates.{KeepsUpdate, KeptSo, LaunchesBy, LeavesUpdate, PlayedSo, PlaysToEnd, PlaysUpdate, hosted, sources};
 
-use crate::UpdateEnd;
 use crate::accepting::installable;
 use crate::starting::{Accepted, start};
-use flash_layout::{FlashFault, Frame, Layout, Places};
+use crate::{Update, UpdateEnd};
+use flash_layout::{FlashFault, Frame, Layout};
 use rollback_record::{load_pages_by, record_laws, sound_laws};
 use std::alloc::Global;
-use step_machine::Uris;
 use suit_edge::{Disk, Host, Launcher};
-use suit_envelope::{Envelope, stated_digest};
-use suit_manifest::{Manifest, Members, update_plan};
+use suit_envelope::stated_digest;
+use suit_manifest::update_plan;
 
 /// Updates a flash with this layout and frame (draft-ietf-suit-manifest-25, section 6): judges the manifest against the
 /// record that the flash has, runs its update procedure on the chosen slots, and if that is done writes the trimmed
@@ -53,85 +50,74 @@ pub fn update<H: Host, D: Disk, L: Launcher>(
     launcher: &mut L,
     layout: &Layout,
     frame: Frame,
-    places: &Places,
-    envelope: &Envelope<'_>,
-    manifest: &Manifest,
-    members: &Members,
-    uris: &Uris,
+    update: &Update<'_>,
 ) -> UpdateEnd
     requires frame { IsFrame (D.extent disk.old) frame }
     requires layout { IsLayout frame (D.extent disk.old) layout.now }
-    requires distinct { AreDistinct layout.now places.now }
-    requires count { length manifest.now.components ≡ places.now.count }
-    requires plan { IsPlan (update_tree manifest.now members.now) }
-    requires manifest { SaysWhole IsManifest envelope.now.manifest_place envelope.now.manifest.now
-        manifest.now }
-    requires members { HasMembers (said_by envelope.now) manifest.now members.now }
-    requires ends { PartsEndBelow (2 ^ 64) (said_by envelope.now) }
-    requires wrapper { HasWrapper envelope.now.wrapper.now }
-    requires fits { length (trimmed envelope.now.wrapper.now envelope.now.manifest.now)
-        ≤ bank_size frame }
+    requires distinct { AreDistinct layout.now update.now.places.now }
+    requires count { length update.now.manifest.now.components ≡ update.now.places.now.count }
+    requires plan { IsPlan (tree_of update.now) }
+    requires manifest { SaysWhole IsManifest update.now.envelope.now.manifest_place
+        update.now.envelope.now.manifest.now update.now.manifest.now }
+    requires members { HasMembers (said_by update.now.envelope.now) update.now.manifest.now
+        update.now.members.now }
+    requires ends { PartsEndBelow (2 ^ 64) (said_by update.now.envelope.now) }
+    requires wrapper { HasWrapper update.now.envelope.now.wrapper.now }
+    requires fits { length (installed_by update.now) ≤ bank_size frame }
     requires config { IsTrue D.told
         → (key : Key) × ConfigOf (D.extent disk.old) (D.flash disk.old).reads
         (Configured layout.now key frame) }
     ensures size { D.extent disk.new ≡ D.extent disk.old }
     ensures judged { IsTrue D.told
-        → ForOffer frame (D.flash disk.old).reads envelope.now.wrapper.now
-        (λ held digest. JudgedSo manifest.now.sequence digest held result) }
+        → ForUpdate frame (D.flash disk.old).reads update.now
+        (λ held digest. JudgedSo update.now.manifest.now.sequence digest held result) }
     ensures counts { UpdateCounts result
         (counts_of (H.faults host.old) (D.faults disk.old) (L.faults launcher.old))
         (counts_of (H.faults host.new) (D.faults disk.new) (L.faults launcher.new)) }
     ensures files { IsTrue H.told → H.file host.new ≡ H.file host.old }
     ensures asked { IsTrue H.told → (room : ℕ) → HaveAtMost layout.now room
-        → AsksAmong (update_tree manifest.now members.now) uris.now room
+        → AsksAmong (tree_of update.now) update.now.uris.now room
         (asked_at (H.asked host.old) (H.pulled host.old))
         (asked_at (H.asked host.new) (H.pulled host.new)) }
-    ensures unfetched { (HasFetch (update_tree manifest.now members.now) → ⊥)
-        → host.new ≡ host.old }
+    ensures unfetched { (HasFetch (tree_of update.now) → ⊥) → host.new ≡ host.old }
     ensures unbegun { IsUnbegun result → host.new ≡ host.old }
-    ensures plays { IsTrue D.told → IsTrue L.told
-        → ForOffer frame (D.flash disk.old).reads envelope.now.wrapper.now (λ held digest.
-        (payloads : List (List ℕ × List ℕ)) → HasPayloads envelope.now.whole.now payloads
-        → PlayedSo (λ made end. PlaysUpdate layout.now places.now
-        (update_tree manifest.now members.now) held
-        (sources payloads uris.now
+    ensures plays { IsTrue D.told → IsTrue L.told → let start = (D.flash disk.old).reads in
+        ForUpdate frame start update.now (λ held digest.
+        (payloads : List (List ℕ × List ℕ)) → HasPayloads update.now.envelope.now.whole.now payloads
+        → PlayedSo (λ made end. PlaysUpdate (placed_by frame layout.now update.now) held
+        (sources payloads update.now.uris.now
         (hosted H.told (H.file host.old) (H.asked host.old) (H.asked host.new)))
-        (D.flash disk.old).reads made (L.launches launcher.old) (L.launches launcher.new) end)
-        ((D.flash disk.new).reads ≡ (D.flash disk.old).reads) layout.now
-        (D.flash disk.new).reads (L.launches launcher.old) (L.launches launcher.new) result) }
-    ensures launches { IsTrue D.told → IsTrue L.told
-        → (payloads : List (List ℕ × List ℕ)) → HasPayloads envelope.now.whole.now payloads
-        → LaunchesBy frame (λ held made end. PlaysUpdate layout.now places.now
-        (update_tree manifest.now members.now) held
-        (sources payloads uris.now
+        (device_at start (L.launches launcher.old)) (device_at made (L.launches launcher.new)) end)
+        ((D.flash disk.new).reads ≡ start) layout.now (D.flash disk.new).reads
+        (L.launches launcher.old) (L.launches launcher.new) result) }
+    ensures launches { IsTrue D.told → IsTrue L.told → let start = (D.flash disk.old).reads in
+        (payloads : List (List ℕ × List ℕ)) → HasPayloads update.now.envelope.now.whole.now payloads
+        → LaunchesBy frame (λ held made end. PlaysUpdate (placed_by frame layout.now update.now)
+        held (sources payloads update.now.uris.now
         (hosted H.told (H.file host.old) (H.asked host.old) (H.asked host.new)))
-        (D.flash disk.old).reads made (L.launches launcher.old) (L.launches launcher.new) end)
-        (D.flash disk.old).reads (L.launches launcher.old) (L.launches launcher.new) }
-    ensures keeps { IsTrue D.told → Settled (D.flash disk.old)
-        → let start = D.flash disk.old in
-        let bytes = trimmed envelope.now.wrapper.now envelope.now.manifest.now in
-        ForOffer frame start.reads envelope.now.wrapper.now (λ held digest.
-        KeptSo (KeepsUpdate frame layout.now places.now (update_tree manifest.now members.now)
+        (device_at start (L.launches launcher.old)) (device_at made (L.launches launcher.new)) end)
+        start (L.launches launcher.old) (L.launches launcher.new) }
+    ensures keeps { IsTrue D.told → Settled (D.flash disk.old) → let start = D.flash disk.old in
+        ForUpdate frame start.reads update.now (λ held digest.
+        KeptSo (KeepsUpdate (placed_by frame layout.now update.now)
         (λ made. IsTrue H.told → IsTrue L.told
-        → PlaysToEnd layout.now places.now (update_tree manifest.now members.now) held
-        envelope.now.whole.now uris.now (H.file host.old) start.reads
-        (L.launches launcher.old) (L.launches launcher.new) made) held
-        (λ numbers. new_record frame held start.reads bytes manifest.now.sequence digest numbers)
+        → PlaysToEnd (placed_by frame layout.now update.now) held
+        update.now.envelope.now.whole.now update.now.uris.now (H.file host.old)
+        (device_at start.reads (L.launches launcher.old))
+        (device_at made (L.launches launcher.new)))
+        held (new_by frame held start.reads update.now digest)
         start (D.flash disk.new) result) (IsSame start (D.flash disk.new)) result) }
     ensures left { IsTrue D.told → let start = (D.flash disk.old).reads in
-        let bytes = trimmed envelope.now.wrapper.now envelope.now.manifest.now in
-        ForOffer frame start envelope.now.wrapper.now (λ held digest.
-        KeptSo (LeavesUpdate frame layout.now places.now (update_tree manifest.now members.now) held
-        (λ numbers. new_record frame held start bytes manifest.now.sequence digest numbers)
-        start (D.flash disk.new).reads result) ((D.flash disk.new).reads ≡ start) result) }
-    ensures sound { IsTrue D.told → Settled (D.flash disk.old)
-        → let start = D.flash disk.old in
-        let bytes = trimmed envelope.now.wrapper.now envelope.now.manifest.now in
-        ForOffer frame start.reads envelope.now.wrapper.now (λ held digest.
-        ((numbers : List ℕ) → AreChosen layout.now places.now (update_tree manifest.now members.now)
-        (active_slots held) numbers
-        → MayBeInstalled frame start.reads bytes
-        (new_record frame held start.reads bytes manifest.now.sequence digest numbers))
+        ForUpdate frame start update.now (λ held digest.
+        KeptSo (LeavesUpdate (placed_by frame layout.now update.now) held
+        (new_by frame held start update.now digest) start (D.flash disk.new).reads result)
+        ((D.flash disk.new).reads ≡ start) result) }
+    ensures sound { IsTrue D.told → Settled (D.flash disk.old) → let start = D.flash disk.old in
+        ForUpdate frame start.reads update.now (λ held digest.
+        ((numbers : List ℕ)
+        → AreChosen layout.now update.now.places.now (tree_of update.now) (active_slots held)
+        numbers → MayBeInstalled frame start.reads (installed_by update.now)
+        (new_by frame held start.reads update.now digest numbers))
         → Passes start (D.flash disk.new) Sound) }
     ensures follows { IsTrue D.told → Settled (D.flash disk.old)
         → Passes (D.flash disk.old) (D.flash disk.new)
@@ -148,12 +134,14 @@ pub fn update<H: Host, D: Disk, L: Launcher>(
         Err(FlashFault) => return UpdateEnd::FlashFault,
     };
     let held = pages.held.as_ref();
+    let envelope = update.envelope;
+    let manifest = update.manifest;
     let digest = stated_digest(envelope);
     let bytes = match installable(alloc, envelope, manifest.sequence, held, &digest) {
         Ok(bytes) => bytes,
         Err(end) => return end,
     };
-    let plan = update_plan(manifest, members);
+    let plan = update_plan(manifest, update.members);
     let whole = bytes.as_slice();
     let accepted = Accepted {
         frame,
@@ -164,7 +152,8 @@ pub fn update<H: Host, D: Disk, L: Launcher>(
         digest,
         plan: &plan,
         envelope,
-        uris,
+        uris: update.uris,
     };
+    let places = update.places;
     start(alloc, host, disk, launcher, layout, places, &accepted)
 }

@@ -6,7 +6,8 @@ ghost use Rattle.rollback_record.specs.Committing.{HasSpare};
 ghost use Rattle.rollback_record.specs.HeadRecord.{IsLoadable, RecordOf};
 ghost use Rattle.rollback_record.specs.Judging.{IsAcceptable};
 ghost use Rattle.rollback_record.specs.SoundFlash.{Follows, Settled, Sound};
-ghost use Rattle.std.specs.Prelude.{◌^◌, ◌≡◌, ◌<◌, ◌≤◌, ◌⊎◌, ℕ, IfSome, IsTrue, List, length, option_map};
+ghost use Rattle.std.specs.Prelude.{◌^◌, ◌≡◌, ◌<◌, ◌≤◌, ◌⊎◌, ℕ, IfSome, IsTrue, List, length};
+ghost use Rattle.step_machine.specs.Devices.{device_at};
 ghost use Rattle.step_machine.specs.Fetching.{AsksAmong, asked_at};
 ghost use Rattle.step_machine.specs.PlanRuns.{counts_of};
 ghost use Rattle.step_machine.specs.UrisSet.{HasFetch};
@@ -25,8 +26,8 @@ ghost use Rattle.suit_edge.specs.Flash.{Grows, IsSame, IsSettled, Passes};
 ghost use Rattle.suit_envelope.specs.Payloads.{HasPayloads};
 ghost use Rattle.update_proc.specs.Choices.{AreChosen, active_slots};
 ghost use Rattle.update_proc.specs.Ends.{IfUnfaulted, IsRefusal, IsUnbegun, UpdateCounts};
+ghost use Rattle.update_proc.specs.Given.{held_by, placed_as, record_by};
 ghost use Rattle.update_proc.specs.Installing.{HasLayout, MayBeInstalled};
-ghost use Rattle.update_proc.specs.Records.{new_record};
 ghost use Rattle.update_proc.specs.Updates.{KeepsUpdate, KeptSo, LeavesUpdate, PlayedSo, PlaysToEnd, PlaysUpdate, hosted, sources};
 
 use crate::finishing::finish;
@@ -82,17 +83,16 @@ pub(crate) fn start<H: Host, D: Disk, L: Launcher>(
         × HasMembers (said_by accepted.now.envelope.now) manifest members
         × (plan_tree accepted.now.plan.now ≡ update_tree manifest members) }
     requires count { accepted.now.plan.now.count ≡ places.now.count }
-    requires loadable { IfSome (option_map (λ r. r.now) accepted.now.held)
-        (IsLoadable accepted.now.frame) }
+    requires loadable { IfSome (held_by accepted.now) (IsLoadable accepted.now.frame) }
     requires held { IsTrue D.told
         → RecordOf accepted.now.frame (head_of accepted.now.frame (D.flash disk.old).reads)
-        (option_map (λ r. r.now) accepted.now.held) }
+        (held_by accepted.now) }
     requires two { accepted.now.spare.which < 2 }
     requires spare { IsTrue D.told
         → HasSpare accepted.now.frame (head_of accepted.now.frame (D.flash disk.old).reads)
-        (option_map (λ r. r.now) accepted.now.held) accepted.now.spare }
+        (held_by accepted.now) accepted.now.spare }
     requires judged { IsAcceptable accepted.now.sequence accepted.now.digest
-        (option_map (λ r. r.now) accepted.now.held) }
+        (held_by accepted.now) }
     requires fits { length accepted.now.bytes.now ≤ bank_size accepted.now.frame }
     ensures size { D.extent disk.new ≡ D.extent disk.old }
     ensures later { IsTrue D.told → (D.flash disk.old).clock ≤ (D.flash disk.new).clock }
@@ -109,46 +109,34 @@ pub(crate) fn start<H: Host, D: Disk, L: Launcher>(
     ensures unbegun { IsUnbegun result → host.new ≡ host.old }
     ensures settled { IsTrue D.told → IfUnfaulted result
         (IsSame (D.flash disk.old) (D.flash disk.new) ⊎ IsSettled (D.flash disk.new)) }
-    ensures plays { IsTrue D.told → IsTrue L.told
-        → let held = option_map (λ r. r.now) accepted.now.held in
+    ensures plays { IsTrue D.told → IsTrue L.told → let start = (D.flash disk.old).reads in
         (payloads : List (List ℕ × List ℕ))
         → HasPayloads accepted.now.envelope.now.whole.now payloads
-        → PlayedSo (λ made end. PlaysUpdate layout.now places.now
-        (plan_tree accepted.now.plan.now) held
-        (sources payloads accepted.now.uris.now
+        → PlayedSo (λ made end. PlaysUpdate (placed_as layout.now places.now accepted.now)
+        (held_by accepted.now) (sources payloads accepted.now.uris.now
         (hosted H.told (H.file host.old) (H.asked host.old) (H.asked host.new)))
-        (D.flash disk.old).reads made (L.launches launcher.old) (L.launches launcher.new) end)
-        ((D.flash disk.new).reads ≡ (D.flash disk.old).reads) layout.now
-        (D.flash disk.new).reads (L.launches launcher.old) (L.launches launcher.new) result }
-    ensures keeps { IsTrue D.told → Settled (D.flash disk.old)
-        → let held = option_map (λ r. r.now) accepted.now.held in
-        let start = D.flash disk.old in
-        let frame = accepted.now.frame in
-        KeptSo (KeepsUpdate frame layout.now places.now (plan_tree accepted.now.plan.now)
+        (device_at start (L.launches launcher.old)) (device_at made (L.launches launcher.new)) end)
+        ((D.flash disk.new).reads ≡ start) layout.now (D.flash disk.new).reads
+        (L.launches launcher.old) (L.launches launcher.new) result }
+    ensures keeps { IsTrue D.told → Settled (D.flash disk.old) → let start = D.flash disk.old in
+        KeptSo (KeepsUpdate (placed_as layout.now places.now accepted.now)
         (λ made. IsTrue H.told → IsTrue L.told
-        → PlaysToEnd layout.now places.now (plan_tree accepted.now.plan.now) held
-        accepted.now.envelope.now.whole.now accepted.now.uris.now (H.file host.old) start.reads
-        (L.launches launcher.old) (L.launches launcher.new) made) held
-        (λ numbers. new_record frame held start.reads accepted.now.bytes.now accepted.now.sequence
-        accepted.now.digest numbers)
+        → PlaysToEnd (placed_as layout.now places.now accepted.now) (held_by accepted.now)
+        accepted.now.envelope.now.whole.now accepted.now.uris.now (H.file host.old)
+        (device_at start.reads (L.launches launcher.old))
+        (device_at made (L.launches launcher.new)))
+        (held_by accepted.now) (record_by accepted.now start.reads)
         start (D.flash disk.new) result) (IsSame start (D.flash disk.new)) result }
-    ensures left { IsTrue D.told → let held = option_map (λ r. r.now) accepted.now.held in
-        let start = (D.flash disk.old).reads in
-        let frame = accepted.now.frame in
-        KeptSo (LeavesUpdate frame layout.now places.now (plan_tree accepted.now.plan.now) held
-        (λ numbers. new_record frame held start accepted.now.bytes.now accepted.now.sequence
-        accepted.now.digest numbers)
-        start (D.flash disk.new).reads result) ((D.flash disk.new).reads ≡ start) result }
+    ensures left { IsTrue D.told → let start = (D.flash disk.old).reads in
+        KeptSo (LeavesUpdate (placed_as layout.now places.now accepted.now)
+        (held_by accepted.now) (record_by accepted.now start) start (D.flash disk.new).reads result)
+        ((D.flash disk.new).reads ≡ start) result }
     ensures grows { IsTrue D.told → Grows (D.flash disk.old) (D.flash disk.new) }
-    ensures sound { IsTrue D.told → Settled (D.flash disk.old)
-        → let held = option_map (λ r. r.now) accepted.now.held in
-        let start = D.flash disk.old in
-        let frame = accepted.now.frame in
+    ensures sound { IsTrue D.told → Settled (D.flash disk.old) → let start = D.flash disk.old in
         ((numbers : List ℕ) → AreChosen layout.now places.now (plan_tree accepted.now.plan.now)
-        (active_slots held) numbers
-        → MayBeInstalled frame start.reads accepted.now.bytes.now
-        (new_record frame held start.reads accepted.now.bytes.now accepted.now.sequence
-        accepted.now.digest numbers))
+        (active_slots (held_by accepted.now)) numbers
+        → MayBeInstalled accepted.now.frame start.reads accepted.now.bytes.now
+        (record_by accepted.now start.reads numbers))
         → Passes start (D.flash disk.new) Sound }
     ensures follows { IsTrue D.told → Settled (D.flash disk.old)
         → Passes (D.flash disk.old) (D.flash disk.new)

@@ -1,5 +1,6 @@
 use Rattle.std.proofs.Common.{◌≡◌, ◌∙◌, ap, inl, inr, refl, subst, sym, ℕ, List, [], ◌∷◌, Some, None}
 use Rattle.boot_c.specs.Images.{IsLaunched}
+use Rattle.step_machine.specs.Devices.{device_at}
 use Rattle.step_machine.specs.declared.plan_end.PlanEnd.TheVariants as plays
 use Rattle.boot_c.specs.BootAnswers.{boot_answer}
 use Rattle.boot_c.proofs.Ends.{ended_so}
@@ -33,13 +34,13 @@ returns-in_default-noted-clause-none c = λ done. λ none.
     let launcher = c.boot-end.new.launcher in
     let before : launches_of c.new-launcher.result ≡ [] = ap launches_of c.new-launcher.ensures in
     let after : launches_of launcher ≡ [] = ap (launches_in launcher.flash) (sym c.in_default-noted.ensures) in
-    let played = subst (λ (e : BootEnd). PlayedSo (PlaysBoot c.args.frame c.args.layout.now c.args.key.now (λ _. None) c.new-disk.result.bytes c.boot-end.new.disk.bytes (launches_of c.new-launcher.result) (launches_of launcher)) (c.boot-end.new.disk.bytes ≡ c.new-disk.result.bytes) (launches_of c.new-launcher.result) (launches_of launcher) e) c.in-Ended.is (c.boot-end.ensures.plays refl refl) in
+    let played = subst (λ (e : BootEnd). PlayedSo (PlaysBoot c.args.frame c.args.layout.now c.args.key.now (λ _. None) (device_at c.new-disk.result.bytes (launches_of c.new-launcher.result)) (device_at c.boot-end.new.disk.bytes (launches_of launcher))) (c.boot-end.new.disk.bytes ≡ c.new-disk.result.bytes) (launches_of c.new-launcher.result) (launches_of launcher) e) c.in-Ended.is (c.boot-end.ensures.plays refl refl) in
     record {
       config = record { layout = c.args.layout.now; key = c.args.key.now; frame = c.args.frame; is = c.requires.held };
       after = c.boot-end.new.disk.bytes;
-      plays = subst (λ (d : ViewState). PlaysBoot c.args.frame c.args.layout.now c.args.key.now (λ _. None) d.bytes c.boot-end.new.disk.bytes [] [] plays.Done) c.new-disk.ensures
-          (subst (λ (l : List Launch). PlaysBoot c.args.frame c.args.layout.now c.args.key.now (λ _. None) c.new-disk.result.bytes c.boot-end.new.disk.bytes l [] plays.Done) before
-          (subst (λ (l : List Launch). PlaysBoot c.args.frame c.args.layout.now c.args.key.now (λ _. None) c.new-disk.result.bytes c.boot-end.new.disk.bytes (launches_of c.new-launcher.result) l plays.Done) after played));
+      plays = subst (λ (d : ViewState). PlaysBoot c.args.frame c.args.layout.now c.args.key.now (λ _. None) (device_at d.bytes []) (device_at c.boot-end.new.disk.bytes []) plays.Done) c.new-disk.ensures
+          (subst (λ (l : List Launch). PlaysBoot c.args.frame c.args.layout.now c.args.key.now (λ _. None) (device_at c.new-disk.result.bytes l) (device_at c.boot-end.new.disk.bytes []) plays.Done) before
+          (subst (λ (l : List Launch). PlaysBoot c.args.frame c.args.layout.now c.args.key.now (λ _. None) (device_at c.new-disk.result.bytes (launches_of c.new-launcher.result)) (device_at c.boot-end.new.disk.bytes l) plays.Done) after played));
     }
 
 pub returns-in-Some-image_in-clause-answers : goal.returns-in-Some-image_in-clause-answers
@@ -59,7 +60,7 @@ returns-in-Some-image_in-clause-image c =
     let none : launches_of c.new-launcher.result ≡ [] = ap launches_of c.new-launcher.ensures in
     let noted : launcher.noted ≡ Some c.in-Some.note.now = sym c.in-Some.ensures in
     let one : launches_of launcher ≡ launch ∷ [] = ap (launches_in launcher.flash) noted in
-    let played = subst (λ (e : BootEnd). PlayedSo (PlaysBoot c.args.frame c.args.layout.now c.args.key.now (λ _. None) c.new-disk.result.bytes c.boot-end.new.disk.bytes (launches_of c.new-launcher.result) (launches_of launcher)) (c.boot-end.new.disk.bytes ≡ c.new-disk.result.bytes) (launches_of c.new-launcher.result) (launches_of launcher) e) c.in-Ended.is (c.boot-end.ensures.plays refl refl) in (
+    let played = subst (λ (e : BootEnd). PlayedSo (PlaysBoot c.args.frame c.args.layout.now c.args.key.now (λ _. None) (device_at c.new-disk.result.bytes (launches_of c.new-launcher.result)) (device_at c.boot-end.new.disk.bytes (launches_of launcher))) (c.boot-end.new.disk.bytes ≡ c.new-disk.result.bytes) (launches_of c.new-launcher.result) (launches_of launcher) e) c.in-Ended.is (c.boot-end.ensures.plays refl refl) in (
       c.boot_answer-answer.ensures ∙ ap boot_answer c.in-Ended.is,
       c.in-Some-image_in.ensures.found,
       record {
@@ -67,9 +68,9 @@ returns-in-Some-image_in-clause-image c =
         launch = launch;
         launched = subst (λ (seen : List ℕ). IsLaunched c.args.flash.now c.in-Some-image_in.image (noted_launch seen c.in-Some.note.now)) c.flash.ensures c.in-Some-image_in.ensures.launched;
         after = c.boot-end.new.disk.bytes;
-        plays = subst (λ (d : ViewState). PlaysBoot c.args.frame c.args.layout.now c.args.key.now (λ _. None) d.bytes c.boot-end.new.disk.bytes [] (launch ∷ []) plays.Done) c.new-disk.ensures
-            (subst (λ (l : List Launch). PlaysBoot c.args.frame c.args.layout.now c.args.key.now (λ _. None) c.new-disk.result.bytes c.boot-end.new.disk.bytes l (launch ∷ []) plays.Done) none
-            (subst (λ (l : List Launch). PlaysBoot c.args.frame c.args.layout.now c.args.key.now (λ _. None) c.new-disk.result.bytes c.boot-end.new.disk.bytes (launches_of c.new-launcher.result) l plays.Done) one played));
+        plays = subst (λ (d : ViewState). PlaysBoot c.args.frame c.args.layout.now c.args.key.now (λ _. None) (device_at d.bytes []) (device_at c.boot-end.new.disk.bytes (launch ∷ [])) plays.Done) c.new-disk.ensures
+            (subst (λ (l : List Launch). PlaysBoot c.args.frame c.args.layout.now c.args.key.now (λ _. None) (device_at c.new-disk.result.bytes l) (device_at c.boot-end.new.disk.bytes (launch ∷ [])) plays.Done) none
+            (subst (λ (l : List Launch). PlaysBoot c.args.frame c.args.layout.now c.args.key.now (λ _. None) (device_at c.new-disk.result.bytes (launches_of c.new-launcher.result)) (device_at c.boot-end.new.disk.bytes l) plays.Done) one played));
         safe = λ sound. one_safe (launches_of c.new-launcher.result) (launches_of launcher) launch none one (c.boot-end.ensures.safe refl refl (subst (λ (d : ViewState). Sound d.bytes) (sym c.new-disk.ensures) sound));
       },
     )

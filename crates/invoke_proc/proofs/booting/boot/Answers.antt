@@ -8,6 +8,7 @@ use Rattle.invoke_proc.proofs.Played.{unfaulted}
 use Rattle.rollback_record.proofs.HeadSince.{follows_since, sound_since}
 use Rattle.invoke_proc.proofs.SoundBoot.{gains, head_kept, played_gains, safe_start, settled_end, unrefused}
 use Rattle.invoke_proc.proofs.booting.boot.Goals as goal
+use Rattle.step_machine.specs.Devices.{device_at}
 
 pub returns-clause-unrefused : goal.returns-clause-unrefused
 returns-clause-unrefused g c t sound =
@@ -36,7 +37,7 @@ returns-clause-safe g c td tl sound =
     let now = g.L.Launcher.launches c.start_installed.new.launcher in
     let config = subst (λ (n : ℕ). ConfigOf n reads (Configured layout key c.args.frame)) (sym (g.met.D.Disk.obeys c.args.disk.now td).fits) (c.requires.held td) in
     played_gains c.play_laws.ensures.safe c.play_laws.ensures.faulted_safe c.manifest_laws.ensures c.args.frame size layout c.requires.allowed.layout_is c.has_identifiers.ensures key files reads after launched now
-    (PlaysBoot c.args.frame layout key files reads after launched now) (after ≡ reads) c.start_installed.result
+    (PlaysBoot c.args.frame layout key files (device_at reads launched) (device_at after now)) (after ≡ reads) c.start_installed.result
     (λ end p. gains c.play_laws.ensures.safe c.play_laws.ensures.faulted_safe c.manifest_laws.ensures c.args.frame size layout c.requires.allowed.layout_is c.has_identifiers.ensures key files reads after launched now end p
     (safe_start c.config_laws.ensures.answer c.record_laws.ensures.answer c.boot_laws.ensures c.args.frame layout key reads (told_by (length reads) reads c.args.frame config.told) config p.installed p.manifest sound p.starts))
     (c.start_installed.ensures.plays td tl)

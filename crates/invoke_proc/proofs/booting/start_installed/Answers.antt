@@ -1,5 +1,6 @@
 use Rattle.std.proofs.Common.{◌≡◌, ◌∙◌, ℕ, length, ap, sym, subst}
 use Rattle.manifest_view.specs.Views.{manifest_of}
+use Rattle.step_machine.specs.Devices.{device_at}
 use Rattle.suit_edge.specs.Flash.{IsSame}
 use Rattle.suit_edge.specs.FlashLaws.{same_flash_then}
 use Rattle.flash_layout.specs.declared.frame.Frame.{Frame}
@@ -28,7 +29,7 @@ returns-in-Err-clause-plays g c td tl =
     let launched = g.L.Launcher.launches c.args.launcher.now in
     let reads = (g.D.Disk.flash c.args.disk.now).reads in
     let after = (g.D.Disk.flash c.find_bank.new.disk).reads in
-    let Plays = PlaysBoot c.args.frame c.args.layout.now c.args.key.now (g.H.Host.file c.args.host.now) reads after launched launched in
+    let Plays = PlaysBoot c.args.frame c.args.layout.now c.args.key.now (g.H.Host.file c.args.host.now) (device_at reads launched) (device_at after launched) in
     subst (λ (e : BootEnd). PlayedSo Plays (after ≡ reads) launched launched e) (sym c.without_bank.ensures) (booted.none_plays Plays (after ≡ reads) launched c.in-Err.fault (c.in-Err.ensures.same td).reads)
 
 pub start-requires-clause-distinct : goal.start-requires-clause-distinct
@@ -68,7 +69,7 @@ returns-clause-plays g c td tl =
     let same = c.in-Ok.ensures.bytes td in
     let starts = booted.started_from c.args.frame c.args.layout.now c.args.key.now reads c.key_bytes.result.now _ r c.in-Ok-startable.startable (c.in-Ok.ensures.recorded td) c.key_bytes.ensures
     same c.in-Ok-startable.ensures.startable in
-    booted.played_as (PlaysOn c.args.layout.now m r.active files before after launched now) (PlaysBoot c.args.frame c.args.layout.now c.args.key.now files reads after launched now)
+    booted.played_as (PlaysOn c.args.layout.now m r.active files (device_at before launched) (device_at after now)) (PlaysBoot c.args.frame c.args.layout.now c.args.key.now files (device_at reads launched) (device_at after now))
     (after ≡ before) (after ≡ reads) launched now c.start.result
     (booted.plays_boot c.args.frame c.args.layout.now c.args.key.now files reads before after launched now r m starts (c.in-Ok.ensures.same td).reads)
     (λ same. same ∙ (c.in-Ok.ensures.same td).reads)

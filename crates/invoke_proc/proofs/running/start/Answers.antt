@@ -1,6 +1,7 @@
 use Rattle.std.proofs.Common.{◌≡◌, [], Bool, true, false, Option, refl, inl, inr, ⊎_elim, sym, subst, ap, ◌∙◌}
 use Rattle.std.specs.Borrow.{Bor}
 use Rattle.manifest_view.specs.Views.{manifest_of}
+use Rattle.step_machine.specs.Devices.{device_at}
 use Rattle.suit_commands.specs.Allowed.{IsPlan}
 use Rattle.suit_commands.specs.Tree.{PlanTree}
 use Rattle.suit_edge.specs.Flash.{IsSame}
@@ -51,7 +52,7 @@ returns-clause-plays g c td tl =
     let now = g.L.Launcher.launches c.run_plan-end.new.launcher in
     let run = c.run_plan-end.ensures.plays refl refl td tl [] (subst (λ (e : Option (Bor Envelope)). ArePayloads e []) (sym c.world_in-world.ensures.envelope) refl) in
     plays_after c.run_plan-end.result c.settle.result _ _ c.settle.ensures.read.counts
-    (PlaysOn c.args.layout.now m c.args.installed.now.active files before after launched now) (after ≡ before) launched now
+    (PlaysOn c.args.layout.now m c.args.installed.now.active files (device_at before launched) (device_at after now)) (after ≡ before) launched now
     (plays_on c.args.layout.now m c.args.installed.now.active w.uris.now files before between after launched now c.run_plan-end.result
     w.standings.items w.ram c.run_plan-end.new.world.ram c.world_in-world.ensures.stand c.world_in-world.ensures.ram (c.world_in-world.ensures.uris ∙ c.requires.uris) (c.settle.ensures.read.same td).reads _ (same_tree c.invocation_program-program.result c.copy.new.self _ c.copy.ensures.same c.invocation_program-program.ensures)
     run.0 (run.1 (inr (c.world_in-world.ensures.uris ∙ c.requires.uris))) run.2)

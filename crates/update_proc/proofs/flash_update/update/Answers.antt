@@ -22,6 +22,8 @@ use Rattle.update_proc.specs.Ends.{JudgedSo, UpdateCounts}
 use Rattle.update_proc.specs.Installing.{HasLayout, MayBeInstalled}
 use Rattle.update_proc.specs.Records.{new_record}
 use Rattle.update_proc.specs.Updates.{KeepsUpdate, KeptSo, LeavesUpdate, PlayedSo, PlaysToEnd, PlaysUpdate, hosted, sources}
+use Rattle.update_proc.specs.Moments.{placed_on}
+use Rattle.step_machine.specs.Devices.{device_at}
 use Rattle.step_machine.specs.Fetching.{AsksAmong, asked_at}
 use Rattle.step_machine.specs.UrisSet.{HasFetch}
 use Rattle.step_machine.proofs.Asking.{asks_none}
@@ -42,7 +44,7 @@ returns-in-Err-clause-follows g c t settled =
     weakens (g.D.Disk.flash c.args.disk.now) (g.D.Disk.flash c.load_pages_by.new.disk) (Now (g.D.Disk.flash c.args.disk.now)) (Follows (g.D.Disk.flash c.args.disk.now).reads) (follows_now c.sound_laws.ensures (g.D.Disk.flash c.args.disk.now) settled) (c.in-Err.ensures.same t).images
 
 pub start-requires-clause-said : goal.start-requires-clause-said
-start-requires-clause-said g c = (c.args.manifest.now, c.args.members.now, c.requires.manifest, c.requires.members, c.update_plan-plan.ensures)
+start-requires-clause-said g c = (c.args.update.now.manifest.now, c.args.update.now.members.now, c.requires.manifest, c.requires.members, c.update_plan-plan.ensures)
 
 pub start-requires-clause-held : goal.start-requires-clause-held
 start-requires-clause-held g c t =
@@ -54,28 +56,28 @@ start-requires-clause-spare g c t =
 
 pub returns-clause-judged : goal.returns-clause-judged
 returns-clause-judged g c t =
-    for_offer c.record_laws.ensures.answer c.args.frame (g.D.Disk.flash c.args.disk.now).reads c.args.envelope.now.wrapper.now
-    (λ held digest. JudgedSo c.args.manifest.now.sequence digest held c.start.result)
+    for_offer c.record_laws.ensures.answer c.args.frame (g.D.Disk.flash c.args.disk.now).reads c.args.update.now.envelope.now.wrapper.now
+    (λ held digest. JudgedSo c.args.update.now.manifest.now.sequence digest held c.start.result)
     (held_of c.as_ref-held.result) c.stated_digest-digest.result (recorded_as c.args.frame (head_of c.args.frame (g.D.Disk.flash c.args.disk.now).reads) c.as_ref-held.result c.in-Ok.pages.held c.as_ref-held.ensures.value (c.in-Ok.ensures.exact t).held) c.stated_digest-digest.ensures
-    (accepted_judged c.args.manifest.now.sequence c.stated_digest-digest.result (held_of c.as_ref-held.result) c.start.result c.start.ensures.starts c.in-Ok-installable.ensures.accepted)
+    (accepted_judged c.args.update.now.manifest.now.sequence c.stated_digest-digest.result (held_of c.as_ref-held.result) c.start.result c.start.ensures.starts c.in-Ok-installable.ensures.accepted)
 
 pub returns-clause-plays : goal.returns-clause-plays
 returns-clause-plays g c t tl =
-    for_offer c.record_laws.ensures.answer c.args.frame (g.D.Disk.flash c.args.disk.now).reads c.args.envelope.now.wrapper.now
-    (λ held digest. (payloads : List (List ℕ × List ℕ)) → HasPayloads c.args.envelope.now.whole.now payloads → PlayedSo (λ made end. PlaysUpdate c.args.layout.now c.args.places.now (update_tree c.args.manifest.now c.args.members.now) held (sources payloads c.args.uris.now (hosted g.H.Host.told (g.H.Host.file c.args.host.now) (g.H.Host.asked c.args.host.now) (g.H.Host.asked c.start.new.host))) (g.D.Disk.flash c.args.disk.now).reads made (g.L.Launcher.launches c.args.launcher.now) (g.L.Launcher.launches c.start.new.launcher) end) ((g.D.Disk.flash c.start.new.disk).reads ≡ (g.D.Disk.flash c.args.disk.now).reads) c.args.layout.now (g.D.Disk.flash c.start.new.disk).reads (g.L.Launcher.launches c.args.launcher.now) (g.L.Launcher.launches c.start.new.launcher) c.start.result)
+    for_offer c.record_laws.ensures.answer c.args.frame (g.D.Disk.flash c.args.disk.now).reads c.args.update.now.envelope.now.wrapper.now
+    (λ held digest. (payloads : List (List ℕ × List ℕ)) → HasPayloads c.args.update.now.envelope.now.whole.now payloads → PlayedSo (λ made end. PlaysUpdate (placed_on c.args.frame c.args.layout.now c.args.update.now.places.now (update_tree c.args.update.now.manifest.now c.args.update.now.members.now)) held (sources payloads c.args.update.now.uris.now (hosted g.H.Host.told (g.H.Host.file c.args.host.now) (g.H.Host.asked c.args.host.now) (g.H.Host.asked c.start.new.host))) (device_at (g.D.Disk.flash c.args.disk.now).reads (g.L.Launcher.launches c.args.launcher.now)) (device_at made (g.L.Launcher.launches c.start.new.launcher)) end) ((g.D.Disk.flash c.start.new.disk).reads ≡ (g.D.Disk.flash c.args.disk.now).reads) c.args.layout.now (g.D.Disk.flash c.start.new.disk).reads (g.L.Launcher.launches c.args.launcher.now) (g.L.Launcher.launches c.start.new.launcher) c.start.result)
     (held_of c.as_ref-held.result) c.stated_digest-digest.result (recorded_as c.args.frame (head_of c.args.frame (g.D.Disk.flash c.args.disk.now).reads) c.as_ref-held.result c.in-Ok.pages.held c.as_ref-held.ensures.value (c.in-Ok.ensures.exact t).held) c.stated_digest-digest.ensures
-    (λ payloads has. subst (λ (l : List ℕ). PlayedSo (λ made end. PlaysUpdate c.args.layout.now c.args.places.now (update_tree c.args.manifest.now c.args.members.now) (held_of c.as_ref-held.result) (sources payloads c.args.uris.now (hosted g.H.Host.told (g.H.Host.file c.args.host.now) (g.H.Host.asked c.args.host.now) (g.H.Host.asked c.start.new.host))) l made (g.L.Launcher.launches c.args.launcher.now) (g.L.Launcher.launches c.start.new.launcher) end) ((g.D.Disk.flash c.start.new.disk).reads ≡ l) c.args.layout.now (g.D.Disk.flash c.start.new.disk).reads (g.L.Launcher.launches c.args.launcher.now) (g.L.Launcher.launches c.start.new.launcher) c.start.result) (c.in-Ok.ensures.same t).reads (subst (λ (tree : PlanTree). PlayedSo (λ made end. PlaysUpdate c.args.layout.now c.args.places.now tree (held_of c.as_ref-held.result) (sources payloads c.args.uris.now (hosted g.H.Host.told (g.H.Host.file c.args.host.now) (g.H.Host.asked c.args.host.now) (g.H.Host.asked c.start.new.host))) (g.D.Disk.flash c.load_pages_by.new.disk).reads made (g.L.Launcher.launches c.args.launcher.now) (g.L.Launcher.launches c.start.new.launcher) end) ((g.D.Disk.flash c.start.new.disk).reads ≡ (g.D.Disk.flash c.load_pages_by.new.disk).reads) c.args.layout.now (g.D.Disk.flash c.start.new.disk).reads (g.L.Launcher.launches c.args.launcher.now) (g.L.Launcher.launches c.start.new.launcher) c.start.result) c.update_plan-plan.ensures (c.start.ensures.plays t tl payloads has)))
+    (λ payloads has. subst (λ (l : List ℕ). PlayedSo (λ made end. PlaysUpdate (placed_on c.args.frame c.args.layout.now c.args.update.now.places.now (update_tree c.args.update.now.manifest.now c.args.update.now.members.now)) (held_of c.as_ref-held.result) (sources payloads c.args.update.now.uris.now (hosted g.H.Host.told (g.H.Host.file c.args.host.now) (g.H.Host.asked c.args.host.now) (g.H.Host.asked c.start.new.host))) (device_at l (g.L.Launcher.launches c.args.launcher.now)) (device_at made (g.L.Launcher.launches c.start.new.launcher)) end) ((g.D.Disk.flash c.start.new.disk).reads ≡ l) c.args.layout.now (g.D.Disk.flash c.start.new.disk).reads (g.L.Launcher.launches c.args.launcher.now) (g.L.Launcher.launches c.start.new.launcher) c.start.result) (c.in-Ok.ensures.same t).reads (subst (λ (tree : PlanTree). PlayedSo (λ made end. PlaysUpdate (placed_on c.args.frame c.args.layout.now c.args.update.now.places.now tree) (held_of c.as_ref-held.result) (sources payloads c.args.update.now.uris.now (hosted g.H.Host.told (g.H.Host.file c.args.host.now) (g.H.Host.asked c.args.host.now) (g.H.Host.asked c.start.new.host))) (device_at (g.D.Disk.flash c.load_pages_by.new.disk).reads (g.L.Launcher.launches c.args.launcher.now)) (device_at made (g.L.Launcher.launches c.start.new.launcher)) end) ((g.D.Disk.flash c.start.new.disk).reads ≡ (g.D.Disk.flash c.load_pages_by.new.disk).reads) c.args.layout.now (g.D.Disk.flash c.start.new.disk).reads (g.L.Launcher.launches c.args.launcher.now) (g.L.Launcher.launches c.start.new.launcher) c.start.result) c.update_plan-plan.ensures (c.start.ensures.plays t tl payloads has)))
 
 pub returns-in-Err-clause-asked : goal.returns-in-Err-clause-asked
-returns-in-Err-clause-asked g c t room rooms = asks_none (update_tree c.args.manifest.now c.args.members.now) c.args.uris.now room _
+returns-in-Err-clause-asked g c t room rooms = asks_none (update_tree c.args.update.now.manifest.now c.args.update.now.members.now) c.args.update.now.uris.now room _
 
 pub returns-in-Err-installable-clause-asked : goal.returns-in-Err-installable-clause-asked
-returns-in-Err-installable-clause-asked g c t room rooms = asks_none (update_tree c.args.manifest.now c.args.members.now) c.args.uris.now room _
+returns-in-Err-installable-clause-asked g c t room rooms = asks_none (update_tree c.args.update.now.manifest.now c.args.update.now.members.now) c.args.update.now.uris.now room _
 
 pub returns-clause-asked : goal.returns-clause-asked
 returns-clause-asked g c t room rooms =
     let h = g.H.Host in
-    subst (λ (tree : PlanTree). AsksAmong tree c.args.uris.now room (asked_at (h.asked c.args.host.now) (h.pulled c.args.host.now)) (asked_at (h.asked c.start.new.host) (h.pulled c.start.new.host))) c.update_plan-plan.ensures
+    subst (λ (tree : PlanTree). AsksAmong tree c.args.update.now.uris.now room (asked_at (h.asked c.args.host.now) (h.pulled c.args.host.now)) (asked_at (h.asked c.start.new.host) (h.pulled c.start.new.host))) c.update_plan-plan.ensures
     (c.start.ensures.asked t room rooms)
 
 pub returns-in-Err-clause-unfetched : goal.returns-in-Err-clause-unfetched
@@ -99,24 +101,24 @@ returns-in-Err-clause-launches g c t tl payloads has = inl refl
 
 pub returns-clause-launches : goal.returns-clause-launches
 returns-clause-launches g c t tl payloads has =
-    launched_by c.args.frame (λ held made end. PlaysUpdate c.args.layout.now c.args.places.now (update_tree c.args.manifest.now c.args.members.now) held (sources payloads c.args.uris.now (hosted g.H.Host.told (g.H.Host.file c.args.host.now) (g.H.Host.asked c.args.host.now) (g.H.Host.asked c.start.new.host))) (g.D.Disk.flash c.args.disk.now).reads made (g.L.Launcher.launches c.args.launcher.now) (g.L.Launcher.launches c.start.new.launcher) end)
+    launched_by c.args.frame (λ held made end. PlaysUpdate (placed_on c.args.frame c.args.layout.now c.args.update.now.places.now (update_tree c.args.update.now.manifest.now c.args.update.now.members.now)) held (sources payloads c.args.update.now.uris.now (hosted g.H.Host.told (g.H.Host.file c.args.host.now) (g.H.Host.asked c.args.host.now) (g.H.Host.asked c.start.new.host))) (device_at (g.D.Disk.flash c.args.disk.now).reads (g.L.Launcher.launches c.args.launcher.now)) (device_at made (g.L.Launcher.launches c.start.new.launcher)) end)
     ((g.D.Disk.flash c.start.new.disk).reads ≡ (g.D.Disk.flash c.args.disk.now).reads) c.args.layout.now (g.D.Disk.flash c.args.disk.now).reads (g.D.Disk.flash c.start.new.disk).reads (g.L.Launcher.launches c.args.launcher.now) (g.L.Launcher.launches c.start.new.launcher) c.start.result
     (held_of c.as_ref-held.result) (recorded_as c.args.frame (head_of c.args.frame (g.D.Disk.flash c.args.disk.now).reads) c.as_ref-held.result c.in-Ok.pages.held c.as_ref-held.ensures.value (c.in-Ok.ensures.exact t).held)
-    (subst (λ (l : List ℕ). PlayedSo (λ made end. PlaysUpdate c.args.layout.now c.args.places.now (update_tree c.args.manifest.now c.args.members.now) (held_of c.as_ref-held.result) (sources payloads c.args.uris.now (hosted g.H.Host.told (g.H.Host.file c.args.host.now) (g.H.Host.asked c.args.host.now) (g.H.Host.asked c.start.new.host))) l made (g.L.Launcher.launches c.args.launcher.now) (g.L.Launcher.launches c.start.new.launcher) end) ((g.D.Disk.flash c.start.new.disk).reads ≡ l) c.args.layout.now (g.D.Disk.flash c.start.new.disk).reads (g.L.Launcher.launches c.args.launcher.now) (g.L.Launcher.launches c.start.new.launcher) c.start.result) (c.in-Ok.ensures.same t).reads (subst (λ (tree : PlanTree). PlayedSo (λ made end. PlaysUpdate c.args.layout.now c.args.places.now tree (held_of c.as_ref-held.result) (sources payloads c.args.uris.now (hosted g.H.Host.told (g.H.Host.file c.args.host.now) (g.H.Host.asked c.args.host.now) (g.H.Host.asked c.start.new.host))) (g.D.Disk.flash c.load_pages_by.new.disk).reads made (g.L.Launcher.launches c.args.launcher.now) (g.L.Launcher.launches c.start.new.launcher) end) ((g.D.Disk.flash c.start.new.disk).reads ≡ (g.D.Disk.flash c.load_pages_by.new.disk).reads) c.args.layout.now (g.D.Disk.flash c.start.new.disk).reads (g.L.Launcher.launches c.args.launcher.now) (g.L.Launcher.launches c.start.new.launcher) c.start.result) c.update_plan-plan.ensures (c.start.ensures.plays t tl payloads has)))
+    (subst (λ (l : List ℕ). PlayedSo (λ made end. PlaysUpdate (placed_on c.args.frame c.args.layout.now c.args.update.now.places.now (update_tree c.args.update.now.manifest.now c.args.update.now.members.now)) (held_of c.as_ref-held.result) (sources payloads c.args.update.now.uris.now (hosted g.H.Host.told (g.H.Host.file c.args.host.now) (g.H.Host.asked c.args.host.now) (g.H.Host.asked c.start.new.host))) (device_at l (g.L.Launcher.launches c.args.launcher.now)) (device_at made (g.L.Launcher.launches c.start.new.launcher)) end) ((g.D.Disk.flash c.start.new.disk).reads ≡ l) c.args.layout.now (g.D.Disk.flash c.start.new.disk).reads (g.L.Launcher.launches c.args.launcher.now) (g.L.Launcher.launches c.start.new.launcher) c.start.result) (c.in-Ok.ensures.same t).reads (subst (λ (tree : PlanTree). PlayedSo (λ made end. PlaysUpdate (placed_on c.args.frame c.args.layout.now c.args.update.now.places.now tree) (held_of c.as_ref-held.result) (sources payloads c.args.update.now.uris.now (hosted g.H.Host.told (g.H.Host.file c.args.host.now) (g.H.Host.asked c.args.host.now) (g.H.Host.asked c.start.new.host))) (device_at (g.D.Disk.flash c.load_pages_by.new.disk).reads (g.L.Launcher.launches c.args.launcher.now)) (device_at made (g.L.Launcher.launches c.start.new.launcher)) end) ((g.D.Disk.flash c.start.new.disk).reads ≡ (g.D.Disk.flash c.load_pages_by.new.disk).reads) c.args.layout.now (g.D.Disk.flash c.start.new.disk).reads (g.L.Launcher.launches c.args.launcher.now) (g.L.Launcher.launches c.start.new.launcher) c.start.result) c.update_plan-plan.ensures (c.start.ensures.plays t tl payloads has)))
 
 pub returns-clause-keeps : goal.returns-clause-keeps
 returns-clause-keeps g c t settled =
     let still = settled_still (g.D.Disk.flash c.args.disk.now) (g.D.Disk.flash c.load_pages_by.new.disk) (g.D.Disk.extent c.args.disk.now) (subst (λ (n : ℕ). IsFlash (g.D.Disk.flash c.load_pages_by.new.disk) n) c.in-Ok.ensures.size (g.met.D.Disk.obeys c.load_pages_by.new.disk t)) (c.in-Ok.ensures.same t) settled in
-    for_offer c.record_laws.ensures.answer c.args.frame (g.D.Disk.flash c.args.disk.now).reads c.args.envelope.now.wrapper.now
-    (λ held digest. KeptSo (KeepsUpdate c.args.frame c.args.layout.now c.args.places.now (update_tree c.args.manifest.now c.args.members.now) (λ made. IsTrue g.H.Host.told → IsTrue g.L.Launcher.told → PlaysToEnd c.args.layout.now c.args.places.now (update_tree c.args.manifest.now c.args.members.now) held c.args.envelope.now.whole.now c.args.uris.now (g.H.Host.file c.args.host.now) (g.D.Disk.flash c.args.disk.now).reads (g.L.Launcher.launches c.args.launcher.now) (g.L.Launcher.launches c.start.new.launcher) made) held (λ numbers. new_record c.args.frame held (g.D.Disk.flash c.args.disk.now).reads (trimmed c.args.envelope.now.wrapper.now c.args.envelope.now.manifest.now) c.args.manifest.now.sequence digest numbers) (g.D.Disk.flash c.args.disk.now) (g.D.Disk.flash c.start.new.disk) c.start.result) (IsSame (g.D.Disk.flash c.args.disk.now) (g.D.Disk.flash c.start.new.disk)) c.start.result)
+    for_offer c.record_laws.ensures.answer c.args.frame (g.D.Disk.flash c.args.disk.now).reads c.args.update.now.envelope.now.wrapper.now
+    (λ held digest. KeptSo (KeepsUpdate (placed_on c.args.frame c.args.layout.now c.args.update.now.places.now (update_tree c.args.update.now.manifest.now c.args.update.now.members.now)) (λ made. IsTrue g.H.Host.told → IsTrue g.L.Launcher.told → PlaysToEnd (placed_on c.args.frame c.args.layout.now c.args.update.now.places.now (update_tree c.args.update.now.manifest.now c.args.update.now.members.now)) held c.args.update.now.envelope.now.whole.now c.args.update.now.uris.now (g.H.Host.file c.args.host.now) (device_at (g.D.Disk.flash c.args.disk.now).reads (g.L.Launcher.launches c.args.launcher.now)) (device_at made (g.L.Launcher.launches c.start.new.launcher))) held (λ numbers. new_record c.args.frame held (g.D.Disk.flash c.args.disk.now).reads (trimmed c.args.update.now.envelope.now.wrapper.now c.args.update.now.envelope.now.manifest.now) c.args.update.now.manifest.now.sequence digest numbers) (g.D.Disk.flash c.args.disk.now) (g.D.Disk.flash c.start.new.disk) c.start.result) (IsSame (g.D.Disk.flash c.args.disk.now) (g.D.Disk.flash c.start.new.disk)) c.start.result)
     (held_of c.as_ref-held.result) c.stated_digest-digest.result (recorded_as c.args.frame (head_of c.args.frame (g.D.Disk.flash c.args.disk.now).reads) c.as_ref-held.result c.in-Ok.pages.held c.as_ref-held.ensures.value (c.in-Ok.ensures.exact t).held) c.stated_digest-digest.ensures
-    (kept_from _ _ _ _ (keeps_from (g.D.Disk.flash c.args.disk.now) (g.D.Disk.flash c.load_pages_by.new.disk) (g.D.Disk.flash c.start.new.disk) (c.in-Ok.ensures.same t) c.args.frame (g.D.Disk.extent c.args.disk.now) (g.met.D.Disk.obeys c.args.disk.now t) c.args.layout.now c.requires.layout c.args.places.now (update_tree c.args.manifest.now c.args.members.now) (held_of c.as_ref-held.result) (c.requires.config t).0 (c.requires.config t).1 settled (recorded_as c.args.frame (head_of c.args.frame (g.D.Disk.flash c.args.disk.now).reads) c.as_ref-held.result c.in-Ok.pages.held c.as_ref-held.ensures.value (c.in-Ok.ensures.exact t).held) (trimmed c.args.envelope.now.wrapper.now c.args.envelope.now.manifest.now) c.args.manifest.now.sequence c.stated_digest-digest.result
-    (λ made. IsTrue g.H.Host.told → IsTrue g.L.Launcher.told → PlaysToEnd c.args.layout.now c.args.places.now (update_tree c.args.manifest.now c.args.members.now) (held_of c.as_ref-held.result) c.args.envelope.now.whole.now c.args.uris.now (g.H.Host.file c.args.host.now) (g.D.Disk.flash c.load_pages_by.new.disk).reads (g.L.Launcher.launches c.args.launcher.now) (g.L.Launcher.launches c.start.new.launcher) made)
-    (λ made. IsTrue g.H.Host.told → IsTrue g.L.Launcher.told → PlaysToEnd c.args.layout.now c.args.places.now (update_tree c.args.manifest.now c.args.members.now) (held_of c.as_ref-held.result) c.args.envelope.now.whole.now c.args.uris.now (g.H.Host.file c.args.host.now) (g.D.Disk.flash c.args.disk.now).reads (g.L.Launcher.launches c.args.launcher.now) (g.L.Launcher.launches c.start.new.launcher) made)
-    (λ made did th tl. subst (λ (l : List ℕ). PlaysToEnd c.args.layout.now c.args.places.now (update_tree c.args.manifest.now c.args.members.now) (held_of c.as_ref-held.result) c.args.envelope.now.whole.now c.args.uris.now (g.H.Host.file c.args.host.now) l (g.L.Launcher.launches c.args.launcher.now) (g.L.Launcher.launches c.start.new.launcher) made) (c.in-Ok.ensures.same t).reads (did th tl))
+    (kept_from _ _ _ _ (keeps_from (g.D.Disk.flash c.args.disk.now) (g.D.Disk.flash c.load_pages_by.new.disk) (g.D.Disk.flash c.start.new.disk) (c.in-Ok.ensures.same t) c.args.frame (g.D.Disk.extent c.args.disk.now) (g.met.D.Disk.obeys c.args.disk.now t) c.args.layout.now c.requires.layout c.args.update.now.places.now (update_tree c.args.update.now.manifest.now c.args.update.now.members.now) (held_of c.as_ref-held.result) (c.requires.config t).0 (c.requires.config t).1 settled (recorded_as c.args.frame (head_of c.args.frame (g.D.Disk.flash c.args.disk.now).reads) c.as_ref-held.result c.in-Ok.pages.held c.as_ref-held.ensures.value (c.in-Ok.ensures.exact t).held) (trimmed c.args.update.now.envelope.now.wrapper.now c.args.update.now.envelope.now.manifest.now) c.args.update.now.manifest.now.sequence c.stated_digest-digest.result
+    (λ made. IsTrue g.H.Host.told → IsTrue g.L.Launcher.told → PlaysToEnd (placed_on c.args.frame c.args.layout.now c.args.update.now.places.now (update_tree c.args.update.now.manifest.now c.args.update.now.members.now)) (held_of c.as_ref-held.result) c.args.update.now.envelope.now.whole.now c.args.update.now.uris.now (g.H.Host.file c.args.host.now) (device_at (g.D.Disk.flash c.load_pages_by.new.disk).reads (g.L.Launcher.launches c.args.launcher.now)) (device_at made (g.L.Launcher.launches c.start.new.launcher)))
+    (λ made. IsTrue g.H.Host.told → IsTrue g.L.Launcher.told → PlaysToEnd (placed_on c.args.frame c.args.layout.now c.args.update.now.places.now (update_tree c.args.update.now.manifest.now c.args.update.now.members.now)) (held_of c.as_ref-held.result) c.args.update.now.envelope.now.whole.now c.args.update.now.uris.now (g.H.Host.file c.args.host.now) (device_at (g.D.Disk.flash c.args.disk.now).reads (g.L.Launcher.launches c.args.launcher.now)) (device_at made (g.L.Launcher.launches c.start.new.launcher)))
+    (λ made did th tl. subst (λ (l : List ℕ). PlaysToEnd (placed_on c.args.frame c.args.layout.now c.args.update.now.places.now (update_tree c.args.update.now.manifest.now c.args.update.now.members.now)) (held_of c.as_ref-held.result) c.args.update.now.envelope.now.whole.now c.args.update.now.uris.now (g.H.Host.file c.args.host.now) (device_at l (g.L.Launcher.launches c.args.launcher.now)) (device_at made (g.L.Launcher.launches c.start.new.launcher))) (c.in-Ok.ensures.same t).reads (did th tl))
     c.start.result)
-    (same_flash_then (g.D.Disk.flash c.args.disk.now) (g.D.Disk.flash c.load_pages_by.new.disk) (g.D.Disk.flash c.start.new.disk) (g.D.Disk.extent c.args.disk.now) (subst (λ (n : ℕ). IsFlash (g.D.Disk.flash c.load_pages_by.new.disk) n) c.in-Ok.ensures.size (g.met.D.Disk.obeys c.load_pages_by.new.disk t)) (c.in-Ok.ensures.same t)) c.start.result (subst (λ (tree : PlanTree). KeptSo (KeepsUpdate c.args.frame c.args.layout.now c.args.places.now tree (λ made. IsTrue g.H.Host.told → IsTrue g.L.Launcher.told → PlaysToEnd c.args.layout.now c.args.places.now tree (held_of c.as_ref-held.result) c.args.envelope.now.whole.now c.args.uris.now (g.H.Host.file c.args.host.now) (g.D.Disk.flash c.load_pages_by.new.disk).reads (g.L.Launcher.launches c.args.launcher.now) (g.L.Launcher.launches c.start.new.launcher) made) (held_of c.as_ref-held.result) (λ numbers. new_record c.args.frame (held_of c.as_ref-held.result) (g.D.Disk.flash c.load_pages_by.new.disk).reads (trimmed c.args.envelope.now.wrapper.now c.args.envelope.now.manifest.now) c.args.manifest.now.sequence c.stated_digest-digest.result numbers) (g.D.Disk.flash c.load_pages_by.new.disk) (g.D.Disk.flash c.start.new.disk) c.start.result) (IsSame (g.D.Disk.flash c.load_pages_by.new.disk) (g.D.Disk.flash c.start.new.disk)) c.start.result) c.update_plan-plan.ensures
-    (subst (λ (l : List ℕ). KeptSo (KeepsUpdate c.args.frame c.args.layout.now c.args.places.now (plan_tree c.update_plan-plan.result) (λ made. IsTrue g.H.Host.told → IsTrue g.L.Launcher.told → PlaysToEnd c.args.layout.now c.args.places.now (plan_tree c.update_plan-plan.result) (held_of c.as_ref-held.result) c.args.envelope.now.whole.now c.args.uris.now (g.H.Host.file c.args.host.now) (g.D.Disk.flash c.load_pages_by.new.disk).reads (g.L.Launcher.launches c.args.launcher.now) (g.L.Launcher.launches c.start.new.launcher) made) (held_of c.as_ref-held.result) (λ numbers. new_record c.args.frame (held_of c.as_ref-held.result) (g.D.Disk.flash c.load_pages_by.new.disk).reads l c.args.manifest.now.sequence c.stated_digest-digest.result numbers) (g.D.Disk.flash c.load_pages_by.new.disk) (g.D.Disk.flash c.start.new.disk) c.start.result) (IsSame (g.D.Disk.flash c.load_pages_by.new.disk) (g.D.Disk.flash c.start.new.disk)) c.start.result) (c.as_slice-whole.ensures ∙ c.in-Ok-installable.ensures.spelling) (c.start.ensures.keeps t still))))
+    (same_flash_then (g.D.Disk.flash c.args.disk.now) (g.D.Disk.flash c.load_pages_by.new.disk) (g.D.Disk.flash c.start.new.disk) (g.D.Disk.extent c.args.disk.now) (subst (λ (n : ℕ). IsFlash (g.D.Disk.flash c.load_pages_by.new.disk) n) c.in-Ok.ensures.size (g.met.D.Disk.obeys c.load_pages_by.new.disk t)) (c.in-Ok.ensures.same t)) c.start.result (subst (λ (tree : PlanTree). KeptSo (KeepsUpdate (placed_on c.args.frame c.args.layout.now c.args.update.now.places.now tree) (λ made. IsTrue g.H.Host.told → IsTrue g.L.Launcher.told → PlaysToEnd (placed_on c.args.frame c.args.layout.now c.args.update.now.places.now tree) (held_of c.as_ref-held.result) c.args.update.now.envelope.now.whole.now c.args.update.now.uris.now (g.H.Host.file c.args.host.now) (device_at (g.D.Disk.flash c.load_pages_by.new.disk).reads (g.L.Launcher.launches c.args.launcher.now)) (device_at made (g.L.Launcher.launches c.start.new.launcher))) (held_of c.as_ref-held.result) (λ numbers. new_record c.args.frame (held_of c.as_ref-held.result) (g.D.Disk.flash c.load_pages_by.new.disk).reads (trimmed c.args.update.now.envelope.now.wrapper.now c.args.update.now.envelope.now.manifest.now) c.args.update.now.manifest.now.sequence c.stated_digest-digest.result numbers) (g.D.Disk.flash c.load_pages_by.new.disk) (g.D.Disk.flash c.start.new.disk) c.start.result) (IsSame (g.D.Disk.flash c.load_pages_by.new.disk) (g.D.Disk.flash c.start.new.disk)) c.start.result) c.update_plan-plan.ensures
+    (subst (λ (l : List ℕ). KeptSo (KeepsUpdate (placed_on c.args.frame c.args.layout.now c.args.update.now.places.now (plan_tree c.update_plan-plan.result)) (λ made. IsTrue g.H.Host.told → IsTrue g.L.Launcher.told → PlaysToEnd (placed_on c.args.frame c.args.layout.now c.args.update.now.places.now (plan_tree c.update_plan-plan.result)) (held_of c.as_ref-held.result) c.args.update.now.envelope.now.whole.now c.args.update.now.uris.now (g.H.Host.file c.args.host.now) (device_at (g.D.Disk.flash c.load_pages_by.new.disk).reads (g.L.Launcher.launches c.args.launcher.now)) (device_at made (g.L.Launcher.launches c.start.new.launcher))) (held_of c.as_ref-held.result) (λ numbers. new_record c.args.frame (held_of c.as_ref-held.result) (g.D.Disk.flash c.load_pages_by.new.disk).reads l c.args.update.now.manifest.now.sequence c.stated_digest-digest.result numbers) (g.D.Disk.flash c.load_pages_by.new.disk) (g.D.Disk.flash c.start.new.disk) c.start.result) (IsSame (g.D.Disk.flash c.load_pages_by.new.disk) (g.D.Disk.flash c.start.new.disk)) c.start.result) (c.as_slice-whole.ensures ∙ c.in-Ok-installable.ensures.spelling) (c.start.ensures.keeps t still))))
 
 pub returns-in-Err-clause-left : goal.returns-in-Err-clause-left
 returns-in-Err-clause-left g c t held digest blocks there said = inl (c.in-Err.ensures.same t).reads
@@ -124,12 +126,12 @@ returns-in-Err-clause-left g c t held digest blocks there said = inl (c.in-Err.e
 pub returns-clause-left : goal.returns-clause-left
 returns-clause-left g c t =
     let after = (g.D.Disk.flash c.start.new.disk).reads in
-    let Left : Option Record → Digest → List ℕ → Type 0 = λ held digest before. KeptSo (LeavesUpdate c.args.frame c.args.layout.now c.args.places.now (update_tree c.args.manifest.now c.args.members.now) held (λ numbers. new_record c.args.frame held before (trimmed c.args.envelope.now.wrapper.now c.args.envelope.now.manifest.now) c.args.manifest.now.sequence digest numbers) before after c.start.result) (after ≡ before) c.start.result in
-    for_offer c.record_laws.ensures.answer c.args.frame (g.D.Disk.flash c.args.disk.now).reads c.args.envelope.now.wrapper.now
+    let Left : Option Record → Digest → List ℕ → Type 0 = λ held digest before. KeptSo (LeavesUpdate (placed_on c.args.frame c.args.layout.now c.args.update.now.places.now (update_tree c.args.update.now.manifest.now c.args.update.now.members.now)) held (λ numbers. new_record c.args.frame held before (trimmed c.args.update.now.envelope.now.wrapper.now c.args.update.now.envelope.now.manifest.now) c.args.update.now.manifest.now.sequence digest numbers) before after c.start.result) (after ≡ before) c.start.result in
+    for_offer c.record_laws.ensures.answer c.args.frame (g.D.Disk.flash c.args.disk.now).reads c.args.update.now.envelope.now.wrapper.now
     (λ held digest. Left held digest (g.D.Disk.flash c.args.disk.now).reads)
     (held_of c.as_ref-held.result) c.stated_digest-digest.result (recorded_as c.args.frame (head_of c.args.frame (g.D.Disk.flash c.args.disk.now).reads) c.as_ref-held.result c.in-Ok.pages.held c.as_ref-held.ensures.value (c.in-Ok.ensures.exact t).held) c.stated_digest-digest.ensures
-    (subst (λ (l : List ℕ). Left (held_of c.as_ref-held.result) c.stated_digest-digest.result l) (c.in-Ok.ensures.same t).reads (subst (λ (tree : PlanTree). KeptSo (LeavesUpdate c.args.frame c.args.layout.now c.args.places.now tree (held_of c.as_ref-held.result) (λ numbers. new_record c.args.frame (held_of c.as_ref-held.result) (g.D.Disk.flash c.load_pages_by.new.disk).reads (trimmed c.args.envelope.now.wrapper.now c.args.envelope.now.manifest.now) c.args.manifest.now.sequence c.stated_digest-digest.result numbers) (g.D.Disk.flash c.load_pages_by.new.disk).reads after c.start.result) (after ≡ (g.D.Disk.flash c.load_pages_by.new.disk).reads) c.start.result) c.update_plan-plan.ensures
-    (subst (λ (l : List ℕ). KeptSo (LeavesUpdate c.args.frame c.args.layout.now c.args.places.now (plan_tree c.update_plan-plan.result) (held_of c.as_ref-held.result) (λ numbers. new_record c.args.frame (held_of c.as_ref-held.result) (g.D.Disk.flash c.load_pages_by.new.disk).reads l c.args.manifest.now.sequence c.stated_digest-digest.result numbers) (g.D.Disk.flash c.load_pages_by.new.disk).reads after c.start.result) (after ≡ (g.D.Disk.flash c.load_pages_by.new.disk).reads) c.start.result) (c.as_slice-whole.ensures ∙ c.in-Ok-installable.ensures.spelling) (c.start.ensures.left t))))
+    (subst (λ (l : List ℕ). Left (held_of c.as_ref-held.result) c.stated_digest-digest.result l) (c.in-Ok.ensures.same t).reads (subst (λ (tree : PlanTree). KeptSo (LeavesUpdate (placed_on c.args.frame c.args.layout.now c.args.update.now.places.now tree) (held_of c.as_ref-held.result) (λ numbers. new_record c.args.frame (held_of c.as_ref-held.result) (g.D.Disk.flash c.load_pages_by.new.disk).reads (trimmed c.args.update.now.envelope.now.wrapper.now c.args.update.now.envelope.now.manifest.now) c.args.update.now.manifest.now.sequence c.stated_digest-digest.result numbers) (g.D.Disk.flash c.load_pages_by.new.disk).reads after c.start.result) (after ≡ (g.D.Disk.flash c.load_pages_by.new.disk).reads) c.start.result) c.update_plan-plan.ensures
+    (subst (λ (l : List ℕ). KeptSo (LeavesUpdate (placed_on c.args.frame c.args.layout.now c.args.update.now.places.now (plan_tree c.update_plan-plan.result)) (held_of c.as_ref-held.result) (λ numbers. new_record c.args.frame (held_of c.as_ref-held.result) (g.D.Disk.flash c.load_pages_by.new.disk).reads l c.args.update.now.manifest.now.sequence c.stated_digest-digest.result numbers) (g.D.Disk.flash c.load_pages_by.new.disk).reads after c.start.result) (after ≡ (g.D.Disk.flash c.load_pages_by.new.disk).reads) c.start.result) (c.as_slice-whole.ensures ∙ c.in-Ok-installable.ensures.spelling) (c.start.ensures.left t))))
 
 pub returns-in-Err-clause-later : goal.returns-in-Err-clause-later
 returns-in-Err-clause-later g c t = (c.in-Err.ensures.same t).images.later
@@ -145,11 +147,11 @@ returns-clause-grows g c t =
 pub returns-clause-sound : goal.returns-clause-sound
 returns-clause-sound g c t settled =
     let still = settled_still (g.D.Disk.flash c.args.disk.now) (g.D.Disk.flash c.load_pages_by.new.disk) (g.D.Disk.extent c.args.disk.now) (subst (λ (n : ℕ). IsFlash (g.D.Disk.flash c.load_pages_by.new.disk) n) c.in-Ok.ensures.size (g.met.D.Disk.obeys c.load_pages_by.new.disk t)) (c.in-Ok.ensures.same t) settled in
-    for_offer c.record_laws.ensures.answer c.args.frame (g.D.Disk.flash c.args.disk.now).reads c.args.envelope.now.wrapper.now
-    (λ held digest. ((numbers : List ℕ) → AreChosen c.args.layout.now c.args.places.now (update_tree c.args.manifest.now c.args.members.now) (active_slots held) numbers → MayBeInstalled c.args.frame (g.D.Disk.flash c.args.disk.now).reads (trimmed c.args.envelope.now.wrapper.now c.args.envelope.now.manifest.now) (new_record c.args.frame held (g.D.Disk.flash c.args.disk.now).reads (trimmed c.args.envelope.now.wrapper.now c.args.envelope.now.manifest.now) c.args.manifest.now.sequence digest numbers)) → Passes (g.D.Disk.flash c.args.disk.now) (g.D.Disk.flash c.start.new.disk) Sound)
+    for_offer c.record_laws.ensures.answer c.args.frame (g.D.Disk.flash c.args.disk.now).reads c.args.update.now.envelope.now.wrapper.now
+    (λ held digest. ((numbers : List ℕ) → AreChosen c.args.layout.now c.args.update.now.places.now (update_tree c.args.update.now.manifest.now c.args.update.now.members.now) (active_slots held) numbers → MayBeInstalled c.args.frame (g.D.Disk.flash c.args.disk.now).reads (trimmed c.args.update.now.envelope.now.wrapper.now c.args.update.now.envelope.now.manifest.now) (new_record c.args.frame held (g.D.Disk.flash c.args.disk.now).reads (trimmed c.args.update.now.envelope.now.wrapper.now c.args.update.now.envelope.now.manifest.now) c.args.update.now.manifest.now.sequence digest numbers)) → Passes (g.D.Disk.flash c.args.disk.now) (g.D.Disk.flash c.start.new.disk) Sound)
     (held_of c.as_ref-held.result) c.stated_digest-digest.result (recorded_as c.args.frame (head_of c.args.frame (g.D.Disk.flash c.args.disk.now).reads) c.as_ref-held.result c.in-Ok.pages.held c.as_ref-held.ensures.value (c.in-Ok.ensures.exact t).held) c.stated_digest-digest.ensures
-    (λ may. sound_from (g.D.Disk.flash c.args.disk.now) (g.D.Disk.flash c.load_pages_by.new.disk) (g.D.Disk.flash c.start.new.disk) (c.in-Ok.ensures.same t) settled (c.start.ensures.sound t still (λ numbers chosen. subst (λ (l : List ℕ). MayBeInstalled c.args.frame (g.D.Disk.flash c.load_pages_by.new.disk).reads l (new_record c.args.frame (held_of c.as_ref-held.result) (g.D.Disk.flash c.load_pages_by.new.disk).reads l c.args.manifest.now.sequence c.stated_digest-digest.result numbers)) (sym (c.as_slice-whole.ensures ∙ c.in-Ok-installable.ensures.spelling))
-    (subst (λ (l : List ℕ). MayBeInstalled c.args.frame l (trimmed c.args.envelope.now.wrapper.now c.args.envelope.now.manifest.now) (new_record c.args.frame (held_of c.as_ref-held.result) l (trimmed c.args.envelope.now.wrapper.now c.args.envelope.now.manifest.now) c.args.manifest.now.sequence c.stated_digest-digest.result numbers)) (sym (c.in-Ok.ensures.same t).reads) (may numbers (subst (λ (tree : PlanTree). AreChosen c.args.layout.now c.args.places.now tree (active_slots (held_of c.as_ref-held.result)) numbers) c.update_plan-plan.ensures chosen))))))
+    (λ may. sound_from (g.D.Disk.flash c.args.disk.now) (g.D.Disk.flash c.load_pages_by.new.disk) (g.D.Disk.flash c.start.new.disk) (c.in-Ok.ensures.same t) settled (c.start.ensures.sound t still (λ numbers chosen. subst (λ (l : List ℕ). MayBeInstalled c.args.frame (g.D.Disk.flash c.load_pages_by.new.disk).reads l (new_record c.args.frame (held_of c.as_ref-held.result) (g.D.Disk.flash c.load_pages_by.new.disk).reads l c.args.update.now.manifest.now.sequence c.stated_digest-digest.result numbers)) (sym (c.as_slice-whole.ensures ∙ c.in-Ok-installable.ensures.spelling))
+    (subst (λ (l : List ℕ). MayBeInstalled c.args.frame l (trimmed c.args.update.now.envelope.now.wrapper.now c.args.update.now.envelope.now.manifest.now) (new_record c.args.frame (held_of c.as_ref-held.result) l (trimmed c.args.update.now.envelope.now.wrapper.now c.args.update.now.envelope.now.manifest.now) c.args.update.now.manifest.now.sequence c.stated_digest-digest.result numbers)) (sym (c.in-Ok.ensures.same t).reads) (may numbers (subst (λ (tree : PlanTree). AreChosen c.args.layout.now c.args.update.now.places.now tree (active_slots (held_of c.as_ref-held.result)) numbers) c.update_plan-plan.ensures chosen))))))
 
 pub returns-clause-follows : goal.returns-clause-follows
 returns-clause-follows g c t settled =
@@ -162,7 +164,7 @@ returns-clause-settled g c t =
 
 pub update_plan-plan-requires : goal.update_plan-plan-requires
 update_plan-plan-requires g c =
-    let few : length c.args.manifest.now.components ≤ 8 = omega (arith, c.requires.count, c.requires.distinct.few) in omega (arith, few)
+    let few : length c.args.update.now.manifest.now.components ≤ 8 = omega (arith, c.requires.count, c.requires.distinct.few) in omega (arith, few)
 
 pub start-requires-clause-plan : goal.start-requires-clause-plan
 start-requires-clause-plan g c =
@@ -184,8 +186,8 @@ start-requires-clause-fits g c =
 
 pub returns-in-Err-installable-clause-judged : goal.returns-in-Err-installable-clause-judged
 returns-in-Err-installable-clause-judged g c t =
-    for_offer c.record_laws.ensures.answer c.args.frame (g.D.Disk.flash c.args.disk.now).reads c.args.envelope.now.wrapper.now
-    (λ held digest. JudgedSo c.args.manifest.now.sequence digest held c.in-Err-installable.end)
+    for_offer c.record_laws.ensures.answer c.args.frame (g.D.Disk.flash c.args.disk.now).reads c.args.update.now.envelope.now.wrapper.now
+    (λ held digest. JudgedSo c.args.update.now.manifest.now.sequence digest held c.in-Err-installable.end)
     (held_of c.as_ref-held.result) c.stated_digest-digest.result (recorded_as c.args.frame (head_of c.args.frame (g.D.Disk.flash c.args.disk.now).reads) c.as_ref-held.result c.in-Ok.pages.held c.as_ref-held.ensures.value (c.in-Ok.ensures.exact t).held) c.stated_digest-digest.ensures
     c.in-Err-installable.ensures.judged
 

@@ -23,6 +23,8 @@ use Rattle.update_proc.specs.Choices.{active_slots}
 use Rattle.update_proc.specs.Ends.{IsUnbegun}
 use Rattle.update_proc.specs.Records.{new_record}
 use Rattle.update_proc.specs.Updates.{KeepsUpdate, KeptSo, LeavesUpdate, PlayedSo, PlaysToEnd, PlaysUpdate, hosted, sources}
+use Rattle.update_proc.specs.Moments.{placed_on}
+use Rattle.step_machine.specs.Devices.{device_at}
 use Rattle.step_machine.proofs.Asking.{asks_none}
 use Rattle.update_proc.proofs.Finished.{after, counts_after, held_as, installed_as, no_earlier, not_worn, plays_update, reads_same, starts_after, stopped_at, stopped_by, stopped_or_done, told_at, told_by, told_plays, unfaulted}
 use Rattle.update_proc.proofs.InUseSlots.{chosen_as, in_use_as_held}
@@ -200,18 +202,18 @@ returns-clause-keeps g c t settled =
     let moments = moments_of c.sound_laws.ensures c.moment_laws.ensures c.choice_laws.ensures c.args.accepted.now.frame (g.D.Disk.extent c.args.disk.now) c.requires.frame c.args.layout.now c.requires.layout c.args.places.now (plan_tree c.args.accepted.now.plan.now) (held_of c.args.accepted.now.held) c.requires.loadable c.choose_slots-slots.result.number c.in-Ok.world.standings.items c.requires.distinct c.choose_slots-slots.ensures.choice c.in-Ok.ensures.stand chosen (g.D.Disk.flash c.args.disk.now) (g.D.Disk.flash c.run_plan-end.new.disk) (g.met.D.Disk.obeys c.args.disk.now t) law_b (c.requires.config t).0 (c.requires.config t).1 (c.requires.held t) (subst (λ (x : PlanTree). Keeps (OutsideTargets x c.in-Ok.world.standings.items) (g.D.Disk.flash c.args.disk.now) (g.D.Disk.flash c.run_plan-end.new.disk)) (c.program_of-program.ensures c.requires.said.0 c.requires.said.1 c.requires.said.2 c.requires.said.3 ∙ sym c.requires.said.4) (c.run_plan-end.ensures.keeps t)) settled c.args.accepted.now.bytes.now c.args.accepted.now.sequence c.args.accepted.now.digest c.requires.fits (g.D.Disk.flash c.finish.new.disk) law_d (c.finish.ensures.any_moment t) in
     let b = g.D.Disk.flash c.run_plan-end.new.disk in
     let d = g.D.Disk.flash c.finish.new.disk in
-    let Done : List ℕ → Type 0 = (λ made. IsTrue g.H.Host.told → IsTrue g.L.Launcher.told → PlaysToEnd c.args.layout.now c.args.places.now (plan_tree c.args.accepted.now.plan.now) (held_of c.args.accepted.now.held) c.args.accepted.now.envelope.now.whole.now c.args.accepted.now.uris.now (g.H.Host.file c.args.host.now) (g.D.Disk.flash c.args.disk.now).reads (g.L.Launcher.launches c.args.launcher.now) (g.L.Launcher.launches c.run_plan-end.new.launcher) made) in
+    let Done : List ℕ → Type 0 = (λ made. IsTrue g.H.Host.told → IsTrue g.L.Launcher.told → PlaysToEnd (placed_on c.args.accepted.now.frame c.args.layout.now c.args.places.now (plan_tree c.args.accepted.now.plan.now)) (held_of c.args.accepted.now.held) c.args.accepted.now.envelope.now.whole.now c.args.accepted.now.uris.now (g.H.Host.file c.args.host.now) (device_at (g.D.Disk.flash c.args.disk.now).reads (g.L.Launcher.launches c.args.launcher.now)) (device_at made (g.L.Launcher.launches c.run_plan-end.new.launcher))) in
     let did : c.run_plan-end.result ≡ plays.Done → Done b.reads = λ ended th tl payloads has. (
       g.H.Host.asked c.args.host.now,
       g.H.Host.asked c.run_plan-end.new.host,
-      told_plays _ _ _ _ _ _ _ _ _ _ _ _ _ _ _ th (subst (λ (end : PlanEnd). PlaysUpdate c.args.layout.now c.args.places.now (plan_tree c.args.accepted.now.plan.now) (held_of c.args.accepted.now.held) (sources payloads c.args.accepted.now.uris.now (hosted g.H.Host.told (g.H.Host.file c.args.host.now) (g.H.Host.asked c.args.host.now) (g.H.Host.asked c.run_plan-end.new.host))) (g.D.Disk.flash c.args.disk.now).reads b.reads (g.L.Launcher.launches c.args.launcher.now) (g.L.Launcher.launches c.run_plan-end.new.launcher) end) ended
-          (plays_update c.args.layout.now c.args.places.now (plan_tree c.args.accepted.now.plan.now) (held_of c.args.accepted.now.held) payloads c.in-Ok.world.uris.now c.args.accepted.now.uris.now (hosted g.H.Host.told (g.H.Host.file c.args.host.now) (g.H.Host.asked c.args.host.now) (g.H.Host.asked c.run_plan-end.new.host)) (g.D.Disk.flash c.args.disk.now).reads (g.D.Disk.flash c.run_plan-end.new.disk).reads (g.L.Launcher.launches c.args.launcher.now) (g.L.Launcher.launches c.run_plan-end.new.launcher) c.run_plan-end.result c.choose_slots-slots.result.number c.in-Ok.world.standings.items c.in-Ok.world.ram c.run_plan-end.new.world.ram chosen c.choose_slots-slots.ensures.choice c.in-Ok.ensures.stand c.in-Ok.ensures.ram c.in-Ok.ensures.uris
+      told_plays _ _ _ _ _ _ _ _ _ _ _ th (subst (λ (end : PlanEnd). PlaysUpdate (placed_on c.args.accepted.now.frame c.args.layout.now c.args.places.now (plan_tree c.args.accepted.now.plan.now)) (held_of c.args.accepted.now.held) (sources payloads c.args.accepted.now.uris.now (hosted g.H.Host.told (g.H.Host.file c.args.host.now) (g.H.Host.asked c.args.host.now) (g.H.Host.asked c.run_plan-end.new.host))) (device_at (g.D.Disk.flash c.args.disk.now).reads (g.L.Launcher.launches c.args.launcher.now)) (device_at b.reads (g.L.Launcher.launches c.run_plan-end.new.launcher)) end) ended
+          (plays_update c.args.accepted.now.frame c.args.layout.now c.args.places.now (plan_tree c.args.accepted.now.plan.now) (held_of c.args.accepted.now.held) payloads c.in-Ok.world.uris.now c.args.accepted.now.uris.now (hosted g.H.Host.told (g.H.Host.file c.args.host.now) (g.H.Host.asked c.args.host.now) (g.H.Host.asked c.run_plan-end.new.host)) (g.D.Disk.flash c.args.disk.now).reads (g.D.Disk.flash c.run_plan-end.new.disk).reads (g.L.Launcher.launches c.args.launcher.now) (g.L.Launcher.launches c.run_plan-end.new.launcher) c.run_plan-end.result c.choose_slots-slots.result.number c.in-Ok.world.standings.items c.in-Ok.world.ram c.run_plan-end.new.world.ram chosen c.choose_slots-slots.ensures.choice c.in-Ok.ensures.stand c.in-Ok.ensures.ram c.in-Ok.ensures.uris
           (program_tree c.program_of-program.result) (c.program_of-program.ensures c.requires.said.0 c.requires.said.1 c.requires.said.2 c.requires.said.3 ∙ sym c.requires.said.4) (c.run_plan-end.ensures.plays refl refl t tl payloads (subst (λ (e : Option (Bor Envelope)). ArePayloads e payloads) (sym c.in-Ok.ensures.envelope) has)))),
     ) in
     let others = contents_made c.sound_laws.ensures c.moment_laws.ensures c.choice_laws.ensures c.args.accepted.now.frame (g.D.Disk.extent c.args.disk.now) c.requires.frame c.args.layout.now c.requires.layout c.args.places.now (plan_tree c.args.accepted.now.plan.now) (held_of c.args.accepted.now.held) c.requires.loadable c.choose_slots-slots.result.number c.in-Ok.world.standings.items c.requires.distinct c.choose_slots-slots.ensures.choice c.in-Ok.ensures.stand chosen (g.D.Disk.flash c.args.disk.now) (g.D.Disk.flash c.run_plan-end.new.disk) (g.met.D.Disk.obeys c.args.disk.now t) law_b (c.requires.config t).0 (c.requires.config t).1 (c.requires.held t) (subst (λ (x : PlanTree). Keeps (OutsideTargets x c.in-Ok.world.standings.items) (g.D.Disk.flash c.args.disk.now) (g.D.Disk.flash c.run_plan-end.new.disk)) (c.program_of-program.ensures c.requires.said.0 c.requires.said.1 c.requires.said.2 c.requires.said.3 ∙ sym c.requires.said.4) (c.run_plan-end.ensures.keeps t)) in
     let stays = old_all c.sound_laws.ensures c.moment_laws.ensures c.choice_laws.ensures c.args.accepted.now.frame (g.D.Disk.extent c.args.disk.now) c.requires.frame c.args.layout.now c.requires.layout c.args.places.now (plan_tree c.args.accepted.now.plan.now) (held_of c.args.accepted.now.held) c.requires.loadable c.choose_slots-slots.result.number c.in-Ok.world.standings.items c.requires.distinct c.choose_slots-slots.ensures.choice c.in-Ok.ensures.stand chosen (g.D.Disk.flash c.args.disk.now) (g.D.Disk.flash c.run_plan-end.new.disk) (g.met.D.Disk.obeys c.args.disk.now t) law_b (c.requires.config t).0 (c.requires.config t).1 (c.requires.held t) (subst (λ (x : PlanTree). Keeps (OutsideTargets x c.in-Ok.world.standings.items) (g.D.Disk.flash c.args.disk.now) (g.D.Disk.flash c.run_plan-end.new.disk)) (c.program_of-program.ensures c.requires.said.0 c.requires.said.1 c.requires.said.2 c.requires.said.3 ∙ sym c.requires.said.4) (c.run_plan-end.ensures.keeps t)) settled c.args.accepted.now.bytes.now c.args.accepted.now.sequence c.args.accepted.now.digest c.requires.fits (g.D.Disk.flash c.finish.new.disk) law_d in
     let old_left = old_at_end c.sound_laws.ensures c.moment_laws.ensures c.choice_laws.ensures c.args.accepted.now.frame (g.D.Disk.extent c.args.disk.now) c.requires.frame c.args.layout.now c.requires.layout c.args.places.now (plan_tree c.args.accepted.now.plan.now) (held_of c.args.accepted.now.held) c.requires.loadable c.choose_slots-slots.result.number c.in-Ok.world.standings.items c.requires.distinct c.choose_slots-slots.ensures.choice c.in-Ok.ensures.stand chosen (g.D.Disk.flash c.args.disk.now) (g.D.Disk.flash c.run_plan-end.new.disk) (g.met.D.Disk.obeys c.args.disk.now t) law_b (c.requires.config t).0 (c.requires.config t).1 (c.requires.held t) (subst (λ (x : PlanTree). Keeps (OutsideTargets x c.in-Ok.world.standings.items) (g.D.Disk.flash c.args.disk.now) (g.D.Disk.flash c.run_plan-end.new.disk)) (c.program_of-program.ensures c.requires.said.0 c.requires.said.1 c.requires.said.2 c.requires.said.3 ∙ sym c.requires.said.4) (c.run_plan-end.ensures.keeps t)) settled c.args.accepted.now.bytes.now c.args.accepted.now.sequence c.args.accepted.now.digest c.requires.fits (g.D.Disk.flash c.finish.new.disk) law_d in
-    let Kept : UpdateEnd → Type 0 = KeepsUpdate c.args.accepted.now.frame c.args.layout.now c.args.places.now (plan_tree c.args.accepted.now.plan.now) Done (held_of c.args.accepted.now.held) (λ numbers. new_record c.args.accepted.now.frame (held_of c.args.accepted.now.held) (g.D.Disk.flash c.args.disk.now).reads c.args.accepted.now.bytes.now c.args.accepted.now.sequence c.args.accepted.now.digest numbers) (g.D.Disk.flash c.args.disk.now) d in
+    let Kept : UpdateEnd → Type 0 = KeepsUpdate (placed_on c.args.accepted.now.frame c.args.layout.now c.args.places.now (plan_tree c.args.accepted.now.plan.now)) Done (held_of c.args.accepted.now.held) (λ numbers. new_record c.args.accepted.now.frame (held_of c.args.accepted.now.held) (g.D.Disk.flash c.args.disk.now).reads c.args.accepted.now.bytes.now c.args.accepted.now.sequence c.args.accepted.now.digest numbers) (g.D.Disk.flash c.args.disk.now) d in
     after c.run_plan-end.result c.finish.result _ _ c.finish.ensures.answer (λ answer. KeptSo (Kept answer) (IsSame (g.D.Disk.flash c.args.disk.now) d) answer)
     (λ r same ended. record { numbers = c.choose_slots-slots.result.number; chosen = chosen; accepted = c.requires.judged; made = b.reads; others = others; any_moment = moments; whole = did ended; left = ((installed_as c.finish.result r (λ r. r ≡ new_record c.args.accepted.now.frame (held_of c.args.accepted.now.held) (g.D.Disk.flash c.run_plan-end.new.disk).reads c.args.accepted.now.bytes.now c.args.accepted.now.sequence c.args.accepted.now.digest c.choose_slots-slots.result.number) (c.finish.ensures.new t) same) ∙ new_is c.sound_laws.ensures c.moment_laws.ensures c.choice_laws.ensures c.args.accepted.now.frame (g.D.Disk.extent c.args.disk.now) c.requires.frame c.args.layout.now c.requires.layout c.args.places.now (plan_tree c.args.accepted.now.plan.now) (held_of c.args.accepted.now.held) c.requires.loadable c.choose_slots-slots.result.number c.in-Ok.world.standings.items c.requires.distinct c.choose_slots-slots.ensures.choice c.in-Ok.ensures.stand chosen (g.D.Disk.flash c.args.disk.now) (g.D.Disk.flash c.run_plan-end.new.disk) (g.met.D.Disk.obeys c.args.disk.now t) law_b (c.requires.config t).0 (c.requires.config t).1 (c.requires.held t) (subst (λ (x : PlanTree). Keeps (OutsideTargets x c.in-Ok.world.standings.items) (g.D.Disk.flash c.args.disk.now) (g.D.Disk.flash c.run_plan-end.new.disk)) (c.program_of-program.ensures c.requires.said.0 c.requires.said.1 c.requires.said.2 c.requires.said.3 ∙ sym c.requires.said.4) (c.run_plan-end.ensures.keeps t)) settled c.args.accepted.now.bytes.now c.args.accepted.now.sequence c.args.accepted.now.digest c.requires.fits (g.D.Disk.flash c.finish.new.disk) law_d, new_at_end c.sound_laws.ensures c.moment_laws.ensures c.choice_laws.ensures c.args.accepted.now.frame (g.D.Disk.extent c.args.disk.now) c.requires.frame c.args.layout.now c.requires.layout c.args.places.now (plan_tree c.args.accepted.now.plan.now) (held_of c.args.accepted.now.held) c.requires.loadable c.choose_slots-slots.result.number c.in-Ok.world.standings.items c.requires.distinct c.choose_slots-slots.ensures.choice c.in-Ok.ensures.stand chosen (g.D.Disk.flash c.args.disk.now) (g.D.Disk.flash c.run_plan-end.new.disk) (g.met.D.Disk.obeys c.args.disk.now t) law_b (c.requires.config t).0 (c.requires.config t).1 (c.requires.held t) (subst (λ (x : PlanTree). Keeps (OutsideTargets x c.in-Ok.world.standings.items) (g.D.Disk.flash c.args.disk.now) (g.D.Disk.flash c.run_plan-end.new.disk)) (c.program_of-program.ensures c.requires.said.0 c.requires.said.1 c.requires.said.2 c.requires.said.3 ∙ sym c.requires.said.4) (c.run_plan-end.ensures.keeps t)) settled c.args.accepted.now.bytes.now c.args.accepted.now.sequence c.args.accepted.now.digest c.requires.fits (g.D.Disk.flash c.finish.new.disk) law_d (c.finish.ensures.any_moment t) c.record_laws.ensures.answer r (installed_as c.finish.result r (λ r. r ≡ new_record c.args.accepted.now.frame (held_of c.args.accepted.now.held) (g.D.Disk.flash c.run_plan-end.new.disk).reads c.args.accepted.now.bytes.now c.args.accepted.now.sequence c.args.accepted.now.digest c.choose_slots-slots.result.number) (c.finish.ensures.new t) same) (installed_as c.finish.result r (λ r. RecordOf c.args.accepted.now.frame (head_of c.args.accepted.now.frame (g.D.Disk.flash c.finish.new.disk).reads) (Some r)) (c.finish.ensures.recorded t) same)) })
     (λ place told ended. let still = stopped_at c.run_plan-end.result place (Passes b d (Now b)) (c.finish.ensures.still t) ended in
@@ -241,7 +243,7 @@ returns-clause-left g c t =
     let contents = contents_since c.sound_laws.ensures c.moment_laws.ensures c.choice_laws.ensures c.args.accepted.now.frame (g.D.Disk.extent c.args.disk.now) c.requires.frame c.args.layout.now c.requires.layout c.args.places.now (plan_tree c.args.accepted.now.plan.now) (held_of c.args.accepted.now.held) c.requires.loadable c.choose_slots-slots.result.number c.in-Ok.world.standings.items c.requires.distinct c.choose_slots-slots.ensures.choice c.in-Ok.ensures.stand chosen (g.D.Disk.flash c.args.disk.now) (g.D.Disk.flash c.run_plan-end.new.disk) (g.met.D.Disk.obeys c.args.disk.now t) law_b (c.requires.config t).0 (c.requires.config t).1 (c.requires.held t) (subst (λ (x : PlanTree). Keeps (OutsideTargets x c.in-Ok.world.standings.items) (g.D.Disk.flash c.args.disk.now) (g.D.Disk.flash c.run_plan-end.new.disk)) (c.program_of-program.ensures c.requires.said.0 c.requires.said.1 c.requires.said.2 c.requires.said.3 ∙ sym c.requires.said.4) (c.run_plan-end.ensures.keeps t)) (g.D.Disk.flash c.finish.new.disk).reads (c.finish.ensures.behind t) in
     let same_new = new_as c.sound_laws.ensures c.moment_laws.ensures c.choice_laws.ensures c.args.accepted.now.frame (g.D.Disk.extent c.args.disk.now) c.requires.frame c.args.layout.now c.requires.layout c.args.places.now (plan_tree c.args.accepted.now.plan.now) (held_of c.args.accepted.now.held) c.requires.loadable c.choose_slots-slots.result.number c.in-Ok.world.standings.items c.requires.distinct c.choose_slots-slots.ensures.choice c.in-Ok.ensures.stand chosen (g.D.Disk.flash c.args.disk.now) (g.D.Disk.flash c.run_plan-end.new.disk) (g.met.D.Disk.obeys c.args.disk.now t) law_b (c.requires.config t).0 (c.requires.config t).1 (c.requires.held t) (subst (λ (x : PlanTree). Keeps (OutsideTargets x c.in-Ok.world.standings.items) (g.D.Disk.flash c.args.disk.now) (g.D.Disk.flash c.run_plan-end.new.disk)) (c.program_of-program.ensures c.requires.said.0 c.requires.said.1 c.requires.said.2 c.requires.said.3 ∙ sym c.requires.said.4) (c.run_plan-end.ensures.keeps t)) c.args.accepted.now.bytes.now c.args.accepted.now.sequence c.args.accepted.now.digest in
     let held_at = was_b c.sound_laws.ensures c.moment_laws.ensures c.choice_laws.ensures c.args.accepted.now.frame (g.D.Disk.extent c.args.disk.now) c.requires.frame c.args.layout.now c.requires.layout c.args.places.now (plan_tree c.args.accepted.now.plan.now) (held_of c.args.accepted.now.held) c.requires.loadable c.choose_slots-slots.result.number c.in-Ok.world.standings.items c.requires.distinct c.choose_slots-slots.ensures.choice c.in-Ok.ensures.stand chosen (g.D.Disk.flash c.args.disk.now) (g.D.Disk.flash c.run_plan-end.new.disk) (g.met.D.Disk.obeys c.args.disk.now t) law_b (c.requires.config t).0 (c.requires.config t).1 (c.requires.held t) (subst (λ (x : PlanTree). Keeps (OutsideTargets x c.in-Ok.world.standings.items) (g.D.Disk.flash c.args.disk.now) (g.D.Disk.flash c.run_plan-end.new.disk)) (c.program_of-program.ensures c.requires.said.0 c.requires.said.1 c.requires.said.2 c.requires.said.3 ∙ sym c.requires.said.4) (c.run_plan-end.ensures.keeps t)) in
-    let Left : UpdateEnd → Type 0 = LeavesUpdate c.args.accepted.now.frame c.args.layout.now c.args.places.now (plan_tree c.args.accepted.now.plan.now) (held_of c.args.accepted.now.held) new (g.D.Disk.flash c.args.disk.now).reads (g.D.Disk.flash c.finish.new.disk).reads in
+    let Left : UpdateEnd → Type 0 = LeavesUpdate (placed_on c.args.accepted.now.frame c.args.layout.now c.args.places.now (plan_tree c.args.accepted.now.plan.now)) (held_of c.args.accepted.now.held) new (g.D.Disk.flash c.args.disk.now).reads (g.D.Disk.flash c.finish.new.disk).reads in
     after c.run_plan-end.result c.finish.result _ _ c.finish.ensures.answer (λ answer. KeptSo (Left answer) ((g.D.Disk.flash c.finish.new.disk).reads ≡ (g.D.Disk.flash c.args.disk.now).reads) answer)
     (λ r same ended. let is = installed_as c.finish.result r (λ r. r ≡ new_record c.args.accepted.now.frame (held_of c.args.accepted.now.held) (g.D.Disk.flash c.run_plan-end.new.disk).reads c.args.accepted.now.bytes.now c.args.accepted.now.sequence c.args.accepted.now.digest numbers) (c.finish.ensures.new t) same ∙ same_new in
     record { numbers = numbers; chosen = chosen; accepted = c.requires.judged; contents = contents; left = (is, subst (λ (n : Record). RecordOf c.args.accepted.now.frame (head_of c.args.accepted.now.frame (g.D.Disk.flash c.finish.new.disk).reads) (Some n)) is (installed_as c.finish.result r (λ r. RecordOf c.args.accepted.now.frame (head_of c.args.accepted.now.frame (g.D.Disk.flash c.finish.new.disk).reads) (Some r)) (c.finish.ensures.recorded t) same)) })
@@ -254,8 +256,8 @@ returns-clause-plays g c t tl payloads has =
     let chosen = (chosen_as c.args.layout.now c.args.places.now (plan_tree c.args.accepted.now.plan.now) c.choose_slots-slots.ensures.chosen.0 (active_slots (held_of c.args.accepted.now.held)) c.choose_slots-slots.result.number (in_use_as_held c.args.accepted.now.frame (g.D.Disk.extent c.args.disk.now) (g.D.Disk.flash c.args.disk.now).reads c.args.layout.now (c.requires.config t).0 (held_of c.args.accepted.now.held) (c.requires.config t).1 (c.requires.held t) c.requires.loadable c.choose_slots-slots.ensures.chosen.0 c.choose_slots-slots.ensures.chosen.1) c.choose_slots-slots.ensures.chosen.2) in
     let law_b = (subst (λ (n : ℕ). IsFlash (g.D.Disk.flash c.run_plan-end.new.disk) n) c.run_plan-end.ensures.size (g.met.D.Disk.obeys c.run_plan-end.new.disk t)) in
     let law_d = (subst (λ (n : ℕ). IsFlash (g.D.Disk.flash c.finish.new.disk) n) (c.finish.ensures.size ∙ c.run_plan-end.ensures.size) (g.met.D.Disk.obeys c.finish.new.disk t)) in
-    let Plays : List ℕ → PlanEnd → Type 0 = λ made end. PlaysUpdate c.args.layout.now c.args.places.now (plan_tree c.args.accepted.now.plan.now) (held_of c.args.accepted.now.held) (sources payloads c.args.accepted.now.uris.now (hosted g.H.Host.told (g.H.Host.file c.args.host.now) (g.H.Host.asked c.args.host.now) (g.H.Host.asked c.run_plan-end.new.host))) (g.D.Disk.flash c.args.disk.now).reads made (g.L.Launcher.launches c.args.launcher.now) (g.L.Launcher.launches c.run_plan-end.new.launcher) end in
-    let play : Plays (g.D.Disk.flash c.run_plan-end.new.disk).reads c.run_plan-end.result = plays_update c.args.layout.now c.args.places.now (plan_tree c.args.accepted.now.plan.now) (held_of c.args.accepted.now.held) payloads c.in-Ok.world.uris.now c.args.accepted.now.uris.now (hosted g.H.Host.told (g.H.Host.file c.args.host.now) (g.H.Host.asked c.args.host.now) (g.H.Host.asked c.run_plan-end.new.host)) (g.D.Disk.flash c.args.disk.now).reads (g.D.Disk.flash c.run_plan-end.new.disk).reads (g.L.Launcher.launches c.args.launcher.now) (g.L.Launcher.launches c.run_plan-end.new.launcher) c.run_plan-end.result c.choose_slots-slots.result.number c.in-Ok.world.standings.items c.in-Ok.world.ram c.run_plan-end.new.world.ram chosen c.choose_slots-slots.ensures.choice c.in-Ok.ensures.stand c.in-Ok.ensures.ram c.in-Ok.ensures.uris
+    let Plays : List ℕ → PlanEnd → Type 0 = λ made end. PlaysUpdate (placed_on c.args.accepted.now.frame c.args.layout.now c.args.places.now (plan_tree c.args.accepted.now.plan.now)) (held_of c.args.accepted.now.held) (sources payloads c.args.accepted.now.uris.now (hosted g.H.Host.told (g.H.Host.file c.args.host.now) (g.H.Host.asked c.args.host.now) (g.H.Host.asked c.run_plan-end.new.host))) (device_at (g.D.Disk.flash c.args.disk.now).reads (g.L.Launcher.launches c.args.launcher.now)) (device_at made (g.L.Launcher.launches c.run_plan-end.new.launcher)) end in
+    let play : Plays (g.D.Disk.flash c.run_plan-end.new.disk).reads c.run_plan-end.result = plays_update c.args.accepted.now.frame c.args.layout.now c.args.places.now (plan_tree c.args.accepted.now.plan.now) (held_of c.args.accepted.now.held) payloads c.in-Ok.world.uris.now c.args.accepted.now.uris.now (hosted g.H.Host.told (g.H.Host.file c.args.host.now) (g.H.Host.asked c.args.host.now) (g.H.Host.asked c.run_plan-end.new.host)) (g.D.Disk.flash c.args.disk.now).reads (g.D.Disk.flash c.run_plan-end.new.disk).reads (g.L.Launcher.launches c.args.launcher.now) (g.L.Launcher.launches c.run_plan-end.new.launcher) c.run_plan-end.result c.choose_slots-slots.result.number c.in-Ok.world.standings.items c.in-Ok.world.ram c.run_plan-end.new.world.ram chosen c.choose_slots-slots.ensures.choice c.in-Ok.ensures.stand c.in-Ok.ensures.ram c.in-Ok.ensures.uris
     (program_tree c.program_of-program.result) (c.program_of-program.ensures c.requires.said.0 c.requires.said.1 c.requires.said.2 c.requires.said.3 ∙ sym c.requires.said.4) (c.run_plan-end.ensures.plays refl refl t tl payloads (subst (λ (e : Option (Bor Envelope)). ArePayloads e payloads) (sym c.in-Ok.ensures.envelope) has)) in
     after c.run_plan-end.result c.finish.result _ _ c.finish.ensures.answer
     (λ answer. PlayedSo Plays ((g.D.Disk.flash c.finish.new.disk).reads ≡ (g.D.Disk.flash c.args.disk.now).reads) c.args.layout.now (g.D.Disk.flash c.finish.new.disk).reads (g.L.Launcher.launches c.args.launcher.now) (g.L.Launcher.launches c.run_plan-end.new.launcher) answer)
