@@ -7,6 +7,7 @@ use suit_manifest::{Manifest, Members};
 
 /// An update: an envelope whose manifest and members were judged, where the flash has the manifest's components, and
 /// the files that URIs name.
+#[derive(Clone, Copy)]
 pub struct Update<'a> {
     pub envelope: &'a Envelope<'a>,
     pub manifest: &'a Manifest,
