@@ -262,6 +262,11 @@ class Plan:
             other = long_member() if self.place == "beside" else dear_member()
             pairs += [b"\x09" + spelled[0], b"\x14\x82\x2f" + byte_string(hashlib.sha256(other).digest())]
             beside = b"\x14" + other
+        elif self.place == "both":
+            # Nearly the same member for both procedures, so that each is judged.
+            other = byte_string(worst.spelled(commands_of((pick(0),) + members[0])))
+            pairs += [b"\x09" + spelled[0], b"\x14\x82\x2f" + byte_string(hashlib.sha256(other).digest())]
+            beside = b"\x14" + other
         elif self.place == "twice":
             pairs.append(b"\x07" + spelled[0])
         elif self.place == "behind":
