@@ -3,8 +3,10 @@
 ghost use Rattle.std.specs.Prelude.{◌≡◌, OnOk};
 ghost use Rattle.serde_json.specs.View.{view};
 ghost use Rattle.json_fields.specs.Answers.{Gives};
+ghost use Rattle.author.specs.FileValues.{digest_of};
 ghost use Rattle.author.specs.ParamValues.{number_of, index_of, param_value, params_of, placed_among, IsPlaceOf};
 
+use crate::FileList;
 use crate::file_value::{content, digest, size};
 use crate::param_name::param_named;
 use crate::scope::Scope;
@@ -13,7 +15,7 @@ use serde_json::Value;
 use std::alloc::{AllocError, Global};
 use std::cmp::Ordering;
 use std::marker::Model;
-use suit_params::{Param, ParamKey, ParamList};
+use suit_params::{BoxedDigest, Param, ParamKey, ParamList};
 
 /// Reads a number of 64 bits.
 pub(crate) fn whole(alloc: Global, value: &Value) -> Result<u64, JsonFault>
@@ -34,6 +36,14 @@ pub(crate) fn index(alloc: Global, value: &Value, count: u32) -> Result<u32, Jso
     }
 }
 
+// Reads a digest, or makes that of a file, and boxes it.
+fn boxed_digest(alloc: Global, value: &Value, files: &FileList) -> Result<BoxedDigest, JsonFault>
+    ensures { Gives (λ digest. digest) result (digest_of files.now (view value.now)) }
+{
+    let digest = digest(alloc, value, files)?;
+    Ok(BoxedDigest::new(alloc, digest)?)
+}
+
 // Reads the value of a parameter with this key.
 fn param(alloc: Global, value: &Value, key: ParamKey, scope: &Scope<'_>) -> Result<Param, JsonFault>
     ensures { Gives (λ p. p) result (param_value scope.now key (view value.now)) }
@@ -42,7 +52,7 @@ fn param(alloc: Global, value: &Value, key: ParamKey, scope: &Scope<'_>) -> Resu
         ParamKey::Vendor => uuid(alloc, value).map(Param::Vendor),
         ParamKey::Class => uuid(alloc, value).map(Param::Class),
         ParamKey::Device => uuid(alloc, value).map(Param::Device),
-        ParamKey::Digest => digest(alloc, value, scope.files).map(Param::Digest),
+        ParamKey::Digest => boxed_digest(alloc, value, scope.files).map(Param::Digest),
         ParamKey::Slot => whole(alloc, value).map(Param::Slot),
         ParamKey::Strict => flag(alloc, value).map(Param::Strict),
         ParamKey::Soft => flag(alloc, value).map(Param::Soft),

@@ -35,7 +35,7 @@ fn param_value(alloc: Global, param: &Param) -> Result<Value, AllocError>
         Param::Vendor(id) => uuid_value(alloc, *id),
         Param::Class(id) => uuid_value(alloc, *id),
         Param::Device(id) => uuid_value(alloc, *id),
-        Param::Digest(digest) => hex_value(alloc, digest.bytes()),
+        Param::Digest(digest) => hex_value(alloc, digest.get().bytes()),
         Param::Slot(number) => Ok(Value::from(*number)),
         Param::Strict(flag) => Ok(Value::from(*flag)),
         Param::Soft(flag) => Ok(Value::from(*flag)),

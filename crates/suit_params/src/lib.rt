@@ -2,6 +2,7 @@
 #![tactic(auto)]
 
 mod alike;
+mod boxed_digest;
 mod digest;
 mod digest_kind;
 mod digest_writing;
@@ -22,6 +23,7 @@ mod refusal;
 mod value_in_force;
 
 pub use alike::{Identified, IdentifiedList, first_alike, first_like};
+pub use boxed_digest::BoxedDigest;
 pub use digest::{Digest, digest_of, read_digest};
 pub use digest_kind::{DigestKind, kind_of_length};
 pub use digest_writing::push_digest;

@@ -3,7 +3,7 @@
 ghost use Rattle.std.specs.Prelude.{◌≡◌, IfOk};
 ghost use Rattle.suit_params.specs.ParamKeys.{key_of, key_number};
 
-use crate::Digest;
+use crate::BoxedDigest;
 use det_cbor::{Bytes, Text};
 use std::alloc::{AllocError, Global};
 
@@ -14,7 +14,7 @@ pub enum Param {
     Class([u8; 16]),
     Device([u8; 16]),
     /// The digest of the image.
-    Digest(Digest),
+    Digest(BoxedDigest),
     Slot(u64),
     /// Whether commands run in order. They always do.
     Strict(bool),
@@ -76,7 +76,7 @@ impl Param {
             Param::Vendor(id) => Param::Vendor(*id),
             Param::Class(id) => Param::Class(*id),
             Param::Device(id) => Param::Device(*id),
-            Param::Digest(digest) => Param::Digest(*digest),
+            Param::Digest(digest) => Param::Digest(digest.copy(alloc)?),
             Param::Slot(number) => Param::Slot(*number),
             Param::Strict(value) => Param::Strict(*value),
             Param::Soft(value) => Param::Soft(*value),

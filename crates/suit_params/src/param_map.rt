@@ -11,14 +11,14 @@ ghost use Rattle.suit_params.specs.ParamKeys.{numbered};
 ghost use Rattle.suit_params.specs.Params.{IsParams, RefusesParams};
 ghost use Rattle.suit_params.specs.ParamJudging.{known_param};
 ghost use Rattle.suit_params.specs.ParamLaws.{ParamLaws};
-ghost use Rattle.suit_params.specs.ParamReading.{key_from, bytes_value_from, value_from, param_from, params_from, params_at, next_params};
+ghost use Rattle.suit_params.specs.ParamReading.{key_from, bytes_value_from, digest_from, value_from, param_from, params_from, params_at, next_params};
 
 use crate::param_value::{
     read_flag, read_held, read_held_digest, read_id, read_index, read_number, read_text,
 };
 use crate::reading::{copy_left, read_item, read_kind, read_map, same_place};
 use crate::refusal::refused;
-use crate::{Fault, Param, ParamKey, ParamList, Refusal, Why};
+use crate::{BoxedDigest, Fault, Param, ParamKey, ParamList, Refusal, Why};
 use det_cbor::{Bytes, Cursor, HeadKind, Text};
 use std::alloc::{AllocError, Global};
 
@@ -61,6 +61,14 @@ fn read_bytes_value(alloc: Global, map: &mut Cursor<'_>) -> Result<Bytes, Fault>
     Ok(copy_left(alloc, content)?)
 }
 
+// Reads a byte string that holds a digest, and boxes the digest.
+fn read_digest_value(alloc: Global, map: &mut Cursor<'_>) -> Result<BoxedDigest, Fault>
+    ensures { Gives (λ d. (d, map.new)) result (digest_from map.old) }
+{
+    let digest = read_held_digest(map)?;
+    Ok(BoxedDigest::new(alloc, digest)?)
+}
+
 fn read_value(
     alloc: Global,
     map: &mut Cursor<'_>,
@@ -73,7 +81,7 @@ fn read_value(
         ParamKey::Vendor => Ok(Param::Vendor(read_id(map)?)),
         ParamKey::Class => Ok(Param::Class(read_id(map)?)),
         ParamKey::Device => Ok(Param::Device(read_id(map)?)),
-        ParamKey::Digest => Ok(Param::Digest(read_held_digest(map)?)),
+        ParamKey::Digest => Ok(Param::Digest(read_digest_value(alloc, map)?)),
         ParamKey::Slot => Ok(Param::Slot(read_number(map)?)),
         ParamKey::Strict => Ok(Param::Strict(read_flag(map)?)),
         ParamKey::Soft => Ok(Param::Soft(read_flag(map)?)),

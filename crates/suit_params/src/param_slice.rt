@@ -11,7 +11,7 @@ use crate::param_value::{
     read_flag, read_held, read_held_digest, read_id, read_index, read_number, read_text,
 };
 use crate::reading::bytes_left;
-use crate::{Digest, Param, ParamKey, Refusal};
+use crate::{BoxedDigest, Digest, Param, ParamKey, Refusal};
 use det_cbor::{Bytes, Cursor, Text};
 use std::alloc::{AllocError, Global};
 
@@ -67,7 +67,7 @@ impl<'a> ParamSlice<'a> {
             ParamSlice::Vendor(id) => Param::Vendor(*id),
             ParamSlice::Class(id) => Param::Class(*id),
             ParamSlice::Device(id) => Param::Device(*id),
-            ParamSlice::Digest(digest) => Param::Digest(*digest),
+            ParamSlice::Digest(digest) => Param::Digest(BoxedDigest::new(alloc, *digest)?),
             ParamSlice::Slot(number) => Param::Slot(*number),
             ParamSlice::Strict(value) => Param::Strict(*value),
             ParamSlice::Soft(value) => Param::Soft(*value),

@@ -45,7 +45,7 @@ fn push_value(out: &mut Bytes, param: &Param) -> Result<(), AllocError>
 {
     match param {
         Param::Vendor(id) | Param::Class(id) | Param::Device(id) => push_string(out, id),
-        Param::Digest(digest) => push_held_digest(out, digest),
+        Param::Digest(digest) => push_held_digest(out, digest.get()),
         Param::Slot(number) | Param::Size(number) => push_number(out, *number),
         Param::Strict(flag) | Param::Soft(flag) => push_flag(out, *flag),
         Param::Content(bytes) | Param::Args(bytes) => push_string(out, bytes.as_slice()),

@@ -28,7 +28,7 @@ pub(crate) fn of_param(param: Option<&Param>) -> u64 {
         Some(Param::Vendor(id)) => of_bytes(&id[..]),
         Some(Param::Class(id)) => of_bytes(&id[..]),
         Some(Param::Device(id)) => of_bytes(&id[..]),
-        Some(Param::Digest(digest)) => of_bytes(digest.bytes()),
+        Some(Param::Digest(digest)) => of_bytes(digest.get().bytes()),
         Some(Param::Slot(number)) => mixed(3, *number),
         Some(Param::Size(size)) => mixed(4, *size),
         Some(Param::Source(component)) => mixed(5, *component as u64),

@@ -20,7 +20,7 @@ fn same(one: &Param, other: &Param) -> bool
         (Param::Vendor(id), Param::Vendor(other)) => *id == *other,
         (Param::Class(id), Param::Class(other)) => *id == *other,
         (Param::Device(id), Param::Device(other)) => *id == *other,
-        (Param::Digest(digest), Param::Digest(other)) => same_digest(digest, other),
+        (Param::Digest(digest), Param::Digest(other)) => same_digest(digest.get(), other.get()),
         (Param::Slot(number), Param::Slot(other)) => *number == *other,
         (Param::Strict(value), Param::Strict(other)) => *value == *other,
         (Param::Soft(value), Param::Soft(other)) => *value == *other,

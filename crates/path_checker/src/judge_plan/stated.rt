@@ -23,7 +23,7 @@ impl<'a> Stated<'a> {
     {
         match digest? {
             Param::Digest(digest) => Some(Stated {
-                digest,
+                digest: digest.get(),
                 size: number_of(size),
             }),
             _ => None,

@@ -100,7 +100,7 @@ impl<'a> Run<'a> {
 
     fn digest(&self, component: u32) -> Option<Digest> {
         match self.get(component, ParamKey::Digest) {
-            Some(Param::Digest(digest)) => Some(*digest),
+            Some(Param::Digest(digest)) => Some(*digest.get()),
             _ => None,
         }
     }

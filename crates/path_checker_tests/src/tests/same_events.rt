@@ -9,7 +9,9 @@ fn is_same_param(one: &Param, other: &Param) -> bool {
         Param::Vendor(id) => matches!(other, Param::Vendor(found) if found == id),
         Param::Class(id) => matches!(other, Param::Class(found) if found == id),
         Param::Device(id) => matches!(other, Param::Device(found) if found == id),
-        Param::Digest(digest) => matches!(other, Param::Digest(found) if found == digest),
+        Param::Digest(digest) => {
+            matches!(other, Param::Digest(found) if found.get() == digest.get())
+        }
         Param::Slot(slot) => matches!(other, Param::Slot(found) if found == slot),
         Param::Strict(value) => matches!(other, Param::Strict(found) if found == value),
         Param::Soft(value) => matches!(other, Param::Soft(found) if found == value),

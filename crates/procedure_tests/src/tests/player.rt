@@ -140,7 +140,7 @@ fn is_image(frame: &Frame<'_>, component: u32, content: &[u8]) -> bool {
         Some(size) => content.len() as u64 == size,
         None => true,
     };
-    sized && has_digest(content, digest)
+    sized && has_digest(content, digest.get())
 }
 
 fn passes(stage: &Stage<'_>, frame: &Frame<'_>, component: u32, kind: TestKind) -> bool {
@@ -215,7 +215,7 @@ fn swap<'a>(stage: &mut Stage<'a>, frame: &Frame<'a>, component: u32) -> Result<
 fn is_launch(launch: &Launch, stage: &Stage<'_>, frame: &Frame<'_>, component: u32) -> bool {
     let digest = match frame.get(component, ParamKey::Digest) {
         Some(Param::Digest(digest)) => match &launch.digest {
-            Some(told) => told.as_slice() == digest.bytes(),
+            Some(told) => told.as_slice() == digest.get().bytes(),
             None => false,
         },
         _ => launch.digest.is_none(),
