@@ -14,6 +14,7 @@ mod failures;
 mod fingerprint;
 mod halt;
 mod happened;
+mod held;
 mod history;
 mod in_force;
 mod in_place;

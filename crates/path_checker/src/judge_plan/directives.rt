@@ -120,8 +120,9 @@ fn invoke<'a>(
             Err(Halt::Uncovered(Uncovered::copy(memory, k)?))
         }
         Some(stated) => {
-            let own = k.history.invoked(memory, place, component, stated)?;
-            if k.history.has_matched(memory, component, own) {
+            let asked = k.history.asked(memory, place, component, stated)?;
+            if asked.stands {
+                let own = asked.own;
                 happens(memory, k, Happened::Covered { component, own })?;
                 return Ok(true);
             }

@@ -1,6 +1,6 @@
 //! The history of a state.
 
-ghost use Rattle.std.specs.Prelude.{◌≡◌, ◌↔◌, [], ◌∷◌, ◌++◌, IsTrue, IfOk, OnOk};
+ghost use Rattle.std.specs.Prelude.{◌≡◌, ◌↔◌, [], ◌∷◌, ◌++◌, IsTrue, IfSome, IfOk, OnOk};
 ghost use Rattle.path_model.specs.Safe.{HasMatched};
 ghost use Rattle.path_model.specs.Following.{SameMatches};
 ghost use Rattle.path_model.specs.declared.event.Event.{Event as TheEvent};
@@ -13,7 +13,7 @@ ghost use Rattle.path_checker.specs.Standing.{StandsAfter};
 
 use crate::judge_plan::happened::{Ended, Happened};
 use crate::judge_plan::matches::Match;
-use crate::judge_plan::memory::Memory;
+use crate::judge_plan::memory::{LastTold, Memory};
 use crate::judge_plan::past::Past;
 use crate::judge_plan::selected::Components;
 use crate::judge_plan::standing::StandingMatches;
@@ -24,6 +24,13 @@ use std::alloc::{AllocError, Global};
 use std::marker::Model;
 use suit_commands::Step;
 use suit_params::ParamList;
+
+/// A match that an invoke asks for, and whether it stands.
+#[derive(Clone, Copy)]
+pub(crate) struct Asked<'a> {
+    pub own: &'a Match<'a>,
+    pub stands: bool,
+}
 
 /// The events that led to a state, and the matches that stand after them.
 #[derive(Drop)]
@@ -232,41 +239,109 @@ impl<'a> History<'a> {
     ) -> Result<&'a Match<'a>, AllocError>
         ensures { IfOk result (λ own. match_of own.now ≡ stated_by stated.entry) }
     {
+        if let Some(own) = self.standing.last(component, stated) {
+            return Ok(own);
+        }
+        if let Some(told) = Match::told_last(memory, place, component, stated) {
+            return Ok(told.own);
+        }
         if memory.has_plenty() {
             if let Some(own) = self.standing.latest(component, stated) {
                 return Ok(own);
             }
         }
-        Match::lent(memory, place, component, stated)
+        let own = Match::lent(memory, place, component, stated)?;
+        self.standing.note(memory, component, own);
+        Ok(own)
     }
 
-    /// A match for an invoke at a place: one of the last two there, one that stands, or else a new one.
-    pub(crate) fn invoked(
+    // The match of a component that was used last, if it is for this digest and this size. It stands.
+    fn used_last(&self, component: u32, stated: Stated<'_>) -> Option<&'a Match<'a>>
+        ensures is { IfSome result (λ own. match_of own.now ≡ stated_by stated.entry) }
+        ensures stands { IfSome result
+            (λ own. HasMatched self.now component stated.entry.digest.now stated.entry.size) }
+    {
+        self.standing.last(component, stated)
+    }
+
+    // The match for this digest and this size, if a search finds it. It stands.
+    fn found(&self, memory: Memory<'a>, component: u32, stated: Stated<'a>) -> Option<&'a Match<'a>>
+        ensures is { IfSome result (λ own. match_of own.now ≡ stated_by stated.entry) }
+        ensures stands { IfSome result
+            (λ own. HasMatched self.now component stated.entry.digest.now stated.entry.size) }
+    {
+        self.standing.found(memory, component, &Match::new(stated))
+    }
+
+    // A match, and whether it stands.
+    fn judged(&self, memory: Memory<'a>, component: u32, own: &'a Match<'a>) -> Asked<'a>
+        ensures own { result.own.now ≡ own.now }
+        ensures stands { IsTrue result.stands
+            ↔ HasMatched self.now component (match_of own.now).0 (match_of own.now).1 }
+    {
+        let stands = self.standing.has(memory, component, own);
+        Asked { own, stands }
+    }
+
+    // Whether a match stands at this index of the list of a component.
+    fn stands_at(&self, component: u32, at: usize, own: &Match<'_>) -> bool
+        ensures { IsTrue result
+            → HasMatched self.now component (match_of own.now).0 (match_of own.now).1 }
+    {
+        self.standing.is_at(component, at, own)
+    }
+
+    // A match that the command at a place told, and whether it stands. It is looked for where it was found last.
+    fn recalled(
+        &self,
+        memory: Memory<'a>,
+        place: u64,
+        component: u32,
+        told: LastTold<'a>,
+    ) -> Asked<'a>
+        ensures own { result.own.now ≡ told.entry.own.now }
+        ensures stands { IsTrue result.stands
+            ↔ HasMatched self.now component (match_of told.entry.own.now).0
+            (match_of told.entry.own.now).1 }
+    {
+        let own = told.own;
+        if self.stands_at(component, told.at, own) {
+            return Asked { own, stands: true };
+        }
+        let asked = self.judged(memory, component, own);
+        let at = self.standing.index_of(memory, component, own);
+        memory.keep_index(place, component, told.second, at);
+        asked
+    }
+
+    /// The match that an invoke at a place asks for, and whether it stands. The last match of the component in this
+    /// state is tried first, and then the last two of the command, in any state.
+    pub(crate) fn asked(
         &self,
         memory: Memory<'a>,
         place: u64,
         component: u32,
         stated: Stated<'a>,
-    ) -> Result<&'a Match<'a>, AllocError>
-        ensures { IfOk result (λ own. match_of own.now ≡ stated_by stated.entry) }
+    ) -> Result<Asked<'a>, AllocError>
+        ensures own { IfOk result (λ asked. match_of asked.own.now ≡ stated_by stated.entry) }
+        ensures stands { IfOk result
+            (λ asked. IsTrue asked.stands
+            ↔ HasMatched self.now component stated.entry.digest.now stated.entry.size) }
     {
-        if let Some(last) = Match::told_last(memory, place, component, stated) {
-            return Ok(last);
+        if let Some(own) = self.used_last(component, stated) {
+            return Ok(Asked { own, stands: true });
         }
-        let own = match self.standing.found(memory, component, &Match::new(stated)) {
-            Some(own) => own,
-            None => Match::unsearched(memory, stated)?,
-        };
-        memory.keep_told(place, component, own)?;
-        Ok(own)
-    }
-
-    /// Whether this match of a component stands.
-    pub(crate) fn has_matched(&self, memory: Memory<'_>, component: u32, own: &Match<'_>) -> bool
-        ensures { IsTrue result
-            ↔ HasMatched self.now component (match_of own.now).0 (match_of own.now).1 }
-    {
-        self.standing.has(memory, component, own)
+        if let Some(told) = Match::told_last(memory, place, component, stated) {
+            return Ok(self.recalled(memory, place, component, told));
+        }
+        if let Some(own) = self.found(memory, component, stated) {
+            let at = self.standing.index_of(memory, component, own);
+            memory.keep_told(place, component, own, at)?;
+            return Ok(Asked { own, stands: true });
+        }
+        let own = Match::unsearched(memory, stated)?;
+        memory.keep_told(place, component, own, usize::MAX)?;
+        Ok(self.judged(memory, component, own))
     }
 
     /// Whether the same matches stand in both.

@@ -59,6 +59,20 @@ pub(crate) fn only_shared<'a>(memory: Memory<'a>, k: Kept<'a>) -> Result<Vec<Kep
     only(memory.alloc, k)
 }
 
+/// The same states, whose events are put into memory that all states share.
+pub(crate) fn all_shared<'a>(
+    memory: Memory<'a>,
+    from: Vec<Kept<'a>>,
+) -> Result<Vec<Kept<'a>>, AllocError>
+    ensures { IfOk result (λ v. v.items ≡ from.entry.items) }
+{
+    let mut all = Vec::new(memory.alloc);
+    for k in from {
+        all.push(k.shared(memory)?)?;
+    }
+    Ok(all)
+}
+
 /// The states in which a branch begins, and its failures so far.
 #[derive(Drop)]
 pub(crate) struct Inside<'a> {

@@ -149,12 +149,16 @@ impl<'a> Kept<'a> {
         })
     }
 
-    /// The same state, which keeps its next events in memory of its own.
-    pub(crate) fn set_apart(self) -> Kept<'a>
+    /// The same state, which goes on alone. If others do so after it, its next events are in memory of its own.
+    pub(crate) fn set_apart(self, memory: Memory<'a>) -> Kept<'a>
         ensures { result ≡ self.entry }
     {
         let mut k = self;
-        k.history = k.history.set_apart();
+        if memory.takes_turns() {
+            k.history = k.history.set_apart();
+        } else {
+            k.begin();
+        }
         k
     }
 

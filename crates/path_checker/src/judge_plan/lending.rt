@@ -3,9 +3,10 @@
 ghost use Rattle.std.specs.Prelude.{◌≡◌, IfSome, IfOk};
 ghost use Rattle.path_checker.specs.Matches.{stated_by, match_of};
 
+use crate::judge_plan::held::Held;
 use crate::judge_plan::mark::{number_of, print_of};
-use crate::judge_plan::matches::{Held, Match};
-use crate::judge_plan::memory::Memory;
+use crate::judge_plan::matches::Match;
+use crate::judge_plan::memory::{LastTold, Memory};
 use crate::judge_plan::stated::Stated;
 use std::alloc::AllocError;
 
@@ -51,19 +52,19 @@ impl<'a> Match<'a> {
         place: u64,
         component: u32,
         stated: Stated<'_>,
-    ) -> Option<&'a Match<'a>>
-        ensures { IfSome result (λ own. match_of own.now ≡ stated_by stated.entry) }
+    ) -> Option<LastTold<'a>>
+        ensures { IfSome result (λ told. match_of told.own.now ≡ stated_by stated.entry) }
     {
         for second in &[false, true] {
             let last = memory.told_at(place, component, *second)?;
-            if last.is_of(stated) {
+            if last.own.is_of(stated) {
                 return Some(last);
             }
         }
         None
     }
 
-    /// A match in memory that states share. The last two of the command at the place are tried first.
+    /// A match in memory that states share, which the command at the place then used last.
     pub(crate) fn lent(
         memory: Memory<'a>,
         place: u64,
@@ -72,15 +73,12 @@ impl<'a> Match<'a> {
     ) -> Result<&'a Match<'a>, AllocError>
         ensures { IfOk result (λ own. match_of own.now ≡ stated_by stated.entry) }
     {
-        if let Some(last) = Match::told_last(memory, place, component, stated) {
-            return Ok(last);
-        }
         let own = if !memory.has_plenty() && memory.passes_used() {
             Match::unsearched(memory, stated)?
         } else {
             Match::used(memory, stated)?
         };
-        memory.keep_told(place, component, own)?;
+        memory.keep_told(place, component, own, usize::MAX)?;
         Ok(own)
     }
 

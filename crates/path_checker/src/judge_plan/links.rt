@@ -12,6 +12,10 @@ use std::alloc::{AllocError, Global};
 // How deep a tree is searched.
 const DEEPEST: u32 = 576;
 
+// Above this depth of a tree the 31 bits of a mark choose the side, and from here on all 64 bits of the fingerprint:
+// many matches with the same mark can be found in minutes.
+const DEEP: u32 = 12;
+
 // With this many matches to a bucket on average, the index is built anew with more buckets.
 const CROWD: usize = 4;
 
@@ -169,7 +173,7 @@ impl Links {
     /// An empty index with room for `count` matches.
     pub(crate) fn for_many(alloc: Global, count: usize) -> Result<Links, AllocError> {
         Ok(Links {
-            first: first_links(alloc, count)?,
+            first: first_links(alloc, count / 2)?,
             below: Vec::with_capacity(alloc, count)?,
             sum: 0,
         })
@@ -216,9 +220,13 @@ impl Links {
         ensures { IfSome result.found (λ at. In (match_of wanted.now) (all_lent all.now)) }
     {
         let print = wanted.print();
+        let mut bits = print;
         let mut link = self.first_link(print);
         let mut place = Place::First;
         for depth in 0..DEEPEST {
+            if depth == DEEP {
+                bits = wanted.whole_print();
+            }
             let Some(at) = link.index() else {
                 return Ended { found: None, place };
             };
@@ -228,7 +236,7 @@ impl Links {
                     place,
                 };
             }
-            let one = wanted.goes_one(print, depth);
+            let one = wanted.goes_one(bits, depth);
             place = Place::Below { at, one };
             link = self.next(at, one);
         }

@@ -1,4 +1,4 @@
-//! The matches of one component. Copies share them until one is added.
+//! Matches, and lists of them.
 
 ghost use Rattle.std.specs.Prelude.{◌≡◌, ◌↔◌, [], ◌∷◌, IsTrue, IfSome, IfOk, OnOk};
 ghost use Rattle.path_checker.specs.Exploring.{In};
@@ -12,7 +12,6 @@ use path_model::Event;
 use std::alloc::{AllocError, Global};
 use std::cell::Cell;
 use std::marker::Model;
-use std::rc::Rc;
 use suit_params::Digest;
 
 /// A digest and a size that a component was matched under, in 24 bytes, since there may be many.
@@ -31,8 +30,15 @@ pub(crate) struct Lent<'a> {
     pub own: &'a Match<'a>,
 }
 
-// Stands for all matches of a judgement, in place of a component.
-const ALL: usize = 8;
+/// A match that was found in a list, and its index.
+#[derive(Clone, Copy)]
+pub(crate) struct Found<'a> {
+    pub own: &'a Match<'a>,
+    pub at: usize,
+}
+
+/// Stands for all matches of a judgement, in place of a component.
+pub(crate) const ALL: usize = 8;
 
 // A list that is no longer than this is searched one by one, and no match is in it twice.
 const FEW: usize = 16;
@@ -130,9 +136,14 @@ impl<'a> Match<'a> {
         if let Some(print) = self.mark.get().print() {
             return print;
         }
-        let mark = Mark::printed(print_of(self.stated()));
+        let mark = Mark::printed(self.whole_print());
         self.mark.set(mark);
         mark.spread()
+    }
+
+    /// All 64 bits of the fingerprint, computed anew.
+    pub(crate) fn whole_print(&self) -> u64 {
+        print_of(self.stated())
     }
 
     // Computes the fingerprint. Returns whether there was none before.
@@ -171,9 +182,9 @@ impl<'a> Match<'a> {
     }
 }
 
-// A list of matches. If it is long, some may be in it twice.
+/// A list of matches. If it is long, some may be in it twice.
 #[derive(Drop)]
-struct Matches<'a> {
+pub(crate) struct Matches<'a> {
     alloc: Global,
     all: Vec<Lent<'a>>,
     links: Cell<Links>,
@@ -205,8 +216,8 @@ fn room_after(len: usize, capacity: usize) -> usize {
 }
 
 impl<'a> Matches<'a> {
-    // No matches.
-    fn none(alloc: Global) -> Matches<'a>
+    /// No matches.
+    pub(crate) fn none(alloc: Global) -> Matches<'a>
         ensures { result ≡ [] }
     {
         Matches {
@@ -234,8 +245,8 @@ impl<'a> Matches<'a> {
         })
     }
 
-    // A copy in memory of its own, with room for one more.
-    fn copy(&self) -> Result<Matches<'a>, AllocError>
+    /// A copy in memory of its own, with room for one more.
+    pub(crate) fn copy(&self) -> Result<Matches<'a>, AllocError>
         ensures { IfOk result (λ held. held ≡ self.now) }
     {
         let mut all = Vec::with_capacity(self.alloc, self.all.len().saturating_add(1))?;
@@ -277,8 +288,8 @@ impl<'a> Matches<'a> {
         index_in(self.all.as_slice(), wanted)
     }
 
-    // Whether a search finds a match.
-    fn finds(&self, wanted: &Match<'_>) -> bool
+    /// Whether a search finds a match.
+    pub(crate) fn finds(&self, wanted: &Match<'_>) -> bool
         ensures { IsTrue result → In (match_of wanted.now) self.now }
     {
         match self.search(wanted) {
@@ -306,8 +317,8 @@ impl<'a> Matches<'a> {
         found
     }
 
-    // Whether a match is found: where it was last, or by a search.
-    fn finds_of(&self, memory: Memory<'_>, component: usize, wanted: &Match<'_>) -> bool
+    /// Whether a match is found: where it was last, or by a search.
+    pub(crate) fn finds_of(&self, memory: Memory<'_>, component: usize, wanted: &Match<'_>) -> bool
         ensures { IsTrue result → In (match_of wanted.now) self.now }
     {
         if self.is_there(memory, component, wanted) {
@@ -330,29 +341,39 @@ impl<'a> Matches<'a> {
         }
     }
 
-    // The match of the list that is the wanted one, if it is found.
-    fn found(
+    // The match of the list that is the wanted one, if it is at this index.
+    fn found_at(&self, at: usize, wanted: &Match<'_>) -> Option<Found<'a>>
+        ensures is { IfSome result (λ found. match_of found.own.now ≡ match_of wanted.now) }
+        ensures among { IfSome result (λ found. In (match_of wanted.now) self.now) }
+    {
+        let own = self.at(at, wanted)?;
+        Some(Found { own, at })
+    }
+
+    /// The match of the list that is the wanted one, if it is found.
+    pub(crate) fn found(
         &self,
         memory: Memory<'_>,
         component: usize,
         wanted: &Match<'_>,
-    ) -> Option<&'a Match<'a>>
-        ensures { IfSome result (λ made. match_of made.now ≡ match_of wanted.now) }
+    ) -> Option<Found<'a>>
+        ensures is { IfSome result (λ found. match_of found.own.now ≡ match_of wanted.now) }
+        ensures among { IfSome result (λ found. In (match_of wanted.now) self.now) }
     {
         if self.all.len() <= FEW {
             self.print_all(wanted);
             let at = index_in(self.all.as_slice(), wanted)?;
-            return self.at(at, wanted);
+            return self.found_at(at, wanted);
         }
-        if let Some(made) = self.at(memory.place(wanted.print(), component), wanted) {
-            return Some(made);
+        if let Some(found) = self.found_at(memory.place(wanted.print(), component), wanted) {
+            return Some(found);
         }
         let at = self.search_kept(memory, component, wanted)?;
-        self.at(at, wanted)
+        self.found_at(at, wanted)
     }
 
-    // Whether a match is known to be in the list. A long list is not searched.
-    fn may_hold(&self, memory: Memory<'_>, component: usize, wanted: &Match<'_>) -> bool
+    /// Whether a match is known to be in the list. A long list is not searched.
+    pub(crate) fn may_hold(&self, memory: Memory<'_>, component: usize, wanted: &Match<'_>) -> bool
         ensures { IsTrue result → In (match_of wanted.now) self.now }
     {
         if self.is_there(memory, component, wanted) {
@@ -361,8 +382,8 @@ impl<'a> Matches<'a> {
         self.all.len() <= FEW && self.finds(wanted)
     }
 
-    // The last match of the list, or any of a short one, if it is for this digest and this size.
-    fn latest(&self, stated: Stated<'_>) -> Option<&'a Match<'a>>
+    /// The last match of the list, or any of a short one, if it is for this digest and this size.
+    pub(crate) fn latest(&self, stated: Stated<'_>) -> Option<&'a Match<'a>>
         ensures { IfSome result (λ own. match_of own.now ≡ stated_by stated.entry) }
     {
         let all = self.all.as_slice();
@@ -375,8 +396,44 @@ impl<'a> Matches<'a> {
         None
     }
 
-    // Adds a match.
-    fn push(&mut self, own: &'a Match<'a>) -> Result<(), AllocError>
+    /// How many there are, where duplicates count.
+    pub(crate) fn len(&self) -> usize {
+        self.all.len()
+    }
+
+    /// The match at an index, if it is for this digest and this size.
+    pub(crate) fn own_at(&self, at: usize, stated: Stated<'_>) -> Option<&'a Match<'a>>
+        ensures is { IfSome result (λ own. match_of own.now ≡ stated_by stated.entry) }
+        ensures among { IfSome result (λ own. In (stated_by stated.entry) self.now) }
+    {
+        let all = self.all.as_slice();
+        if at >= all.len() {
+            return None;
+        }
+        let made = all[at];
+        if made.own.is_of(stated) {
+            return Some(made.own);
+        }
+        None
+    }
+
+    /// Whether a match is at this index.
+    pub(crate) fn is_own_at(&self, at: usize, own: &Match<'_>) -> bool
+        ensures { IsTrue result → In (match_of own.now) self.now }
+    {
+        is_at(self.all.as_slice(), at, own)
+    }
+
+    /// The index of a match, if it is known. A long list is not searched.
+    pub(crate) fn index_of(&self, memory: Memory<'_>, component: usize, own: &Match<'_>) -> usize {
+        if self.all.len() > FEW {
+            return own.place(memory, component);
+        }
+        index_in(self.all.as_slice(), own).unwrap_or(usize::MAX)
+    }
+
+    /// Adds a match.
+    pub(crate) fn push(&mut self, own: &'a Match<'a>) -> Result<(), AllocError>
         ensures { OnOk result (SameMembers self.new (match_of own.now ∷ self.old)) }
     {
         let room = room_after(self.all.len(), self.all.capacity());
@@ -429,8 +486,8 @@ impl<'a> Matches<'a> {
         Ok(())
     }
 
-    // Adds a match without a search for it.
-    fn put(
+    /// Adds a match without a search for it.
+    pub(crate) fn put(
         &mut self,
         memory: Memory<'a>,
         component: usize,
@@ -455,8 +512,8 @@ impl<'a> Matches<'a> {
         sum
     }
 
-    // The sum of all fingerprints, in which equal matches count once. 0 if memory runs out.
-    fn sum(&self) -> u64 {
+    /// The sum of all fingerprints, in which equal matches count once. 0 if memory runs out.
+    pub(crate) fn sum(&self) -> u64 {
         if self.all.len() <= FEW {
             return self.few_summed();
         }
@@ -471,7 +528,8 @@ impl<'a> Matches<'a> {
 
     // The match at an index, if it is the wanted one.
     fn at(&self, at: usize, wanted: &Match<'_>) -> Option<&'a Match<'a>>
-        ensures { IfSome result (λ made. match_of made.now ≡ match_of wanted.now) }
+        ensures is { IfSome result (λ made. match_of made.now ≡ match_of wanted.now) }
+        ensures among { IfSome result (λ made. In (match_of wanted.now) self.now) }
     {
         let all = self.all.as_slice();
         if at >= all.len() {
@@ -492,8 +550,12 @@ impl<'a> Matches<'a> {
         linked
     }
 
-    // A match in memory that states share: one of these, or a new one, which is added.
-    fn lent(&mut self, memory: Memory<'a>, own: Match<'a>) -> Result<&'a Match<'a>, AllocError>
+    /// A match in memory that states share: one of these, or a new one, which is added.
+    pub(crate) fn lent(
+        &mut self,
+        memory: Memory<'a>,
+        own: Match<'a>,
+    ) -> Result<&'a Match<'a>, AllocError>
         ensures { IfOk result (λ lent. match_of lent.now ≡ match_of own.entry) }
     {
         if let Some(made) = self.at(memory.place(own.print(), ALL), &own) {
@@ -514,8 +576,8 @@ impl<'a> Matches<'a> {
         Ok(lent)
     }
 
-    // Whether a match is in the list, by a look at all of them.
-    fn is_among(&self, wanted: &Match<'_>) -> bool
+    /// Whether a match is in the list, by a look at all of them.
+    pub(crate) fn is_among(&self, wanted: &Match<'_>) -> bool
         ensures { IsTrue result ↔ In (match_of wanted.now) self.now }
     {
         for lent in self.all.as_slice() {
@@ -526,8 +588,8 @@ impl<'a> Matches<'a> {
         false
     }
 
-    // Whether each is found among others.
-    fn is_within(&self, others: &Matches<'_>) -> bool
+    /// Whether each is found among others.
+    pub(crate) fn is_within(&self, others: &Matches<'_>) -> bool
         ensures { IsTrue result
             → (one : TheMatch) → In one self.now → In one others.now }
     {
@@ -537,260 +599,5 @@ impl<'a> Matches<'a> {
             }
         }
         true
-    }
-}
-
-// No match or one, which take no memory of their own, or several, which copies share until one is added.
-#[derive(Drop)]
-enum Holding<'a> {
-    Nothing,
-    One(&'a Match<'a>),
-    Several(Rc<Matches<'a>>),
-}
-
-/// The matches of a component, if there are any.
-#[derive(Drop)]
-pub(crate) struct Held<'a> {
-    held: Holding<'a>,
-}
-
-impl<'a> Model for Held<'a> {
-    ghost use Rattle.std.specs.Prelude.{List};
-    ghost use Rattle.path_checker.specs.Matches.{Match as TheMatch};
-    ghost use Rattle.path_checker.specs.Holding.{held_matches};
-
-    ghost Value = { List TheMatch };
-
-    ghost view = { λ a. held_matches a.held };
-}
-
-// Adds a match to a copy of a shared list.
-#[inline(never)]
-fn put_apart<'a>(
-    held: &mut Rc<Matches<'a>>,
-    memory: Memory<'a>,
-    component: usize,
-    own: &'a Match<'a>,
-) -> Result<(), AllocError>
-    ensures { OnOk result (SameMembers held.new.value (match_of own.now ∷ held.old.value)) }
-{
-    let mut all = held.copy()?;
-    all.put(memory, component, own)?;
-    *held = Rc::new(memory.alloc, all)?;
-    Ok(())
-}
-
-// Adds a match to a list, or to a copy of it if it is shared. A match that is known to be there is not added.
-fn add_shared<'a>(
-    held: &mut Rc<Matches<'a>>,
-    memory: Memory<'a>,
-    component: usize,
-    own: &'a Match<'a>,
-) -> Result<(), AllocError>
-    ensures { OnOk result (SameMembers held.new.value (match_of own.now ∷ held.old.value)) }
-{
-    if held.may_hold(memory, component, own) {
-        return Ok(());
-    }
-    match Rc::get_mut(held) {
-        Some(all) => all.put(memory, component, own),
-        None => put_apart(held, memory, component, own),
-    }
-}
-
-// A list of two matches.
-#[inline(never)]
-fn both<'a>(
-    alloc: Global,
-    one: &'a Match<'a>,
-    other: &'a Match<'a>,
-) -> Result<Rc<Matches<'a>>, AllocError>
-    ensures { IfOk result
-        (λ held. SameMembers held.value (match_of other.now ∷ match_of one.now ∷ [])) }
-{
-    let mut all = Matches::none(alloc);
-    all.push(one)?;
-    all.push(other)?;
-    let held = Rc::new(alloc, all)?;
-    Ok(held)
-}
-
-impl<'a> Held<'a> {
-    /// No matches.
-    pub(crate) fn none() -> Held<'a>
-        ensures { result ≡ [] }
-    {
-        Held {
-            held: Holding::Nothing,
-        }
-    }
-
-    fn of(own: &'a Match<'a>) -> Held<'a>
-        ensures { result ≡ match_of own.now ∷ [] }
-    {
-        Held {
-            held: Holding::One(own),
-        }
-    }
-
-    /// Whether there are none. May be `false` even so.
-    pub(crate) fn is_none(&self) -> bool
-        ensures { IsTrue result → self.now ≡ [] }
-    {
-        match &self.held {
-            Holding::Nothing => true,
-            _ => false,
-        }
-    }
-
-    /// A copy that shares the matches.
-    pub(crate) fn copy(&self) -> Result<Held<'a>, AllocError>
-        ensures { IfOk result (λ held. held ≡ self.now) }
-    {
-        match &self.held {
-            Holding::Nothing => Ok(Held::none()),
-            Holding::One(own) => Ok(Held::of(*own)),
-            Holding::Several(all) => {
-                let all = all.clone()?;
-                Ok(Held {
-                    held: Holding::Several(all),
-                })
-            }
-        }
-    }
-
-    /// The sum of all fingerprints, in which equal matches count once.
-    pub(crate) fn sum(&self) -> u64 {
-        match &self.held {
-            Holding::Nothing => 0,
-            Holding::One(own) => own.print(),
-            Holding::Several(all) => all.sum(),
-        }
-    }
-
-    /// How many there are, where duplicates count.
-    pub(crate) fn len(&self) -> usize {
-        match &self.held {
-            Holding::Nothing => 0,
-            Holding::One(_) => 1,
-            Holding::Several(all) => all.all.len(),
-        }
-    }
-
-    // Whether a search finds a match.
-    fn finds(&self, wanted: &Match<'_>) -> bool
-        ensures { IsTrue result → In (match_of wanted.now) self.now }
-    {
-        match &self.held {
-            Holding::Nothing => false,
-            Holding::One(own) => own.is(wanted),
-            Holding::Several(all) => all.finds(wanted),
-        }
-    }
-
-    /// Whether a match of a component is among them. Looks at all of them only if a search does not find it.
-    pub(crate) fn has(&self, memory: Memory<'_>, component: usize, wanted: &Match<'_>) -> bool
-        ensures { IsTrue result ↔ In (match_of wanted.now) self.now }
-    {
-        match &self.held {
-            Holding::Nothing => false,
-            Holding::One(own) => own.is(wanted),
-            Holding::Several(all) => {
-                all.finds_of(memory, component, wanted) || all.is_among(wanted)
-            }
-        }
-    }
-
-    /// The match of a component that is the wanted one, if it is found.
-    pub(crate) fn found(
-        &self,
-        memory: Memory<'_>,
-        component: usize,
-        wanted: &Match<'_>,
-    ) -> Option<&'a Match<'a>>
-        ensures { IfSome result (λ made. match_of made.now ≡ match_of wanted.now) }
-    {
-        match &self.held {
-            Holding::Several(all) => all.found(memory, component, wanted),
-            Holding::One(own) if own.is(wanted) => Some(*own),
-            _ => None,
-        }
-    }
-
-    /// The match for this digest and this size, if it is the last one or there are few.
-    pub(crate) fn latest(&self, stated: Stated<'_>) -> Option<&'a Match<'a>>
-        ensures { IfSome result (λ own. match_of own.now ≡ stated_by stated.entry) }
-    {
-        match &self.held {
-            Holding::Several(all) => all.latest(stated),
-            Holding::One(own) if own.is_of(stated) => Some(*own),
-            _ => None,
-        }
-    }
-
-    /// Whether each is found among others.
-    pub(crate) fn is_within(&self, others: &Held<'_>) -> bool
-        ensures { IsTrue result
-            → (one : TheMatch) → In one self.now → In one others.now }
-    {
-        match &self.held {
-            Holding::Nothing => true,
-            Holding::One(own) => others.finds(own),
-            Holding::Several(all) => match &others.held {
-                Holding::Several(others) => all.is_within(others),
-                _ => false,
-            },
-        }
-    }
-
-    /// A match in memory that states share: one of these, or a new one, which is added.
-    pub(crate) fn lent(
-        &mut self,
-        memory: Memory<'a>,
-        own: Match<'a>,
-    ) -> Result<&'a Match<'a>, AllocError>
-        ensures { IfOk result (λ lent. match_of lent.now ≡ match_of own.entry) }
-    {
-        match &mut self.held {
-            Holding::Several(all) => {
-                if let Some(all) = Rc::get_mut(all) {
-                    return all.lent(memory, own);
-                }
-            }
-            Holding::One(one) => {
-                if one.is(&own) {
-                    return Ok(*one);
-                }
-            }
-            Holding::Nothing => {}
-        }
-        let lent = memory.last.events.try_alloc(own)?;
-        self.add(memory, ALL, lent)?;
-        Ok(lent)
-    }
-
-    /// Adds a match of a component.
-    pub(crate) fn add(
-        &mut self,
-        memory: Memory<'a>,
-        component: usize,
-        own: &'a Match<'a>,
-    ) -> Result<(), AllocError>
-        ensures { OnOk result (SameMembers self.new (match_of own.now ∷ self.old)) }
-    {
-        match &mut self.held {
-            Holding::Nothing => {
-                *self = Held::of(own);
-                Ok(())
-            }
-            Holding::One(one) => {
-                let one = *one;
-                if !one.is(own) {
-                    self.held = Holding::Several(both(memory.alloc, one, own)?);
-                }
-                Ok(())
-            }
-            Holding::Several(all) => add_shared(all, memory, component, own),
-        }
     }
 }

@@ -2,9 +2,10 @@
 
 use crate::judge_plan::facts::Shared;
 use crate::judge_plan::fingerprint::mixed;
+use crate::judge_plan::held::Held;
 use crate::judge_plan::in_force::{InForce, Row};
 use crate::judge_plan::made::Made;
-use crate::judge_plan::matches::{Held, Match};
+use crate::judge_plan::matches::Match;
 use bumpalo::Bump;
 use std::alloc::{AllocError, Global};
 use std::cell::Cell;
@@ -84,12 +85,16 @@ pub(crate) struct Last<'a> {
     // The last two matches of each command at each component, one behind the other, and how often one was kept.
     told: Cell<&'a [Cell<&'a Match<'a>>]>,
     others: Cell<usize>,
+    // The index at which each of these was last found in a list of its component.
+    indices: Cell<&'a [Cell<u32>]>,
     // The index at which a match was last found in a list, with bits that identify the match, and how often one was
     // kept.
     places: Cell<&'a [Cell<u64>]>,
     sought: Cell<usize>,
     // How many states are kept at once.
     states: Cell<usize>,
+    // Whether states went on one after another, so that what one of them holds is to be freed before the next one.
+    in_turn: Cell<bool>,
     // How many bytes of parameters may still be compared for sharing.
     left: Cell<u64>,
     /// The parameters made last, and recent rows of them, each for one component.
@@ -99,6 +104,14 @@ pub(crate) struct Last<'a> {
     pub known: Cell<Option<Made<Shared>>>,
     // The last knowledge of each component, once there is any.
     each: Cell<Option<&'a LastKnown>>,
+}
+
+/// A match that a command told, the index at which it was found in a list, and whether another one was told since.
+#[derive(Clone, Copy)]
+pub(crate) struct LastTold<'a> {
+    pub own: &'a Match<'a>,
+    pub at: usize,
+    pub second: bool,
 }
 
 /// The last knowledge of each component, in any state.
@@ -160,9 +173,11 @@ impl<'a> Last<'a> {
             searched: Cell::new(0),
             told: Cell::new(&[]),
             others: Cell::new(0),
+            indices: Cell::new(&[]),
             places: Cell::new(&[]),
             sought: Cell::new(0),
             states: Cell::new(0),
+            in_turn: Cell::new(false),
             left: Cell::new(READ),
             params: Cell::new(None),
             rows: Cell::new(None),
@@ -213,6 +228,14 @@ fn pair_by(number: u64, count: usize) -> usize {
     number as usize & count.wrapping_sub(2)
 }
 
+// An index in four bytes. A larger one becomes one that is past any list.
+fn short_of(at: usize) -> u32 {
+    match u32::try_from(at) {
+        Ok(at) => at,
+        Err(_) => u32::MAX,
+    }
+}
+
 // How many places a cache has after it grows, which is at most `most`.
 fn more_places(count: usize, most: usize) -> usize {
     count.wrapping_mul(MORE).max(FIRST).min(most)
@@ -251,6 +274,18 @@ impl<'a> Memory<'a> {
     /// Notes that this many states are kept at once, whatever was noted before.
     pub(crate) fn keep(&self, states: usize) {
         self.last.states.set(states);
+    }
+
+    /// Notes that so many states go on one after another.
+    pub(crate) fn take_turns(&self, states: usize) {
+        if states > 1 {
+            self.last.in_turn.set(true);
+        }
+    }
+
+    /// Whether several states went on one after another, so that what one of them holds is freed before the next one.
+    pub(crate) fn takes_turns(&self) -> bool {
+        self.last.in_turn.get()
     }
 
     /// Whether so many states are kept at once that they are to share what they hold.
@@ -313,39 +348,64 @@ impl<'a> Memory<'a> {
 
     /// The match that was kept last, or second to last, for the command at a place and a component, in any state. The
     /// caller has to compare it.
-    pub(crate) fn told_at(
-        &self,
-        place: u64,
-        component: u32,
-        second: bool,
-    ) -> Option<&'a Match<'a>> {
-        let told = self.last.told.get();
+    pub(crate) fn told_at(&self, place: u64, component: u32, second: bool) -> Option<LastTold<'a>> {
+        let (told, indices) = (self.last.told.get(), self.last.indices.get());
         let index = step_by(place, component, told.len()) | second as usize;
-        match told.get(index) {
-            Some(at) => Some(at.get()),
-            None => None,
+        match (told.get(index), indices.get(index)) {
+            (Some(own), Some(at)) => Some(LastTold {
+                own: own.get(),
+                at: at.get() as usize,
+                second,
+            }),
+            _ => None,
         }
     }
 
-    /// Keeps a match for the command at a place and a component. The cache grows with the number of calls.
+    /// Keeps the index at which a match of the command at a place was found in a list of a component.
+    pub(crate) fn keep_index(&self, place: u64, component: u32, second: bool, at: usize) {
+        let indices = self.last.indices.get();
+        let index = step_by(place, component, indices.len()) | second as usize;
+        if let Some(kept) = indices.get(index) {
+            kept.set(short_of(at));
+        }
+    }
+
+    /// Keeps a match for the command at a place and a component, and the index at which it was found. The cache grows
+    /// with the number of calls.
     pub(crate) fn keep_told(
         &self,
         place: u64,
         component: u32,
         own: &'a Match<'a>,
+        at: usize,
     ) -> Result<(), AllocError> {
         let (others, kept) = (self.last.others.get(), self.last.told.get().len() / 2);
         self.last.others.set(others.wrapping_add(1));
         if others >= kept.max(UNKEPT) && kept < STEPS {
-            let more = self.all_of(own, more_places(kept, STEPS).saturating_mul(2))?;
-            self.last.told.set(more);
+            self.more_told(own, more_places(kept, STEPS).saturating_mul(2))?;
         }
-        let told = self.last.told.get();
+        let (told, indices) = (self.last.told.get(), self.last.indices.get());
         let first = step_by(place, component, told.len());
         if let (Some(last), Some(before)) = (told.get(first), told.get(first | 1)) {
             before.set(last.get());
             last.set(own);
         }
+        if let (Some(last), Some(before)) = (indices.get(first), indices.get(first | 1)) {
+            before.set(last.get());
+            last.set(short_of(at));
+        }
+        Ok(())
+    }
+
+    // Makes the cache of the matches of commands this large. It starts empty.
+    fn more_told(&self, own: &'a Match<'a>, count: usize) -> Result<(), AllocError> {
+        let told = self.all_of(own, count)?;
+        let indices = self
+            .last
+            .events
+            .try_alloc_slice_fill_clone(count, Cell::new(u32::MAX))?;
+        self.last.told.set(told);
+        self.last.indices.set(indices);
         Ok(())
     }
 

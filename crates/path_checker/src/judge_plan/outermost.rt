@@ -16,7 +16,7 @@ ghost use Rattle.path_checker.specs.Halting.{Halts};
 use crate::judge_plan::failures::Failures;
 use crate::judge_plan::halt::Halt;
 use crate::judge_plan::inner::{
-    Inside, Outer, enter_all, leave_one, none_inside, only_shared, outer_of, restart,
+    Inside, Outer, all_shared, enter_all, leave_one, none_inside, only_shared, outer_of, restart,
 };
 use crate::judge_plan::kept::Kept;
 use crate::judge_plan::memory::Memory;
@@ -81,8 +81,9 @@ fn outermost<'a>(
     if is_straight(&step.command) {
         return straight(memory, count, step, from);
     }
+    let shared = all_shared(memory, from)?;
     let mut ended = Failures::none(memory.alloc, false, false);
-    command(memory, count, step, from, &mut ended)
+    command(memory, count, step, shared, &mut ended)
 }
 
 // The commands of a sequence, or none if it is absent.
@@ -134,6 +135,7 @@ fn follow<'a>(
     ensures ok { OnOk result (Covers (RunsRest rest.now count) from.entry.items) }
     ensures err { IfErr result (λ h. Halts (RunsRest rest.now count) from.entry.items h) }
 {
+    memory.take_turns(from.len());
     let mut now = from;
     while let Some(k) = now.pop() {
         follow_alone(memory, count, rest, k)?;
@@ -218,6 +220,7 @@ fn each_alone<'a>(
     ensures err { IfErr result
         (λ h. Halts (RunsThen (sequence_tree steps.now) rest.now count) from.entry.items h) }
 {
+    memory.take_turns(from.len());
     let mut now = from;
     while let Some(k) = now.pop() {
         alone(memory, count, steps, rest, k)?;
@@ -241,7 +244,7 @@ fn alone<'a>(
     ensures err { IfErr result
         (λ h. Halts (RunsThen (sequence_tree steps.now) rest.now count) (from.entry ∷ []) h) }
 {
-    let mut k = from.set_apart();
+    let mut k = from.set_apart(memory);
     let done = straight_steps(memory, count, steps, &mut k)?;
     let Some(at) = done else {
         return Ok(());
@@ -272,6 +275,7 @@ fn each_tried<'a>(
         (λ h. Halts (TriesThen (tried_branches tried.entry) tried.entry.place behind.now count)
         from.entry.items h) }
 {
+    memory.take_turns(from.len());
     let mut now = from;
     while let Some(k) = now.pop() {
         let selection = k.selection.copy();

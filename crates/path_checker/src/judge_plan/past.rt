@@ -140,7 +140,8 @@ impl<'a> Past<'a> {
     pub(crate) fn copy(&self, memory: Memory<'a>) -> Result<Past<'a>, AllocError>
         ensures { IfOk result (λ past. past ≡ self.now) }
     {
-        let shared = self.lent(memory)?;
+        let mut shared = self.lent(memory)?;
+        shared.end();
         Ok(Past {
             shared,
             since: Since::Shared,

@@ -6,10 +6,12 @@ ghost use Rattle.path_checker.specs.Matches.{match_of, stated_by, SameMembers};
 ghost use Rattle.path_checker.specs.Standing.{held_of, Gains, Loses, SameHeld};
 
 use crate::judge_plan::fingerprint::mixed;
-use crate::judge_plan::matches::{Held, Match};
+use crate::judge_plan::held::Held;
+use crate::judge_plan::matches::Match;
 use crate::judge_plan::memory::Memory;
 use crate::judge_plan::stated::Stated;
 use std::alloc::{AllocError, Global};
+use std::cell::Cell;
 
 // How many components there can be.
 const ROOM: usize = 8;
@@ -20,6 +22,8 @@ pub(crate) struct StandingMatches<'a> {
     of: Vec<Held<'a>>,
     // How many were added, whether or not they still stand.
     added: u32,
+    // The index of the match of each component that `last` tries.
+    last: Cell<[u16; ROOM]>,
 }
 
 impl<'a> StandingMatches<'a> {
@@ -30,6 +34,7 @@ impl<'a> StandingMatches<'a> {
         StandingMatches {
             of: Vec::new(alloc),
             added: 0,
+            last: Cell::new([0; ROOM]),
         }
     }
 
@@ -44,6 +49,7 @@ impl<'a> StandingMatches<'a> {
         Ok(StandingMatches {
             of,
             added: self.added,
+            last: Cell::new(self.last.get()),
         })
     }
 
@@ -57,17 +63,22 @@ impl<'a> StandingMatches<'a> {
         }
     }
 
-    /// The match that stands and is the wanted one, if the search finds it.
+    /// The match that stands and is the wanted one, if the search finds it. `last` tries it next.
     pub(crate) fn found(
         &self,
         memory: Memory<'_>,
         component: u32,
         wanted: &Match<'_>,
     ) -> Option<&'a Match<'a>>
-        ensures { IfSome result (λ made. match_of made.now ≡ match_of wanted.now) }
+        ensures is { IfSome result (λ made. match_of made.now ≡ match_of wanted.now) }
+        ensures stands { IfSome result
+            (λ made. In (match_of wanted.now) (held_of self.now component)) }
     {
-        let held = self.of.get(component as usize)?;
-        held.found(memory, component as usize, wanted)
+        let index = component as usize;
+        let held = self.of.get(index)?;
+        let found = held.found(memory, index, wanted)?;
+        self.put_last(index, found.at);
+        Some(found.own)
     }
 
     /// The match that stands and is for this digest and this size, if it is among the latest.
@@ -76,6 +87,52 @@ impl<'a> StandingMatches<'a> {
     {
         let held = self.of.get(component as usize)?;
         held.latest(stated)
+    }
+
+    /// The match of a component that `found` found or `note` noted last, if it is for this digest and this size.
+    pub(crate) fn last(&self, component: u32, stated: Stated<'_>) -> Option<&'a Match<'a>>
+        ensures is { IfSome result (λ own. match_of own.now ≡ stated_by stated.entry) }
+        ensures stands { IfSome result
+            (λ own. In (stated_by stated.entry) (held_of self.now component)) }
+    {
+        let index = component as usize;
+        let held = self.of.get(index)?;
+        let last = self.last.get();
+        held.own_at(usize::from(last[index % ROOM]), stated)
+    }
+
+    // Puts down the index that `last` tries for a component, unless it is too large.
+    fn put_last(&self, component: usize, at: usize) {
+        if let Ok(at) = u16::try_from(at) {
+            let mut last = self.last.get();
+            last[component % ROOM] = at;
+            self.last.set(last);
+        }
+    }
+
+    /// Notes a match of a component that is used now and likely again in this state.
+    pub(crate) fn note(&self, memory: Memory<'_>, component: u32, own: &Match<'_>) {
+        self.put_last(component as usize, self.index_of(memory, component, own));
+    }
+
+    /// Whether a match of a component stands at this index of its list.
+    pub(crate) fn is_at(&self, component: u32, at: usize, own: &Match<'_>) -> bool
+        ensures { IsTrue result → In (match_of own.now) (held_of self.now component) }
+    {
+        let index = component as usize;
+        match self.of.get(index) {
+            Some(held) => held.is_at(at, own),
+            None => false,
+        }
+    }
+
+    /// The index of a match in the list of a component, if it is known.
+    pub(crate) fn index_of(&self, memory: Memory<'_>, component: u32, own: &Match<'_>) -> usize {
+        let index = component as usize;
+        match self.of.get(index) {
+            Some(held) => held.index_of(memory, index, own),
+            None => usize::MAX,
+        }
     }
 
     // Adds a component without matches.

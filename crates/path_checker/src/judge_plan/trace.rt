@@ -525,7 +525,7 @@ impl<'a> SharedEvents<'a> {
     pub(crate) fn begin(&mut self)
         ensures { self.new ≡ self.old }
     {
-        self.waiting.parts = 1;
+        self.waiting.parts = self.waiting.parts.max(1);
     }
 
     /// Ends what `begin` announced: copies may be made again.

@@ -1,4 +1,4 @@
-use Rattle.std.proofs.Common.{ap, refl, sym, ◌∙◌, subst, [], ◌∷◌, Some, rules}
+use Rattle.std.proofs.Common.{ap, refl, sym, ◌∙◌, subst, [], ◌∷◌, Some}
 use Rattle.std.specs.Prelude.{IsTrue}
 use Rattle.path_model.specs.Safe.{HasMatched}
 use Rattle.path_checker.specs.Matches.{Match, covered_event}
@@ -11,17 +11,17 @@ use Rattle.path_checker.proofs.judge_plan.directives.invoke.Goals as goal
 pub returns-in_ok-copy-in-None-clause-err : goal.returns-in_ok-copy-in-None-clause-err
 returns-in_ok-copy-in-None-clause-err c = Uncovers-invoke c.args.place c.args.component c.args.k.now c.in_ok-copy-in-None.field-0 c.k.inside.params _ _ (ap (λ k. k.state.parameters) c.k.view_is) c.in-None.ensures c.size-size.ensures (λ h. h) (c.in_ok-copy-in-None.ensures ∙ c.in_ok-happens-in-None.ensures)
 
-pub returns-then-has_matched-clause-ok : goal.returns-then-has_matched-clause-ok
-returns-then-has_matched-clause-ok c =
-    Explores-added (acts_course acts.Invoke c.args.place c.args.component) (c.args.k.now ∷ []) (c.happens-then-has_matched.new.k ∷ [])
-    (Adds-invoke c.args.place c.args.component c.args.k.now c.happens-then-has_matched.new.k c.k.inside.params c.in-Some.stated.digest.now c.in-Some.stated.size [] (c.happens-then-has_matched.new.k ∷ []) (ap (λ k. k.state.parameters) c.k.view_is) c.in-Some.ensures.0 c.in-Some.ensures.1
+pub returns-then-asked-clause-ok : goal.returns-then-asked-clause-ok
+returns-then-asked-clause-ok c =
+    Explores-added (acts_course acts.Invoke c.args.place c.args.component) (c.args.k.now ∷ []) (c.happens-then-asked.new.k ∷ [])
+    (Adds-invoke c.args.place c.args.component c.args.k.now c.happens-then-asked.new.k c.k.inside.params c.in-Some.stated.digest.now c.in-Some.stated.size [] (c.happens-then-asked.new.k ∷ []) (ap (λ k. k.state.parameters) c.k.view_is) c.in-Some.ensures.0 c.in-Some.ensures.1
     (subst (λ es. HasMatched es c.args.component c.in-Some.stated.digest.now c.in-Some.stated.size) (ap (λ k. k.events) c.k.view_is)
-    (subst (λ (m : Match). HasMatched c.k.inside.history c.args.component m.0 m.1) c.in_ok-own-in-Some.ensures (c.if-has_matched.ensures.0 (search rules))))
-    (c.in_ok-happens-in-Some.ensures ∙ ap (λ (m : Match). with_events c.args.k.now (covered_event c.args.component m ∷ [])) c.in_ok-own-in-Some.ensures) refl)
+    (c.in_ok-asked-in-Some.ensures.stands.0 c.if-asked.true))
+    (c.in_ok-happens-in-Some.ensures ∙ ap (λ (m : Match). with_events c.args.k.now (covered_event c.args.component m ∷ [])) c.in_ok-asked-in-Some.ensures.own) refl)
 
 pub returns-in_ok-copy-in-Some-clause-err : goal.returns-in_ok-copy-in-Some-clause-err
 returns-in_ok-copy-in-Some-clause-err c =
     Uncovers-invoke c.args.place c.args.component c.args.k.now c.in_ok-copy-in-Some.field-0 c.k.inside.params (Some c.in-Some.stated.digest.now) c.in-Some.stated.size (ap (λ k. k.state.parameters) c.k.view_is) c.in-Some.ensures.0 c.in-Some.ensures.1
-    (λ h. never_true (subst IsTrue c.if-has_matched.false (c.has_matched.ensures.1 (subst (λ (m : Match). HasMatched c.k.inside.history c.args.component m.0 m.1) (sym c.in_ok-own-in-Some.ensures)
-    (subst (λ es. HasMatched es c.args.component c.in-Some.stated.digest.now c.in-Some.stated.size) (sym (ap (λ k. k.events) c.k.view_is)) h)))))
+    (λ h. never_true (subst IsTrue c.if-asked.false (c.in_ok-asked-in-Some.ensures.stands.1
+    (subst (λ es. HasMatched es c.args.component c.in-Some.stated.digest.now c.in-Some.stated.size) (sym (ap (λ k. k.events) c.k.view_is)) h))))
     (c.in_ok-copy-in-Some.ensures ∙ c.in_ok-happens-in-Some-2.ensures)

@@ -1,6 +1,6 @@
 use Rattle.std.proofs.Common.{◌∷◌, List, sym, ◌∙◌, subst}
 use Rattle.path_checker.specs.Matches.{Match, match_of, SameMembers}
-use Rattle.path_checker.proofs.judge_plan.matches.put_apart.Goals as goal
+use Rattle.path_checker.proofs.judge_plan.held.put_apart.Goals as goal
 
 pub returns : goal.returns
 returns c =

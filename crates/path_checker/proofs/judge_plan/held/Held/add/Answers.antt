@@ -2,8 +2,8 @@ use Rattle.std.proofs.Common.{◌∷◌, List, sym, ap, ◌∙◌, subst}
 use Rattle.std.specs.Prelude.{OnOk}
 use Rattle.path_checker.specs.Holding.{held_matches}
 use Rattle.path_checker.specs.Matches.{Match, match_of, SameMembers}
-use Rattle.path_checker.proofs.judge_plan.matches.Held.add.Goals as goal
-use Rattle.path_checker.proofs.judge_plan.matches.Held.add.Goals.{in-Several-2, in-Nothing-2}
+use Rattle.path_checker.proofs.judge_plan.held.Held.add.Goals as goal
+use Rattle.path_checker.proofs.judge_plan.held.Held.add.Goals.{in-Several-2, in-Nothing-2}
 
 pub returns-in_ok-both-in-One : goal.returns-in_ok-both-in-One
 returns-in_ok-both-in-One c =

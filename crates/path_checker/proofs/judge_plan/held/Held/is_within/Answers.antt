@@ -2,7 +2,7 @@ use Rattle.std.proofs.Common.{List, sym, ap, ◌∙◌, subst}
 use Rattle.path_checker.specs.Exploring.{In}
 use Rattle.path_checker.specs.Holding.{held_matches}
 use Rattle.path_checker.specs.Matches.{Match}
-use Rattle.path_checker.proofs.judge_plan.matches.Held.is_within.Goals as goal
+use Rattle.path_checker.proofs.judge_plan.held.Held.is_within.Goals as goal
 
 pub returns-in-Several-held : goal.returns-in-Several-held
 returns-in-Several-held c t one h =

@@ -1,7 +1,7 @@
 use Rattle.std.proofs.Common.{[], ◌∷◌, List, sym, subst}
 use Rattle.path_checker.specs.Matches.{Match, match_of, SameMembers}
 use Rattle.path_checker.proofs.MatchLaws.{same_over}
-use Rattle.path_checker.proofs.judge_plan.matches.both.Goals as goal
+use Rattle.path_checker.proofs.judge_plan.held.both.Goals as goal
 
 pub returns : goal.returns
 returns c =
