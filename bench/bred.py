@@ -18,11 +18,13 @@ from inputs import byte_string, head, parts_of
 
 WIDEST, LONGEST, LONGEST_FILE = worst.WIDEST, 16_200, 1_040_000
 DEEPEST = 7
-PLACES = ("invoke", "behind", "twice", "severed", "shared", "told", "beside", "along")
+PLACES = ("invoke", "behind", "twice", "severed", "shared", "told", "beside", "along", "aside")
 # How many overrides the long member has: each is of eight keys, which takes much room when it is read, but only one step.
 LONG_COUNT = 56_000
 # How many sizes the dear member matches, each in 32 states: as many as the width allows.
 PAIR_COUNT = 65_500
+# How many sizes the lost member invokes in another order, at three components after another, and how many times.
+LOST_COUNT, LOST_TIMES = 40_000, 49
 TESTS, ACTS = (3, 1, 2, 24, 5, 6), (18, 23, 31, 21, 22)
 NUMBERS, IDENTITIES, BYTES = (5, 14, 22), (1, 2, 24), (18, 23, 21)
 LENGTHS = (1, 2, 31, 64, 65, 300, 1_000, 1_100, 1_900, 4_000, 4_096, 4_097, 13_000)
@@ -221,6 +223,17 @@ def dear_member():
     return byte_string(worst.spelled(commands_of((forks, again(PAIR_COUNT, size(EACH), MATCH), *ENDING))))
 
 
+@functools.lru_cache
+def lost_member():
+    first, second = (random.Random(seed).sample(range(70_000, 70_000 + LOST_COUNT), LOST_COUNT) for seed in (1, 2))
+    matched, invoked = ([node for number in order for node in (size(number), act)] for order, act in ((first, MATCH), (second, INVOKE)))
+    three = pick(*((0, 1, 2) * LOST_TIMES)[:LOST_TIMES])
+    return byte_string(worst.spelled(commands_of((pick(0, 1, 2), sets((3, IMAGE)), *matched, three, run(*invoked), *ENDING))))
+
+
+OTHERS = {"beside": long_member, "along": dear_member, "aside": lost_member}
+
+
 class Plan:
     """Commands, the member that they are in, and the number of components."""
 
@@ -257,9 +270,9 @@ class Plan:
         if self.place == "severed":
             pairs.append(b"\x14\x82\x2f" + byte_string(hashlib.sha256(spelled[0]).digest()))
             beside = b"\x14" + spelled[0]
-        elif self.place in ("beside", "along"):
+        elif self.place in OTHERS:
             # A member that only the other procedure runs: a long one, or one that takes long to judge.
-            other = long_member() if self.place == "beside" else dear_member()
+            other = OTHERS[self.place]()
             pairs += [b"\x09" + spelled[0], b"\x14\x82\x2f" + byte_string(hashlib.sha256(other).digest())]
             beside = b"\x14" + other
         elif self.place == "both":

@@ -3,6 +3,7 @@ is of another kind. If a plan ends with a repetition, that is not yet filled."""
 
 from against import against
 from against_alone import against_alone
+from against_last import against_last
 from against_lists import against_lists
 from against_pairs import against_pairs
 from against_tables import against_tables
@@ -206,7 +207,7 @@ def known():
     """All plans, by name."""
     all = {}
     for kind in (outside, in_states, compared, in_loops, long_ones, against, against_alone, against_lists, against_tables, against_words,
-                 against_pairs):
+                 against_pairs, against_last):
         for name, nodes, place, count in kind():
             nodes = nodes if isinstance(nodes[0], tuple) else (nodes,)
             all[name] = Plan(nodes, place, count)
