@@ -2,14 +2,14 @@
 
 ghost use Rattle.std.specs.Prelude.{◌≡◌, IfOk};
 
-use crate::Digest;
+use crate::{Digest, HashedDigest};
 use std::alloc::{AllocError, Global};
 use std::marker::Model;
 
 /// A digest in a box, so that a parameter is small.
 #[derive(Debug, Drop)]
 pub struct BoxedDigest {
-    held: Box<Digest>,
+    held: Box<HashedDigest>,
 }
 
 impl Model for BoxedDigest {
@@ -25,12 +25,19 @@ impl BoxedDigest {
     pub fn new(alloc: Global, digest: Digest) -> Result<BoxedDigest, AllocError>
         ensures { IfOk result (λ boxed. boxed ≡ digest) }
     {
-        let held = Box::new(alloc, digest)?;
+        let held = Box::new(alloc, HashedDigest::new(digest))?;
         Ok(BoxedDigest { held })
     }
 
     /// Borrows the digest.
     pub fn get(&self) -> &Digest
+        ensures { result.now ≡ self.now }
+    {
+        self.held.get()
+    }
+
+    /// Borrows the digest and its hash.
+    pub fn hashed(&self) -> &HashedDigest
         ensures { result.now ≡ self.now }
     {
         &self.held
