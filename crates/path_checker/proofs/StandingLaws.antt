@@ -153,6 +153,7 @@ told_other standing (tells.Several several) no_match no_write event one = λ eve
 told_other standing (tells.Sets c list) no_match no_write event one = λ events stand. subst (λ (es : List Event). Stands standing (events ++ es)) one (stands_sets standing events (c ∷ []) list.now stand)
 told_other standing (tells.SetsFirst n list) no_match no_write event one = λ events stand. subst (λ (es : List Event). Stands standing (events ++ es)) one (stands_sets standing events (range_with_len 0 n) list.now stand)
 told_other standing (tells.SetsBoth c d list) no_match no_write event one = λ events stand. subst (λ (es : List Event). Stands standing (events ++ es)) one (stands_sets standing events (c ∷ d ∷ []) list.now stand)
+told_other standing (tells.SetsThree c d e list) no_match no_write event one = λ events stand. subst (λ (es : List Event). Stands standing (events ++ es)) one (stands_sets standing events (c ∷ d ∷ e ∷ []) list.now stand)
 told_other standing (tells.SetsAt sets) no_match no_write event one = λ events stand. subst (λ (es : List Event). Stands standing (events ++ es)) one (stands_sets standing events sets.now.components.now sets.now.list.now stand)
 
 -- ---- where the same matches are held

@@ -66,6 +66,7 @@ told_by (told.Invoked invoke) = invoke_event invoke.now ∷ []
 told_by (told.Sets component list) = sets_at (component ∷ []) list.now
 told_by (told.SetsFirst count list) = sets_at (range_with_len 0 count) list.now
 told_by (told.SetsBoth first second list) = sets_at (first ∷ second ∷ []) list.now
+told_by (told.SetsThree first second third list) = sets_at (first ∷ second ∷ third ∷ []) list.now
 told_by (told.SetsAt sets) = sets_of sets.now
 told_by (told.Several several) = several_sets several.now
 

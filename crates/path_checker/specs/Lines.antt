@@ -22,6 +22,8 @@ words_told (words.Swapped component source ∷ rest) owns lists others = words_t
 words_told (words.Matched component ∷ rest) (lent ∷ owns) lists others = words_told rest owns lists others ++ match_event component (match_of lent.own.now) ∷ []
 words_told (words.Covered component ∷ rest) (lent ∷ owns) lists others = words_told rest owns lists others ++ covered_event component (match_of lent.own.now) ∷ []
 words_told (words.Sets component ∷ rest) owns (lent ∷ lists) others = words_told rest owns lists others ++ sets_at (component ∷ []) lent.list.now
+words_told (words.SetsBoth first second ∷ rest) owns (lent ∷ lists) others = words_told rest owns lists others ++ sets_at (first ∷ second ∷ []) lent.list.now
+words_told (words.SetsThree first second third ∷ rest) owns (lent ∷ lists) others = words_told rest owns lists others ++ sets_at (first ∷ second ∷ third ∷ []) lent.list.now
 words_told (words.Other ∷ rest) owns lists (told ∷ others) = words_told rest owns lists others ++ told_by told
 words_told _ owns lists others = []
 

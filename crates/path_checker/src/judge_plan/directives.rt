@@ -128,7 +128,7 @@ fn invoke<'a>(
             }
             let bad = Happened::Uncovered {
                 component,
-                digest: Some(stated.digest),
+                digest: Some(stated.digest.get()),
                 size: stated.size,
             };
             happens(memory, k, bad)?;

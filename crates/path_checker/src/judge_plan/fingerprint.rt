@@ -1,5 +1,6 @@
 //! Fingerprints: equal states have equal ones, and different states mostly have different ones.
 
+use std::hash::Hasher;
 use suit_params::Param;
 
 /// Mixes a number into a fingerprint.
@@ -28,7 +29,7 @@ pub(crate) fn of_param(param: Option<&Param>) -> u64 {
         Some(Param::Vendor(id)) => of_bytes(&id[..]),
         Some(Param::Class(id)) => of_bytes(&id[..]),
         Some(Param::Device(id)) => of_bytes(&id[..]),
-        Some(Param::Digest(digest)) => of_bytes(digest.get().bytes()),
+        Some(Param::Digest(digest)) => digest.hashed().hasher().finish(),
         Some(Param::Slot(number)) => mixed(3, *number),
         Some(Param::Size(size)) => mixed(4, *size),
         Some(Param::Source(component)) => mixed(5, *component as u64),

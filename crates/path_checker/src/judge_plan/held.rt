@@ -45,7 +45,7 @@ fn put_apart<'a>(
 ) -> Result<(), AllocError>
     ensures { OnOk result (SameMembers held.new.value (match_of own.now ∷ held.old.value)) }
 {
-    let mut all = held.copy()?;
+    let mut all = held.copy(memory)?;
     all.put(memory, component, own)?;
     *held = Rc::new(memory.alloc, all)?;
     Ok(())

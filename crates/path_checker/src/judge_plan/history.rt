@@ -12,7 +12,7 @@ ghost use Rattle.path_checker.specs.Selecting.{components_of};
 ghost use Rattle.path_checker.specs.Standing.{StandsAfter};
 
 use crate::judge_plan::happened::{Ended, Happened};
-use crate::judge_plan::matches::Match;
+use crate::judge_plan::matches::{Found, Match};
 use crate::judge_plan::memory::{LastTold, Memory};
 use crate::judge_plan::past::Past;
 use crate::judge_plan::selected::Components;
@@ -265,10 +265,10 @@ impl<'a> History<'a> {
     }
 
     // The match for this digest and this size, if a search finds it. It stands.
-    fn found(&self, memory: Memory<'a>, component: u32, stated: Stated<'a>) -> Option<&'a Match<'a>>
-        ensures is { IfSome result (λ own. match_of own.now ≡ stated_by stated.entry) }
+    fn found(&self, memory: Memory<'a>, component: u32, stated: Stated<'a>) -> Option<Found<'a>>
+        ensures is { IfSome result (λ found. match_of found.own.now ≡ stated_by stated.entry) }
         ensures stands { IfSome result
-            (λ own. HasMatched self.now component stated.entry.digest.now stated.entry.size) }
+            (λ found. HasMatched self.now component stated.entry.digest.now stated.entry.size) }
     {
         self.standing.found(memory, component, &Match::new(stated))
     }
@@ -334,10 +334,12 @@ impl<'a> History<'a> {
         if let Some(told) = Match::told_last(memory, place, component, stated) {
             return Ok(self.recalled(memory, place, component, told));
         }
-        if let Some(own) = self.found(memory, component, stated) {
-            let at = self.standing.index_of(memory, component, own);
-            memory.keep_told(place, component, own, at)?;
-            return Ok(Asked { own, stands: true });
+        if let Some(found) = self.found(memory, component, stated) {
+            memory.keep_told(place, component, found.own, found.at)?;
+            return Ok(Asked {
+                own: found.own,
+                stands: true,
+            });
         }
         let own = Match::unsearched(memory, stated)?;
         memory.keep_told(place, component, own, usize::MAX)?;

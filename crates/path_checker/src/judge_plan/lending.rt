@@ -55,10 +55,12 @@ impl<'a> Match<'a> {
     ) -> Option<LastTold<'a>>
         ensures { IfSome result (λ told. match_of told.own.now ≡ stated_by stated.entry) }
     {
+        let size = stated.size.unwrap_or(0);
         for second in &[false, true] {
-            let last = memory.told_at(place, component, *second)?;
-            if last.own.is_of(stated) {
-                return Some(last);
+            if let Some(last) = memory.told_at(place, component, *second, size) {
+                if last.own.is_of(stated) {
+                    return Some(last);
+                }
             }
         }
         None

@@ -45,10 +45,14 @@ pub(crate) enum Word {
     Covered {
         component: u8,
     },
-    /// The events of an override by the next list.
+    /// The events of an override by the next list, at one component.
     Sets {
         component: u8,
     },
+    /// The same at two components.
+    SetsBoth(u8, u8),
+    /// The same at three components.
+    SetsThree(u8, u8, u8),
     /// The next of all others.
     Other,
 }
@@ -128,6 +132,16 @@ impl<'b, 'a> LentLine<'b, 'a> {
                     component: u32::from(component),
                     list: lent.list,
                 }
+            }
+            Word::SetsBoth(first, second) => {
+                let (lent, lists) = self.lists.split_last()?;
+                rest.lists = lists;
+                Told::SetsBoth(first, second, lent.list)
+            }
+            Word::SetsThree(first, second, third) => {
+                let (lent, lists) = self.lists.split_last()?;
+                rest.lists = lists;
+                Told::SetsThree(first, second, third, lent.list)
             }
             Word::Other => {
                 let (told, others) = self.others.split_last()?;
@@ -257,6 +271,7 @@ impl<'a> Line<'a> {
     }
 
     // Adds a word that names nothing.
+    #[inline(always)]
     fn add_word(&mut self, word: Word) -> Result<(), AllocError>
         ensures ok { OnOk result (line_told self.new ≡ with_word self.old word) }
         ensures err { OnErr result (line_told self.new ≡ line_told self.old) }
@@ -266,6 +281,7 @@ impl<'a> Line<'a> {
     }
 
     // Adds a word and the match that it names.
+    #[inline(always)]
     fn add_match(&mut self, word: Word, lent: Lent<'a>) -> Result<(), AllocError>
         ensures ok { OnOk result (line_told self.new ≡ with_match self.old word lent.entry) }
         ensures err { OnErr result (line_told self.new ≡ line_told self.old) }
@@ -277,6 +293,7 @@ impl<'a> Line<'a> {
     }
 
     // Adds a word and the list that it names.
+    #[inline(always)]
     fn add_list(&mut self, word: Word, lent: LentList<'a>) -> Result<(), AllocError>
         ensures ok { OnOk result (line_told self.new ≡ with_list self.old word lent.entry) }
         ensures err { OnErr result (line_told self.new ≡ line_told self.old) }
@@ -288,6 +305,7 @@ impl<'a> Line<'a> {
     }
 
     // Adds events of another kind.
+    #[inline(never)]
     fn add_other(&mut self, told: Told<'a>) -> Result<(), AllocError>
         ensures ok { OnOk result (line_told self.new ≡ with_other self.old told.entry) }
         ensures err { OnErr result (line_told self.new ≡ line_told self.old) }
@@ -336,6 +354,12 @@ impl<'a> Line<'a> {
             Told::Sets { component, list } if component < 256 => {
                 let component = component as u8;
                 self.add_list(Word::Sets { component }, LentList { list })
+            }
+            Told::SetsBoth(first, second, list) => {
+                self.add_list(Word::SetsBoth(first, second), LentList { list })
+            }
+            Told::SetsThree(first, second, third, list) => {
+                self.add_list(Word::SetsThree(first, second, third), LentList { list })
             }
             _ => self.add_other(told),
         }

@@ -1,6 +1,6 @@
-//! An index of many matches: a hash table by some bits of their fingerprints, whose buckets are binary trees by the
-//! others. Matches are linked lazily, all at once when one is searched. A missing or wrong link only costs time, since
-//! each match that is found is compared.
+//! An index of many matches: a hash table by some bits of their fingerprints, whose buckets are trees by the others.
+//! Matches are linked lazily, all at once when one is searched. A missing or wrong link only costs time, since each match
+//! that is found is compared.
 
 ghost use Rattle.std.specs.Prelude.{◌≡◌, IsTrue, IfSome, None};
 ghost use Rattle.path_checker.specs.Exploring.{In};
@@ -12,14 +12,52 @@ use std::alloc::{AllocError, Global};
 // How deep a tree is searched.
 const DEEPEST: u32 = 576;
 
-// Above this depth of a tree the 31 bits of a mark choose the side, and from here on all 64 bits of the fingerprint:
-// many matches with the same mark can be found in minutes.
+// The first twelve bits of a mark choose the sides in a tree, and behind these all 64 bits of the fingerprint: many
+// matches with the same mark can be found in minutes.
 const DEEP: u32 = 12;
 
 // With this many matches to a bucket on average, the index is built anew with more buckets.
 const CROWD: usize = 4;
 
-// A link to a match: its index plus 1, or 0 for none, in the low 24 bits, and eight bits of its fingerprint above.
+// The form of an index. That of a list that is not long has more links for each match, so its trees are less deep, and
+// more bits in a link to tell matches apart.
+#[derive(Clone, Copy)]
+struct Form {
+    // How many bits of a fingerprint choose a side, and how many sides there are.
+    bits: u32,
+    sides: usize,
+    // The bits of a link that hold an index.
+    indices: u32,
+}
+
+// A list that is no longer than this has an index of the first form, up to four times this length.
+const SHORT: usize = 16_384;
+
+impl Form {
+    // The form for so many matches.
+    fn for_many(count: usize) -> Form {
+        if count > SHORT {
+            Form {
+                bits: 1,
+                sides: 2,
+                indices: 0x00ff_ffff,
+            }
+        } else {
+            Form {
+                bits: 2,
+                sides: 4,
+                indices: 0xffff,
+            }
+        }
+    }
+
+    // The depth from which on all bits of the fingerprint choose the side.
+    fn deep(self) -> u32 {
+        DEEP / self.bits.max(1)
+    }
+}
+
+// A link to a match: its index plus 1, or 0 for none, in the low bits, and the highest bits of its fingerprint above.
 #[derive(Clone, Copy)]
 struct Link {
     bits: u32,
@@ -30,9 +68,9 @@ fn middle_of(print: u64) -> usize {
     ((print >> 32) & 0x00ff_ffff) as usize
 }
 
-// Eight other bits of a fingerprint, which tell most matches apart.
-fn tag_of(print: u64) -> u32 {
-    (print >> 56) as u32
+// The half of a fingerprint whose highest bits are in links.
+fn high_of(print: u64) -> u32 {
+    (print >> 32) as u32
 }
 
 impl Link {
@@ -40,41 +78,25 @@ impl Link {
         Link { bits: 0 }
     }
 
-    // A link to an index below 2^24 - 1. Others are not linked.
-    fn to(index: usize, print: u64) -> Link {
+    // A link to an index, unless it is too large.
+    fn to(index: usize, print: u64, form: Form) -> Link {
         match u32::try_from(index) {
-            Ok(index) if index < 0x00ff_ffff => Link {
-                bits: tag_of(print) << 24 | (index + 1),
+            Ok(index) if index < form.indices => Link {
+                bits: high_of(print) & !form.indices | index + 1,
             },
             _ => Link::none(),
         }
     }
 
-    fn index(self) -> Option<usize> {
-        match (self.bits & 0x00ff_ffff).checked_sub(1) {
+    fn index(self, form: Form) -> Option<usize> {
+        match (self.bits & form.indices).checked_sub(1) {
             Some(index) => Some(index as usize),
             None => None,
         }
     }
 
-    fn may_be(self, print: u64) -> bool {
-        self.bits >> 24 == tag_of(print)
-    }
-}
-
-// The links to the two children of a match.
-#[derive(Clone, Copy)]
-struct Below {
-    zero: Link,
-    one: Link,
-}
-
-impl Below {
-    fn none() -> Below {
-        Below {
-            zero: Link::none(),
-            one: Link::none(),
-        }
+    fn may_be(self, print: u64, form: Form) -> bool {
+        (self.bits ^ high_of(print)) & !form.indices == 0
     }
 }
 
@@ -83,8 +105,8 @@ impl Below {
 enum Place {
     // At the root of a bucket.
     First,
-    // Below the match at an index, on the side that `one` says.
-    Below { at: usize, one: bool },
+    // Below the match at an index, on a side.
+    Below { at: usize, side: usize },
     // Nowhere: the search gave up.
     Lost,
 }
@@ -111,9 +133,13 @@ impl Ended {
 /// An index over the first matches of a list. The others are linked when one is searched.
 #[derive(Drop)]
 pub(crate) struct Links {
+    form: Form,
     // The roots of the buckets: none, or a power of two.
     first: Vec<Link>,
-    below: Vec<Below>,
+    // The links to the children of each match, one for each side.
+    below: Vec<Link>,
+    // How many matches are linked.
+    count: usize,
     // The sum of the fingerprints of all linked matches, in which equal matches count once.
     sum: u64,
 }
@@ -164,17 +190,22 @@ impl Links {
     /// An empty index without buckets. Does not allocate.
     pub(crate) fn none(alloc: Global) -> Links {
         Links {
+            form: Form::for_many(0),
             first: Vec::new(alloc),
             below: Vec::new(alloc),
+            count: 0,
             sum: 0,
         }
     }
 
     /// An empty index with room for `count` matches.
     pub(crate) fn for_many(alloc: Global, count: usize) -> Result<Links, AllocError> {
+        let form = Form::for_many(count);
         Ok(Links {
+            form,
             first: first_links(alloc, count / 2)?,
-            below: Vec::with_capacity(alloc, count)?,
+            below: Vec::with_capacity(alloc, count.saturating_mul(form.sides))?,
+            count: 0,
             sum: 0,
         })
     }
@@ -182,8 +213,10 @@ impl Links {
     /// A copy in memory of its own.
     pub(crate) fn copy(&self, alloc: Global) -> Result<Links, AllocError> {
         Ok(Links {
+            form: self.form,
             first: Vec::from_slice(alloc, &self.first)?,
             below: Vec::from_slice(alloc, &self.below)?,
+            count: self.count,
             sum: self.sum,
         })
     }
@@ -206,11 +239,15 @@ impl Links {
         }
     }
 
-    // The link to a child of the match at an index.
-    fn next(&self, at: usize, one: bool) -> Link {
-        match self.below.get(at) {
-            Some(below) if one => below.one,
-            Some(below) => below.zero,
+    // Where the links to the children of the match at an index begin.
+    fn below(&self, at: usize) -> usize {
+        at.wrapping_mul(self.form.sides)
+    }
+
+    // The link to a child of the match at an index. It does not branch by the side, which no processor could foresee.
+    fn next(&self, at: usize, side: usize) -> Link {
+        match self.below.get(self.below(at).wrapping_add(side)) {
+            Some(link) => *link,
             None => Link::none(),
         }
     }
@@ -219,26 +256,26 @@ impl Links {
     pub(crate) fn search(&self, all: &[Lent<'_>], wanted: &Match<'_>) -> Ended
         ensures { IfSome result.found (λ at. In (match_of wanted.now) (all_lent all.now)) }
     {
-        let print = wanted.print();
+        let (form, print) = (self.form, wanted.print());
         let mut bits = print;
         let mut link = self.first_link(print);
         let mut place = Place::First;
         for depth in 0..DEEPEST {
-            if depth == DEEP {
+            if depth == form.deep() {
                 bits = wanted.whole_print();
             }
-            let Some(at) = link.index() else {
+            let Some(at) = link.index(form) else {
                 return Ended { found: None, place };
             };
-            if link.may_be(print) && is_at(all, at, wanted) {
+            if link.may_be(print, form) && is_at(all, at, wanted) {
                 return Ended {
                     found: Some(at),
                     place,
                 };
             }
-            let one = wanted.goes_one(bits, depth);
-            place = Place::Below { at, one };
-            link = self.next(at, one);
+            let side = wanted.side(bits, depth, form.bits);
+            place = Place::Below { at, side };
+            link = self.next(at, side);
         }
         Ended::lost()
     }
@@ -252,13 +289,10 @@ impl Links {
                     *first = link;
                 }
             }
-            Place::Below { at, one } => {
-                if let Some(below) = self.below.get_mut(at) {
-                    if one {
-                        below.one = link;
-                    } else {
-                        below.zero = link;
-                    }
+            Place::Below { at, side } => {
+                let index = self.below(at).wrapping_add(side);
+                if let Some(below) = self.below.get_mut(index) {
+                    *below = link;
                 }
             }
             Place::Lost => {}
@@ -269,10 +303,13 @@ impl Links {
     /// is there twice, and only the first is linked.
     pub(crate) fn link(&mut self, own: &Match<'_>, ended: Ended) -> Result<(), AllocError> {
         let print = own.print();
-        let link = Link::to(self.below.len(), print);
+        let link = Link::to(self.count, print, self.form);
         let room = room_after(self.below.len(), self.below.capacity());
         self.below.reserve_exact(room)?;
-        self.below.push(Below::none())?;
+        for _ in 0..self.form.sides {
+            self.below.push(Link::none())?;
+        }
+        self.count = self.count.saturating_add(1);
         if ended.found.is_none() {
             self.sum = self.sum.wrapping_add(print);
             self.lead(print, ended.place, link);
@@ -291,7 +328,7 @@ impl Links {
     /// Links all matches of a list that are not linked yet.
     pub(crate) fn reach(&mut self, alloc: Global, all: &[Lent<'_>]) -> Result<(), AllocError> {
         self.widen(alloc, all.len())?;
-        let linked = self.below.len().min(all.len());
+        let linked = self.count.min(all.len());
         for lent in &all[linked..] {
             let ended = self.search(all, lent.own);
             self.link(lent.own, ended)?;

@@ -1,9 +1,9 @@
 //! What a match remembers: its fingerprint once that is computed, and before that where it was last put in a list. This
 //! only decides how fast a match is found.
 
-use crate::judge_plan::fingerprint::{mixed, of_bytes};
+use crate::judge_plan::fingerprint::mixed;
 use crate::judge_plan::stated::Stated;
-use std::hash::{DefaultHasher, Hasher};
+use std::hash::Hasher;
 use suit_params::Digest;
 
 // The index is above this many bits.
@@ -89,17 +89,16 @@ impl Mark {
 
 /// The fingerprint of a match, by SipHash: many matches whose 31 highest bits are the same are hard to find.
 pub(crate) fn print_of(stated: Stated<'_>) -> u64 {
-    let mut hasher = DefaultHasher::new();
-    hasher.write(stated.digest.bytes());
+    let mut hasher = stated.digest.hasher();
     if let Some(size) = stated.size {
         hasher.write_u64(size);
     }
     hasher.finish()
 }
 
-/// A quick hash of a match. Matches with the same one are easy to find.
+/// A quick hash of a match. Under one digest, matches with the same one are easy to find.
 pub(crate) fn number_of(stated: Stated<'_>) -> u64 {
-    mixed(of_bytes(stated.digest.bytes()), stated.size.unwrap_or(0))
+    mixed(stated.digest.hasher().finish(), stated.size.unwrap_or(0))
 }
 
 /// A bit of a digest. Past the last one they start over.

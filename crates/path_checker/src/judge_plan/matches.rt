@@ -12,12 +12,12 @@ use path_model::Event;
 use std::alloc::{AllocError, Global};
 use std::cell::Cell;
 use std::marker::Model;
-use suit_params::Digest;
+use suit_params::HashedDigest;
 
 /// A digest and a size that a component was matched under, in 24 bytes, since there may be many.
 #[derive(Drop)]
 pub(crate) struct Match<'a> {
-    digest: &'a Digest,
+    digest: &'a HashedDigest,
     // The size, if `has_size`.
     number: u64,
     mark: Cell<Mark>,
@@ -66,6 +66,11 @@ impl<'a> Match<'a> {
         }
     }
 
+    /// The size, or 0 if it has none.
+    pub(crate) fn number(&self) -> u64 {
+        self.number
+    }
+
     // The size, if it has one.
     fn size(&self) -> Option<u64>
         ensures { result ≡ (match_of self.now).1 }
@@ -93,7 +98,7 @@ impl<'a> Match<'a> {
     {
         Event::Matched {
             component,
-            digest: *self.digest,
+            digest: *self.digest.get(),
             size: self.size(),
         }
     }
@@ -104,7 +109,7 @@ impl<'a> Match<'a> {
     {
         Event::Invoked {
             component,
-            digest: Some(*self.digest),
+            digest: Some(*self.digest.get()),
             size: self.size(),
             passed: true,
         }
@@ -173,12 +178,14 @@ impl<'a> Match<'a> {
         }
     }
 
-    /// The side of a tree on which it is at a depth: by its fingerprint, and deeper by its digest.
-    pub(crate) fn goes_one(&self, print: u64, depth: u32) -> bool {
-        if depth < 63 {
-            return (print >> (depth + 1)) & 1 == 1;
+    /// The side of a tree on which it is at a depth, which so many bits choose: those of its fingerprint, and deeper down
+    /// one of its digest.
+    pub(crate) fn side(&self, print: u64, depth: u32, bits: u32) -> usize {
+        let from = depth.wrapping_mul(bits).wrapping_add(1);
+        if from < 60 && bits < 5 {
+            return (print >> from) as usize & ((1 << bits) - 1);
         }
-        bit_of(self.digest, depth).unwrap_or(false)
+        bit_of(self.digest.get(), depth).unwrap_or(false) as usize
     }
 }
 
@@ -245,19 +252,30 @@ impl<'a> Matches<'a> {
         })
     }
 
-    /// A copy in memory of its own, with room for one more.
-    pub(crate) fn copy(&self) -> Result<Matches<'a>, AllocError>
+    // A copy of the index, in memory of its own.
+    fn links_copied(&self) -> Result<Links, AllocError> {
+        let links = self.links.replace(Links::none(self.alloc));
+        let copied = links.copy(self.alloc);
+        self.links.set(links);
+        copied
+    }
+
+    /// A copy in memory of its own, with room for one more. If many matches were made it is indexed anew once it is
+    /// searched, since most copies are made for one more match.
+    pub(crate) fn copy(&self, memory: Memory<'_>) -> Result<Matches<'a>, AllocError>
         ensures { IfOk result (λ held. held ≡ self.now) }
     {
         let mut all = Vec::with_capacity(self.alloc, self.all.len().saturating_add(1))?;
         all.extend_from_slice(&self.all)?;
-        let links = self.links.replace(Links::none(self.alloc));
-        let copied = links.copy(self.alloc);
-        self.links.set(links);
+        let links = if memory.has_plenty() {
+            Links::none(self.alloc)
+        } else {
+            self.links_copied()?
+        };
         Ok(Matches {
             alloc: self.alloc,
             all,
-            links: Cell::new(copied?),
+            links: Cell::new(links),
             sum: Cell::new(self.sum.get()),
             summed: Cell::new(self.summed.get()),
             full: self.full,

@@ -85,8 +85,9 @@ pub(crate) struct Last<'a> {
     // The last two matches of each command at each component, one behind the other, and how often one was kept.
     told: Cell<&'a [Cell<&'a Match<'a>>]>,
     others: Cell<usize>,
-    // The index at which each of these was last found in a list of its component.
-    indices: Cell<&'a [Cell<u32>]>,
+    // For each of these the index at which it was last found in a list of its component, with bits that tell it from most
+    // others.
+    indices: Cell<&'a [Cell<u64>]>,
     // The index at which a match was last found in a list, with bits that identify the match, and how often one was
     // kept.
     places: Cell<&'a [Cell<u64>]>,
@@ -228,11 +229,21 @@ fn pair_by(number: u64, count: usize) -> usize {
     number as usize & count.wrapping_sub(2)
 }
 
-// An index in four bytes. A larger one becomes one that is past any list.
-fn short_of(at: usize) -> u32 {
-    match u32::try_from(at) {
-        Ok(at) => at,
-        Err(_) => u32::MAX,
+// An index in the low half of a word, and half of a size in the other one. A larger index becomes one that is past any list.
+fn word_of(at: usize, size: u64) -> u64 {
+    let low = match u32::try_from(at) {
+        Ok(at) => u64::from(at),
+        Err(_) => 0xffff_ffff,
+    };
+    size << 32 | low
+}
+
+// The index of a word, if its match may have this size.
+fn index_of(word: u64, size: u64) -> Option<usize> {
+    if (word ^ size << 32) >> 32 == 0 {
+        Some((word & 0xffff_ffff) as usize)
+    } else {
+        None
     }
 }
 
@@ -346,19 +357,20 @@ impl<'a> Memory<'a> {
         self.last.few_reused.get() && self.skips_search()
     }
 
-    /// The match that was kept last, or second to last, for the command at a place and a component, in any state. The
-    /// caller has to compare it.
-    pub(crate) fn told_at(&self, place: u64, component: u32, second: bool) -> Option<LastTold<'a>> {
+    /// The match that was kept last, or second to last, for the command at a place and a component, in any state, if it
+    /// may have this size. The caller has to compare it.
+    pub(crate) fn told_at(
+        &self,
+        place: u64,
+        component: u32,
+        second: bool,
+        size: u64,
+    ) -> Option<LastTold<'a>> {
         let (told, indices) = (self.last.told.get(), self.last.indices.get());
         let index = step_by(place, component, told.len()) | second as usize;
-        match (told.get(index), indices.get(index)) {
-            (Some(own), Some(at)) => Some(LastTold {
-                own: own.get(),
-                at: at.get() as usize,
-                second,
-            }),
-            _ => None,
-        }
+        let at = index_of(indices.get(index)?.get(), size)?;
+        let own = told.get(index)?.get();
+        Some(LastTold { own, at, second })
     }
 
     /// Keeps the index at which a match of the command at a place was found in a list of a component.
@@ -366,7 +378,7 @@ impl<'a> Memory<'a> {
         let indices = self.last.indices.get();
         let index = step_by(place, component, indices.len()) | second as usize;
         if let Some(kept) = indices.get(index) {
-            kept.set(short_of(at));
+            kept.set(word_of(at, kept.get() >> 32));
         }
     }
 
@@ -392,7 +404,7 @@ impl<'a> Memory<'a> {
         }
         if let (Some(last), Some(before)) = (indices.get(first), indices.get(first | 1)) {
             before.set(last.get());
-            last.set(short_of(at));
+            last.set(word_of(at, own.number()));
         }
         Ok(())
     }
@@ -403,7 +415,7 @@ impl<'a> Memory<'a> {
         let indices = self
             .last
             .events
-            .try_alloc_slice_fill_clone(count, Cell::new(u32::MAX))?;
+            .try_alloc_slice_fill_clone(count, Cell::new(u64::MAX))?;
         self.last.told.set(told);
         self.last.indices.set(indices);
         Ok(())

@@ -56,7 +56,21 @@ impl<'a> Past<'a> {
         ensures ok { OnOk result (self.new ≡ self.old ++ told_by told.entry) }
         ensures err { OnErr result (self.new ≡ self.old) }
     {
+        if let Since::Lines(lines) = &mut self.since {
+            if !lines.is_full() {
+                return lines.add(told);
+            }
+        }
         self.settle(memory)?;
+        self.add_settled(memory, told)
+    }
+
+    // Adds events where `settle` decided.
+    #[inline(never)]
+    fn add_settled(&mut self, memory: Memory<'a>, told: Told<'a>) -> Result<(), AllocError>
+        ensures ok { OnOk result (self.new ≡ self.old ++ told_by told.entry) }
+        ensures err { OnErr result (self.new ≡ self.old) }
+    {
         match &mut self.since {
             Since::Shared => self.shared.add(memory.last.events, told),
             Since::Apart => {
@@ -71,6 +85,7 @@ impl<'a> Past<'a> {
 
     // Decides where the next events go. After many in a row since `begin` they go into memory of its own, and are
     // shared from there, many at once.
+    #[inline(never)]
     fn settle(&mut self, memory: Memory<'a>) -> Result<(), AllocError>
         ensures { self.new ≡ self.old }
     {

@@ -45,18 +45,19 @@ pub(crate) fn tell_all_sets(
     Ok(())
 }
 
-/// Appends the events of an override at two components, with copies of its parameters.
-pub(crate) fn tell_both_sets(
+/// Appends the events of an override at components with small numbers, with copies of its parameters.
+pub(crate) fn tell_short_sets(
     alloc: Global,
-    first: u8,
-    second: u8,
+    components: &[u8],
     list: &ParamList,
     events: &mut Events,
 ) -> Result<(), AllocError>
-    ensures { OnOk result (events.new ≡ events.old ++ sets_at (first ∷ second ∷ []) list.now) }
+    ensures { OnOk result (events.new ≡ events.old ++ sets_at components.now list.now) }
 {
-    let both = [u32::from(first), u32::from(second)];
-    tell_all_sets(alloc, Components::Listed(&both), list, events)
+    for component in components {
+        tell_sets(alloc, u32::from(*component), list, events)?;
+    }
+    Ok(())
 }
 
 // Appends the events of an override at one component, with copies of its parameters.

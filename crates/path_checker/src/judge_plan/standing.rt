@@ -7,7 +7,7 @@ ghost use Rattle.path_checker.specs.Standing.{held_of, Gains, Loses, SameHeld};
 
 use crate::judge_plan::fingerprint::mixed;
 use crate::judge_plan::held::Held;
-use crate::judge_plan::matches::Match;
+use crate::judge_plan::matches::{Found, Match};
 use crate::judge_plan::memory::Memory;
 use crate::judge_plan::stated::Stated;
 use std::alloc::{AllocError, Global};
@@ -69,16 +69,16 @@ impl<'a> StandingMatches<'a> {
         memory: Memory<'_>,
         component: u32,
         wanted: &Match<'_>,
-    ) -> Option<&'a Match<'a>>
-        ensures is { IfSome result (λ made. match_of made.now ≡ match_of wanted.now) }
+    ) -> Option<Found<'a>>
+        ensures is { IfSome result (λ found. match_of found.own.now ≡ match_of wanted.now) }
         ensures stands { IfSome result
-            (λ made. In (match_of wanted.now) (held_of self.now component)) }
+            (λ found. In (match_of wanted.now) (held_of self.now component)) }
     {
         let index = component as usize;
         let held = self.of.get(index)?;
         let found = held.found(memory, index, wanted)?;
         self.put_last(index, found.at);
-        Some(found.own)
+        Some(found)
     }
 
     /// The match that stands and is for this digest and this size, if it is among the latest.

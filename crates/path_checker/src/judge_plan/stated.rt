@@ -6,12 +6,12 @@ ghost use Rattle.suit_params.specs.InForce.{number_of, digest_of};
 ghost use Rattle.path_checker.specs.Matches.{stated_by, IsStated};
 
 use crate::judge_plan::same_param::same_digest;
-use suit_params::{Digest, Param, number_of};
+use suit_params::{HashedDigest, Param, number_of};
 
 /// A digest, and a size if there is one.
 #[derive(Clone, Copy)]
 pub(crate) struct Stated<'a> {
-    pub digest: &'a Digest,
+    pub digest: &'a HashedDigest,
     pub size: Option<u64>,
 }
 
@@ -23,7 +23,7 @@ impl<'a> Stated<'a> {
     {
         match digest? {
             Param::Digest(digest) => Some(Stated {
-                digest: digest.get(),
+                digest: digest.hashed(),
                 size: number_of(size),
             }),
             _ => None,
@@ -34,6 +34,6 @@ impl<'a> Stated<'a> {
     pub(crate) fn is(&self, other: Stated<'_>) -> bool
         ensures { IsTrue result ↔ (stated_by self.now ≡ stated_by other.entry) }
     {
-        self.size == other.size && same_digest(self.digest, other.digest)
+        self.size == other.size && same_digest(self.digest.get(), other.digest.get())
     }
 }

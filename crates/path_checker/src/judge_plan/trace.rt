@@ -14,7 +14,7 @@ use crate::judge_plan::line::LentLine;
 use crate::judge_plan::matches::Match;
 use crate::judge_plan::memory::Memory;
 use crate::judge_plan::selected::Components;
-use crate::judge_plan::sets::{SetsAt, Several, tell_all_sets, tell_both_sets};
+use crate::judge_plan::sets::{SetsAt, Several, tell_all_sets, tell_short_sets};
 use bumpalo::Bump;
 use path_model::{Event, Events};
 use std::alloc::{AllocError, Global};
@@ -72,11 +72,9 @@ pub(crate) enum Told<'a> {
         list: &'a ParamList,
     },
     // The same at two components.
-    SetsBoth {
-        first: u8,
-        second: u8,
-        list: &'a ParamList,
-    },
+    SetsBoth(u8, u8, &'a ParamList),
+    // The same at three components.
+    SetsThree(u8, u8, u8, &'a ParamList),
     SetsAt(&'a SetsAt<'a>),
     Several(&'a Several<'a>),
 }
@@ -218,7 +216,7 @@ impl<'a> Told<'a> {
         }
     }
 
-    // The events of an override at listed components. Two with small numbers take no memory.
+    // The events of an override at listed components. Two or three with small numbers take no memory.
     fn listed_sets(
         memory: Memory<'a>,
         components: &'a [u32],
@@ -228,11 +226,13 @@ impl<'a> Told<'a> {
     {
         if let [first, second] = components {
             if *first < 256 && *second < 256 {
-                return Ok(Told::SetsBoth {
-                    first: *first as u8,
-                    second: *second as u8,
-                    list,
-                });
+                return Ok(Told::SetsBoth(*first as u8, *second as u8, list));
+            }
+        }
+        if let [first, second, third] = components {
+            if *first < 256 && *second < 256 && *third < 256 {
+                let (first, second, third) = (*first as u8, *second as u8, *third as u8);
+                return Ok(Told::SetsThree(first, second, third, list));
             }
         }
         let lent = SetsAt::lent(memory, components, list)?;
@@ -323,11 +323,12 @@ impl<'a> Told<'a> {
             Told::SetsFirst { count, list } => {
                 return tell_all_sets(alloc, Components::First(count), list, events);
             }
-            Told::SetsBoth {
-                first,
-                second,
-                list,
-            } => return tell_both_sets(alloc, first, second, list, events),
+            Told::SetsBoth(first, second, list) => {
+                return tell_short_sets(alloc, &[first, second], list, events);
+            }
+            Told::SetsThree(first, second, third, list) => {
+                return tell_short_sets(alloc, &[first, second, third], list, events);
+            }
             Told::SetsAt(sets) => return sets.tell(alloc, events),
             Told::Several(several) => return several.tell(alloc, events),
         };

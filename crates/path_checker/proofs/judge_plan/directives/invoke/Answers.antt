@@ -1,5 +1,7 @@
 use Rattle.std.proofs.Common.{ap, refl, sym, ◌∙◌, subst, [], ◌∷◌, Some}
-use Rattle.std.specs.Prelude.{IsTrue}
+use Rattle.std.specs.Prelude.{IsTrue, false}
+use Rattle.suit_params.specs.declared.digest.Digest.{Digest}
+use Rattle.path_model.specs.declared.event.Event.TheVariants.{Invoked}
 use Rattle.path_model.specs.Safe.{HasMatched}
 use Rattle.path_checker.specs.Matches.{Match, covered_event}
 use Rattle.path_checker.specs.Steps.{with_events}
@@ -24,4 +26,5 @@ returns-in_ok-copy-in-Some-clause-err c =
     Uncovers-invoke c.args.place c.args.component c.args.k.now c.in_ok-copy-in-Some.field-0 c.k.inside.params (Some c.in-Some.stated.digest.now) c.in-Some.stated.size (ap (λ k. k.state.parameters) c.k.view_is) c.in-Some.ensures.0 c.in-Some.ensures.1
     (λ h. never_true (subst IsTrue c.if-asked.false (c.in_ok-asked-in-Some.ensures.stands.1
     (subst (λ es. HasMatched es c.args.component c.in-Some.stated.digest.now c.in-Some.stated.size) (sym (ap (λ k. k.events) c.k.view_is)) h))))
-    (c.in_ok-copy-in-Some.ensures ∙ c.in_ok-happens-in-Some-2.ensures)
+    (c.in_ok-copy-in-Some.ensures ∙ c.in_ok-happens-in-Some-2.ensures
+    ∙ ap (λ (d : Digest). with_events c.args.k.now (Invoked c.args.component (Some d) c.in-Some.stated.size false ∷ [])) c.get.ensures)
