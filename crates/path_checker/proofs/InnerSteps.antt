@@ -31,9 +31,6 @@ entered-push : (s : State) (c : ℕ) (b : Bool) (ks : List Kept) (k : Kept) → 
 entered-push s c b [] k = refl
 entered-push s c b (x ∷ ks) k = ap (λ (ys : List Kept). entered s c b x ∷ ys) (entered-push s c b ks k)
 
-pub same_step : (n n' ys : List Kept) (k made : Kept) → n ≡ ys → n' ≡ n ++ made ∷ [] → made ≡ k → n' ≡ ys ++ k ∷ []
-same_step n n' ys k made so_far pushed is = pushed ∙ ap (λ (x : List Kept). x ++ made ∷ []) so_far ∙ ap (λ (x : Kept). ys ++ x ∷ []) is
-
 pub entered_step : (s : State) (c : ℕ) (b : Bool) (n n' ys : List Kept) (k made : Kept) → n ≡ all_entered s c b ys → n' ≡ n ++ made ∷ [] → made ≡ entered s c b k → n' ≡ all_entered s c b (ys ++ k ∷ [])
 entered_step s c b n n' ys k made so_far pushed is =
     pushed ∙ ap (λ (x : List Kept). x ++ made ∷ []) so_far ∙ ap (λ (x : Kept). all_entered s c b ys ++ x ∷ []) is ∙ sym (entered-push s c b ys k)

@@ -1,8 +1,7 @@
 pub mod Membership
-pub mod ChainLaws
+pub mod PastLaws
 pub mod MatchLaws
 pub mod HeldLaws
-pub mod LineLaws
 pub mod Exploring
 pub mod Quiet
 pub mod InnerStates
@@ -42,3 +41,4 @@ pub mod OverridesEach
 pub mod Overriding
 pub mod Unconditional
 pub mod Weights
+pub mod Spelling

@@ -13,15 +13,12 @@ use Rattle.path_model.proofs.Following.{same_matches, same_trans}
 use Rattle.path_model.proofs.CoverLaws.{match_stands, matched_after}
 use Rattle.std.specs.Borrow.{Bor}
 use Rattle.path_checker.specs.declared.judge_plan.matches.Match.{Match as LentMatch}
-use Rattle.path_checker.specs.declared.judge_plan.trace.Told.{Told}
-use Rattle.path_checker.specs.declared.judge_plan.trace.Told.TheVariants as tells
+use Rattle.path_checker.specs.declared.judge_plan.happened.Happened.{Happened}
+use Rattle.path_checker.specs.declared.judge_plan.happened.Happened.TheVariants as lent
 use Rattle.path_checker.specs.declared.judge_plan.happened.Ended.{Ended}
 use Rattle.path_checker.specs.declared.judge_plan.happened.Ended.TheVariants as ends
 use Rattle.suit_commands.specs.Tree.{CommandTree, Test, Act, Index, Override, TryEach, RunSequence, SequenceTree, NoSteps, StepThen}
-use Rattle.suit_commands.specs.View.{sequence_tree}
-use Rattle.path_checker.specs.Happening.{after_end, sets_at, command_sets, sequence_sets, told_by}
-use Rattle.path_checker.specs.Selecting.{components_of}
-use Rattle.std.specs.List.{range_with_len}
+use Rattle.path_checker.specs.Happening.{event_of, after_end, sets_at, command_sets, sequence_sets}
 use Rattle.std.specs.Prelude.{◌↔◌, slice_get}
 use Rattle.path_checker.specs.Exploring.{In}
 use Rattle.path_checker.specs.Matches.{Match, match_of, matches_from}
@@ -88,28 +85,26 @@ after_plain matches e plain events stand c d s = (
   ],
 )
 
--- ---- as they are told
+-- ---- the matches that stand after what happened
 
-first : Event → List Event → Event
-first event [] = event
-first event (other ∷ events) = other
+pub stands_matched : (standing after : StandingMatches) (happened : Happened) (c : ℕ) (own : Bor LentMatch) → happened ≡ lent.Matched c own → Gains standing c (match_of own.now) after → StandsAfter standing (event_of happened) after
+stands_matched standing after happened c own is gains =
+    subst (λ (h : Happened). StandsAfter standing (event_of h) after) (sym is) (after_match standing after c (match_of own.now).0 (match_of own.now).1 gains)
 
-same_one : (one other : Event) → one ∷ [] ≡ other ∷ [] → one ≡ other
-unfolding first
-same_one one other is = ap (first one) is
+pub stands_wrote : (standing after : StandingMatches) (happened : Happened) (c : ℕ) → happened ≡ lent.Wrote c → Loses standing c after → StandsAfter standing (event_of happened) after
+stands_wrote standing after happened c is loses =
+    subst (λ (h : Happened). StandsAfter standing (event_of h) after) (sym is) (after_write standing after c loses)
 
-pub told_matched : (standing after : StandingMatches) (told : Told) (c : ℕ) (own : Bor LentMatch) → told ≡ tells.Matched c own → Gains standing c (match_of own.now) after → (event : Event) → told_by told ≡ event ∷ [] → StandsAfter standing event after
-told_matched standing after told c own is gains event one =
-    subst (λ (e : Event). StandsAfter standing e after) (same_one _ event (subst (λ (t : Told). told_by t ≡ event ∷ []) is one))
-    (after_match standing after c (match_of own.now).0 (match_of own.now).1 gains)
+pub stands_other : (standing : StandingMatches) (happened : Happened) → ((c : ℕ) (own : Bor LentMatch) → happened ≡ lent.Matched c own → ⊥) → ((c : ℕ) → happened ≡ lent.Wrote c → ⊥) → StandsAfter standing (event_of happened) standing
+stands_other standing (lent.Tried c kind passed) no_match no_write = after_plain standing (event_of (lent.Tried c kind passed)) (λ c' d' s'. (λ is. absurd cc, λ w. w))
+stands_other standing (lent.Matched c own) no_match no_write = absurd (no_match c own refl)
+stands_other standing (lent.Missed c) no_match no_write = after_plain standing (event_of (lent.Missed c)) (λ c' d' s'. (λ is. absurd cc, λ w. w))
+stands_other standing (lent.Wrote c) no_match no_write = absurd (no_write c refl)
+stands_other standing (lent.Covered c own) no_match no_write = after_plain standing (event_of (lent.Covered c own)) (λ c' d' s'. (λ is. absurd cc, λ w. w))
+stands_other standing (lent.Uncovered c digest size) no_match no_write = after_plain standing (event_of (lent.Uncovered c digest size)) (λ c' d' s'. (λ is. absurd cc, λ w. w))
+stands_other standing (lent.Failed place) no_match no_write = after_plain standing (event_of (lent.Failed place)) (λ c' d' s'. (λ is. absurd cc, λ w. w))
 
-pub told_wrote : (standing after : StandingMatches) (told : Told) (c : ℕ) → told ≡ tells.Wrote c → Loses standing c after → (event : Event) → told_by told ≡ event ∷ [] → StandsAfter standing event after
-told_wrote standing after told c is loses event one =
-    subst (λ (e : Event). StandsAfter standing e after) (same_one _ event (subst (λ (t : Told). told_by t ≡ event ∷ []) is one))
-    (after_write standing after c loses)
-
-by_plain : (standing : StandingMatches) (plain event : Event) → IsPlain plain → plain ∷ [] ≡ event ∷ [] → StandsAfter standing event standing
-by_plain standing plain event is one = subst (λ (e : Event). StandsAfter standing e standing) (same_one plain event one) (after_plain standing plain is)
+-- ---- overrides
 
 -- the matches that stand after an override at one component
 pub stands_set : (matches : StandingMatches) (events : List Event) (c : ℕ) (list : List Param) → Stands matches events → Stands matches (events ++ set_events c list)
@@ -137,24 +132,6 @@ pub stands_sequence : (matches : StandingMatches) (events : List Event) (s : Seq
 stands_sequence matches events NoSteps cs stand = subst (Stands matches) (sym (append-nil events)) stand
 stands_sequence matches events (StepThen place command rest) cs stand =
     subst (Stands matches) (append_assoc events (command_sets command cs) (sequence_sets rest cs)) (stands_sequence matches (events ++ command_sets command cs) rest cs (stands_command matches events command cs stand))
-
--- ---- another event alone
-
-pub told_other : (standing : StandingMatches) (told : Told) → ((c : _) (own : _) → told ≡ tells.Matched c own → ⊥) → ((c : ℕ) → told ≡ tells.Wrote c → ⊥) → (event : Event) → told_by told ≡ event ∷ [] → StandsAfter standing event standing
-told_other standing (tells.Tried c k p) no_match no_write event one = by_plain standing _ event (λ c' d' s'. (λ is. absurd cc, λ w. w)) one
-told_other standing (tells.Missed c) no_match no_write event one = by_plain standing _ event (λ c' d' s'. (λ is. absurd cc, λ w. w)) one
-told_other standing (tells.Wrote c) no_match no_write event one = absurd (no_write c refl)
-told_other standing (tells.Matched c own) no_match no_write event one = absurd (no_match c own refl)
-told_other standing (tells.Failed p) no_match no_write event one = by_plain standing _ event (λ c' d' s'. (λ is. absurd cc, λ w. w)) one
-told_other standing (tells.Invoked i) no_match no_write event one = by_plain standing _ event (λ c' d' s'. (λ is. absurd cc, λ w. w)) one
-told_other standing (tells.Covered c own) no_match no_write event one = by_plain standing _ event (λ c' d' s'. (λ is. absurd cc, λ w. w)) one
-told_other standing (tells.Swapped c s) no_match no_write event one = absurd cc
-told_other standing (tells.Several several) no_match no_write event one = λ events stand. subst (λ (es : List Event). Stands standing (events ++ es)) one (stands_sequence standing events (sequence_tree several.now.steps.now) (components_of several.now.components) stand)
-told_other standing (tells.Sets c list) no_match no_write event one = λ events stand. subst (λ (es : List Event). Stands standing (events ++ es)) one (stands_sets standing events (c ∷ []) list.now stand)
-told_other standing (tells.SetsFirst n list) no_match no_write event one = λ events stand. subst (λ (es : List Event). Stands standing (events ++ es)) one (stands_sets standing events (range_with_len 0 n) list.now stand)
-told_other standing (tells.SetsBoth c d list) no_match no_write event one = λ events stand. subst (λ (es : List Event). Stands standing (events ++ es)) one (stands_sets standing events (c ∷ d ∷ []) list.now stand)
-told_other standing (tells.SetsThree c d e list) no_match no_write event one = λ events stand. subst (λ (es : List Event). Stands standing (events ++ es)) one (stands_sets standing events (c ∷ d ∷ e ∷ []) list.now stand)
-told_other standing (tells.SetsAt sets) no_match no_write event one = λ events stand. subst (λ (es : List Event). Stands standing (events ++ es)) one (stands_sets standing events sets.now.components.now sets.now.list.now stand)
 
 -- ---- where the same matches are held
 

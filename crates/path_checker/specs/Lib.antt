@@ -1,10 +1,7 @@
 pub mod Knowing
 pub mod Matches
-pub mod Lines
 pub mod Holding
 pub mod Happening
-pub mod Chains
-pub mod ChainFalls
 pub mod Forking
 pub mod Choosing
 pub mod Exploring
@@ -26,4 +23,5 @@ pub mod RestViews
 pub mod RestFalls
 pub mod Going
 pub mod Halting
+pub mod Spelling
 pub mod PlanVerdicts

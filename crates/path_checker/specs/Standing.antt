@@ -1,25 +1,11 @@
--- The matches that stand after events, and lists of events in parts.
-use Rattle.std.specs.Prelude.{◌↔◌, ◌≡◌, ◌≢◌, ◌⊎◌, ℕ, List, [], ◌∷◌, ◌++◌, Option, Some, None, slice_get}
+-- The matches that stand after events.
+use Rattle.std.specs.Prelude.{◌↔◌, ◌≡◌, ◌≢◌, ◌⊎◌, ℕ, List, [], ◌∷◌, ◌++◌, Option, slice_get}
 use Rattle.suit_params.specs.declared.digest.Digest.{Digest}
 use Rattle.path_model.specs.declared.event.Event.{Event}
 use Rattle.path_model.specs.Safe.{HasMatched}
 use Rattle.path_checker.specs.declared.judge_plan.standing.StandingMatches.{StandingMatches}
-use Rattle.path_checker.specs.declared.judge_plan.past.Since.{Since}
-use Rattle.path_checker.specs.declared.judge_plan.past.Since.TheVariants as sinces
 use Rattle.path_checker.specs.Exploring.{In}
-use Rattle.path_checker.specs.Lines.{lines_told}
 use Rattle.path_checker.specs.Matches.{Match, matches_from}
-
--- the events of all parts in order, where the last part comes first in the list
-abbrev pub all_in_order : List (List Event) → List Event
-all_in_order [] = []
-all_in_order (part ∷ parts) = all_in_order parts ++ part
-
--- the events of a path: those that are shared, and then those since
-abbrev pub with_since : List Event → Since → List Event
-with_since past sinces.Shared = past
-with_since past sinces.Apart = past
-with_since past (sinces.Lines lines) = past ++ lines_told lines.value
 
 -- the matches that stand for a component
 abbrev pub held_of : StandingMatches → ℕ → List Match

@@ -1,8 +1,9 @@
 //! The judgement of a whole procedure, over all commands.
 
-ghost use Rattle.std.specs.Prelude.{◌≡◌, IfOk};
+ghost use Rattle.std.specs.Prelude.{◌≡◌, None, IfOk};
 ghost use Rattle.suit_commands.specs.Allowed.{IsPlan};
 ghost use Rattle.suit_commands.specs.Plans.{plan_tree};
+ghost use Rattle.path_model.specs.Safe.{Safe};
 ghost use Rattle.path_checker.specs.Procedures.{ArePlan};
 ghost use Rattle.path_checker.specs.PlanVerdicts.{Tells, Judges, JudgesPlan};
 
@@ -10,6 +11,7 @@ mod choice;
 mod conditions;
 mod directives;
 mod facts;
+mod failing;
 mod failures;
 mod fingerprint;
 mod halt;
@@ -23,28 +25,31 @@ mod invoking;
 mod kept;
 mod known;
 mod lending;
-mod line;
-mod lines;
 mod links;
 mod made;
 mod mark;
 mod matches;
 mod memory;
 mod merged;
+mod misses;
 mod outermost;
 mod overriding;
 mod past;
 mod procedure_walk;
 mod rest;
 mod reuse;
+mod salt;
 mod same_param;
 mod selected;
 mod sets;
 mod site;
+mod spelling;
 mod standing;
 mod stated;
 mod straight;
-mod trace;
+mod telling;
+mod trail;
+mod turn;
 mod unconditional;
 mod walk;
 mod wide_try;
@@ -54,16 +59,18 @@ use choice::chosen_identities;
 use halt::Halt;
 use kept::Kept;
 use memory::{COMPARED, Memory};
+use misses::Misses;
 use path_model::BadPath;
-use procedure_walk::{first, invokes, procedure};
-use std::alloc::Global;
+use procedure_walk::{first, first_recorded, invokes, path, procedure};
+use salt::salt_of;
+use std::alloc::{AllocError, Global};
 use std::cell::Cell;
 use suit_commands::{Plan, width};
 
 // Wider procedures than this are not judged.
 const WIDEST: u64 = 4_194_304;
 
-// The initial capacity of the event arena in bytes: enough for a small procedure.
+// The initial capacity of an arena in bytes: enough for a small procedure.
 const ROOM: usize = 900;
 
 /// The verdict on a whole procedure.
@@ -79,56 +86,112 @@ pub enum CheckVerdict {
     NoMemory,
 }
 
-// Builds the verdict for a state whose last event is an uncovered invoke: its path, and identities for which it is a
-// path.
-fn told(alloc: Global, k: Kept<'_>) -> CheckVerdict
+// Builds the verdict for a state whose last event is an uncovered invoke: its events, which were recorded, and identities
+// for which they are a path.
+fn verdict_on(alloc: Global, k: Kept<'_>) -> CheckVerdict
     ensures { Tells k.entry result }
 {
     let Ok(identities) = chosen_identities(alloc, &k.facts) else {
         return CheckVerdict::NoMemory;
     };
-    match k.history.told(alloc) {
-        Ok(events) => CheckVerdict::Unsafe(BadPath { identities, events }),
-        Err(_) => CheckVerdict::NoMemory,
+    match k.history.recorded() {
+        Some(events) => CheckVerdict::Unsafe(BadPath { identities, events }),
+        None => CheckVerdict::NoMemory,
     }
 }
 
-// Judges a procedure in the given memory.
-fn judge_in<'a>(memory: Memory<'a>, plan: Plan<'a>) -> CheckVerdict
+// Judges a procedure in the given memory. Returns `None` if it is safe, and otherwise which conditions fail on a path to an
+// uncovered invoke.
+fn judge_in<'a>(memory: Memory<'a>, plan: Plan<'a>) -> Result<Option<Vec<u32>>, AllocError>
+    requires { ArePlan (plan_tree plan) }
+    ensures { IfOk result (λ misses. misses ≡ None → Safe (plan_tree plan.entry)) }
+{
+    let from = first(memory, plan.count)?;
+    match procedure(memory, &plan, from) {
+        Ok(_) => Ok(None),
+        Err(Halt::NoMemory) => Err(AllocError),
+        Err(Halt::Uncovered(k)) => {
+            let misses = k.into_kept().history.misses(memory)?;
+            Ok(Some(misses))
+        }
+    }
+}
+
+// Follows the path on which these conditions fail, up to an uncovered invoke.
+fn spell_in<'a>(memory: Memory<'a>, plan: Plan<'a>, misses: &[u32]) -> CheckVerdict
     requires { ArePlan (plan_tree plan) }
     ensures { Judges (plan_tree plan.entry) result }
 {
-    let Ok(from) = first(memory.alloc, plan.count) else {
+    let Ok(from) = first_recorded(memory, plan.count) else {
         return CheckVerdict::NoMemory;
     };
-    match procedure(memory, &plan, from) {
-        Ok(_) => CheckVerdict::Safe,
-        Err(Halt::NoMemory) => CheckVerdict::NoMemory,
-        Err(Halt::Uncovered(k)) => told(memory.alloc, k.into_kept()),
+    match path(memory, &plan, &Misses::new(misses), from) {
+        Err(Halt::Uncovered(k)) => verdict_on(memory.alloc, k.into_kept()),
+        _ => CheckVerdict::NoMemory,
     }
 }
 
-// Judges a procedure whose events go to the given arena. `left` is what may still be spent on comparing states.
+// Judges a procedure, with an arena for what states share. `left` is what may be spent on comparing states.
 fn judge_with<'a>(
     alloc: Global,
-    events: &'a Bump,
+    shared: &'a Bump,
     left: &'a Cell<u64>,
     plan: Plan<'a>,
+) -> Result<Option<Vec<u32>>, AllocError>
+    requires { ArePlan (plan_tree plan) }
+    ensures { IfOk result (λ misses. misses ≡ None → Safe (plan_tree plan.entry)) }
+{
+    let memory = Memory::new(alloc, shared, left, salt_of(&plan))?;
+    let misses = judge_in(memory, plan);
+    memory.release();
+    misses
+}
+
+// Follows a path, with an arena as in `judge_with`.
+fn spell_with<'a>(
+    alloc: Global,
+    shared: &'a Bump,
+    left: &'a Cell<u64>,
+    plan: Plan<'a>,
+    misses: &[u32],
 ) -> CheckVerdict
     requires { ArePlan (plan_tree plan) }
     ensures { Judges (plan_tree plan.entry) result }
 {
-    match Memory::new(alloc, events, left) {
-        Ok(memory) => {
-            let verdict = judge_in(memory, plan);
-            memory.release();
-            verdict
-        }
-        Err(_) => CheckVerdict::NoMemory,
-    }
+    let Ok(memory) = Memory::new(alloc, shared, left, salt_of(&plan)) else {
+        return CheckVerdict::NoMemory;
+    };
+    let verdict = spell_in(memory, plan, misses);
+    memory.release();
+    verdict
 }
 
-// Judges a procedure. One without an invoke is safe, and takes no memory.
+// Judges a procedure in memory that is freed afterwards.
+fn judged(alloc: Global, plan: &Plan<'_>) -> Result<Option<Vec<u32>>, AllocError>
+    requires { ArePlan (plan_tree plan.now) }
+    ensures { IfOk result (λ misses. misses ≡ None → Safe (plan_tree plan.now)) }
+{
+    let Ok(shared) = Bump::try_with_capacity(alloc, ROOM) else {
+        return Err(AllocError);
+    };
+    let left = Cell::new(COMPARED);
+    judge_with(alloc, &shared, &left, *plan)
+}
+
+// Follows a path in memory that is freed afterwards.
+fn spelled(alloc: Global, plan: &Plan<'_>, misses: &[u32]) -> CheckVerdict
+    requires { ArePlan (plan_tree plan.now) }
+    ensures { Judges (plan_tree plan.now) result }
+{
+    let Ok(shared) = Bump::try_with_capacity(alloc, ROOM) else {
+        return CheckVerdict::NoMemory;
+    };
+    let left = Cell::new(COMPARED);
+    spell_with(alloc, &shared, &left, *plan, misses)
+}
+
+// Judges a procedure. One without an invoke is safe, and takes no memory. The path of one that is not safe is followed a
+// second time, and only then are its events recorded.
 fn judge(alloc: Global, plan: &Plan<'_>) -> CheckVerdict
     requires { ArePlan (plan_tree plan.now) }
     ensures { Judges (plan_tree plan.now) result }
@@ -136,11 +199,11 @@ fn judge(alloc: Global, plan: &Plan<'_>) -> CheckVerdict
     if !invokes(plan) {
         return CheckVerdict::Safe;
     }
-    let Ok(events) = Bump::try_with_capacity(alloc, ROOM) else {
-        return CheckVerdict::NoMemory;
-    };
-    let left = Cell::new(COMPARED);
-    judge_with(alloc, &events, &left, *plan)
+    match judged(alloc, plan) {
+        Ok(None) => CheckVerdict::Safe,
+        Ok(Some(misses)) => spelled(alloc, plan, &misses),
+        Err(_) => CheckVerdict::NoMemory,
+    }
 }
 
 /// Judges a procedure for all identities of its components (draft-ietf-suit-manifest-25, section 6.4).

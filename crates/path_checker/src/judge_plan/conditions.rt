@@ -16,8 +16,8 @@ use crate::judge_plan::site::Site;
 use std::alloc::AllocError;
 use suit_commands::TestKind;
 
-// The state with other facts.
-fn under<'a>(k: Kept<'a>, facts: Facts) -> Kept<'a>
+/// The state with other facts.
+pub(crate) fn under<'a>(k: Kept<'a>, facts: Facts) -> Kept<'a>
     ensures { result ≡ knowing k.entry facts }
 {
     let mut k = k;

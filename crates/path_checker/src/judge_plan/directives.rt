@@ -117,7 +117,7 @@ fn invoke<'a>(
                 size,
             };
             happens(memory, k, bad)?;
-            Err(Halt::Uncovered(Uncovered::copy(memory, k)?))
+            Err(Halt::Uncovered(Uncovered::take(memory, k)?))
         }
         Some(stated) => {
             let asked = k.history.asked(memory, place, component, stated)?;
@@ -132,7 +132,7 @@ fn invoke<'a>(
                 size: stated.size,
             };
             happens(memory, k, bad)?;
-            Err(Halt::Uncovered(Uncovered::copy(memory, k)?))
+            Err(Halt::Uncovered(Uncovered::take(memory, k)?))
         }
     }
 }

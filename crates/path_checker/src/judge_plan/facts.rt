@@ -167,12 +167,11 @@ impl Knowledge {
         }
     }
 
-    fn fingerprint(&self) -> u64 {
-        let names = mixed(self.vendor.fingerprint(), self.class.fingerprint());
-        mixed(
-            names,
-            mixed(self.device.fingerprint(), self.slot.fingerprint()),
-        )
+    fn fingerprint(&self, salt: u64) -> u64 {
+        let vendor = mixed(salt, self.vendor.fingerprint(salt));
+        let class = mixed(vendor, self.class.fingerprint(salt));
+        let device = mixed(class, self.device.fingerprint(salt));
+        mixed(device, self.slot.fingerprint(salt))
     }
 
     // How many values are ruled out.
@@ -249,10 +248,10 @@ impl Printed {
         }
     }
 
-    fn new(known: Knowledge) -> Printed
+    fn new(known: Knowledge, salt: u64) -> Printed
         ensures { result ≡ known }
     {
-        let print = known.fingerprint();
+        let print = known.fingerprint(salt);
         let others = known.others();
         Printed {
             print,
@@ -353,7 +352,7 @@ impl Shared {
     ) -> Result<Shared, AllocError>
         ensures { IfOk result (λ shared. shared ≡ known) }
     {
-        let printed = Printed::new(known);
+        let printed = Printed::new(known, memory.last.salt);
         if let Some(made) = last.replace(None) {
             if made.is_alike(&printed) {
                 let same = made.copy()?;

@@ -65,7 +65,8 @@ impl<'a> Failures<'a> {
     pub(crate) fn add(&mut self, stop: Stopped<'a>) -> Result<(), AllocError>
         ensures { OnOk result (self.new ≡ after_stops self.old (stop.entry ∷ [])) }
     {
-        if self.keeps(stop.soft_failure) {
+        let soft_failure = stop.soft_failure;
+        if self.keeps(soft_failure) {
             self.list.push(stop)?;
         }
         Ok(())
@@ -107,8 +108,8 @@ impl<'a> Failures<'a> {
     }
 }
 
-// Turns a state into the failure that ends it.
-fn failed_at<'a>(k: Kept<'a>, place: u64, ended: Ended) -> Stopped<'a>
+/// Turns a state into the failure that ends it.
+pub(crate) fn failed_at<'a>(k: Kept<'a>, place: u64, ended: Ended) -> Stopped<'a>
     ensures { result ≡ stopped_after k.entry ended place }
 {
     Stopped {

@@ -23,12 +23,20 @@ impl<'a> Model for Uncovered<'a> {
 }
 
 impl<'a> Uncovered<'a> {
-    /// Boxes a copy of a state.
-    pub(crate) fn copy(memory: Memory<'a>, k: &Kept<'a>) -> Result<Uncovered<'a>, AllocError>
-        ensures { IfOk result (λ uncovered. uncovered ≡ k.now) }
+    /// Boxes a state. Takes its history, and copies the rest.
+    pub(crate) fn take(memory: Memory<'a>, k: &mut Kept<'a>) -> Result<Uncovered<'a>, AllocError>
+        ensures { IfOk result (λ uncovered. uncovered ≡ k.old) }
     {
-        let k = k.copy(memory)?;
-        let held = Box::new(memory.alloc, k)?;
+        let facts = k.facts.copy()?;
+        let params = k.params.copy()?;
+        let kept = Kept {
+            facts,
+            history: k.history.take(memory.alloc),
+            params,
+            selection: k.selection.copy(),
+            soft_failure: k.soft_failure,
+        };
+        let held = Box::new(memory.alloc, kept)?;
         Ok(Uncovered { held })
     }
 

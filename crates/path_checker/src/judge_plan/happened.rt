@@ -2,8 +2,10 @@
 
 ghost use Rattle.std.specs.Prelude.{◌≡◌};
 ghost use Rattle.std.specs.Option.{option_copied};
+ghost use Rattle.path_checker.specs.Happening.{event_of};
 
 use crate::judge_plan::matches::Match;
+use path_model::Event;
 use suit_commands::TestKind;
 use suit_params::Digest;
 
@@ -49,12 +51,46 @@ pub(crate) enum Ended {
     Exhausted,
 }
 
-/// Copies the digest.
-pub(crate) fn copied(digest: Option<&Digest>) -> Option<Digest>
+// Copies the digest.
+fn copied(digest: Option<&Digest>) -> Option<Digest>
     ensures { result ≡ option_copied digest.entry }
 {
     match digest {
         Some(digest) => Some(*digest),
         None => None,
+    }
+}
+
+impl<'a> Happened<'a> {
+    /// The event, with its own copy of the digest.
+    pub(crate) fn told(&self) -> Event
+        ensures { result ≡ event_of self.now }
+    {
+        match *self {
+            Happened::Tried {
+                component,
+                kind,
+                passed,
+            } => Event::Tried {
+                component,
+                kind,
+                passed,
+            },
+            Happened::Matched { component, own } => own.told(component),
+            Happened::Missed { component } => Event::Missed { component },
+            Happened::Wrote { component } => Event::Wrote { component },
+            Happened::Covered { component, own } => own.invoked(component),
+            Happened::Uncovered {
+                component,
+                digest,
+                size,
+            } => Event::Invoked {
+                component,
+                digest: copied(digest),
+                size,
+                passed: false,
+            },
+            Happened::Failed { place } => Event::Failed { place },
+        }
     }
 }

@@ -7,7 +7,7 @@ ghost use Rattle.path_checker.specs.Matches.{Match as TheMatch, stated_by, match
 use crate::judge_plan::matches::{ALL, Found, Match, Matches};
 use crate::judge_plan::memory::Memory;
 use crate::judge_plan::stated::Stated;
-use std::alloc::{AllocError, Global};
+use std::alloc::AllocError;
 use std::marker::Model;
 use std::rc::Rc;
 
@@ -72,17 +72,17 @@ fn add_shared<'a>(
 // A list of two matches.
 #[inline(never)]
 fn both<'a>(
-    alloc: Global,
+    memory: Memory<'a>,
     one: &'a Match<'a>,
     other: &'a Match<'a>,
 ) -> Result<Rc<Matches<'a>>, AllocError>
     ensures { IfOk result
         (λ held. SameMembers held.value (match_of other.now ∷ match_of one.now ∷ [])) }
 {
-    let mut all = Matches::none(alloc);
+    let mut all = Matches::none(memory.alloc, memory.last.salt);
     all.push(one)?;
     all.push(other)?;
-    let held = Rc::new(alloc, all)?;
+    let held = Rc::new(memory.alloc, all)?;
     Ok(held)
 }
 
@@ -131,10 +131,10 @@ impl<'a> Held<'a> {
     }
 
     /// The sum of all fingerprints, in which equal matches count once.
-    pub(crate) fn sum(&self) -> u64 {
+    pub(crate) fn sum(&self, salt: u64) -> u64 {
         match &self.held {
             Holding::Nothing => 0,
-            Holding::One(own) => own.print(),
+            Holding::One(own) => own.print(salt),
             Holding::Several(all) => all.sum(),
         }
     }
@@ -267,7 +267,7 @@ impl<'a> Held<'a> {
             }
             Holding::Nothing => {}
         }
-        let lent = memory.last.events.try_alloc(own)?;
+        let lent = memory.last.arena.try_alloc(own)?;
         self.add(memory, ALL, lent)?;
         Ok(lent)
     }
@@ -289,7 +289,7 @@ impl<'a> Held<'a> {
             Holding::One(one) => {
                 let one = *one;
                 if !one.is(own) {
-                    self.held = Holding::Several(both(memory.alloc, one, own)?);
+                    self.held = Holding::Several(both(memory, one, own)?);
                 }
                 Ok(())
             }

@@ -3,7 +3,6 @@
 ghost use Rattle.std.specs.Prelude.{◌≡◌, ◌↔◌, [], ◌∷◌, ◌++◌, IsTrue, IfSome, IfOk, OnOk};
 ghost use Rattle.path_model.specs.Safe.{HasMatched};
 ghost use Rattle.path_model.specs.Following.{SameMatches};
-ghost use Rattle.path_model.specs.declared.event.Event.{Event as TheEvent};
 ghost use Rattle.path_model.specs.declared.event.Event.TheVariants.{Failed, Wrote};
 ghost use Rattle.suit_commands.specs.View.{sequence_tree};
 ghost use Rattle.path_checker.specs.Happening.{event_of, after_end, sets_at, sequence_sets, told_by};
@@ -18,10 +17,12 @@ use crate::judge_plan::past::Past;
 use crate::judge_plan::selected::Components;
 use crate::judge_plan::standing::StandingMatches;
 use crate::judge_plan::stated::Stated;
-use crate::judge_plan::trace::Told;
+use crate::judge_plan::telling::Told;
+use crate::judge_plan::trail::Trail;
 use path_model::Events;
 use std::alloc::{AllocError, Global};
 use std::marker::Model;
+use std::mem;
 use suit_commands::Step;
 use suit_params::ParamList;
 
@@ -36,6 +37,7 @@ pub(crate) struct Asked<'a> {
 #[derive(Drop)]
 pub(crate) struct History<'a> {
     past: Past<'a>,
+    trail: Trail,
     standing: StandingMatches<'a>,
 }
 
@@ -56,15 +58,14 @@ impl<'a> Model for History<'a> {
 fn stand_after<'a>(
     memory: Memory<'a>,
     standing: &mut StandingMatches<'a>,
-    told: &Told<'a>,
+    event: Happened<'a>,
 ) -> Result<(), AllocError>
-    ensures { OnOk result ((event : TheEvent) → told_by told.now ≡ event ∷ []
-        → StandsAfter standing.old event standing.new) }
+    ensures { OnOk result (StandsAfter standing.old (event_of event.entry) standing.new) }
 {
-    match told {
-        Told::Matched { component, own } => standing.gain(memory, *component, *own),
-        Told::Wrote { component } => {
-            standing.lose(*component);
+    match event {
+        Happened::Matched { component, own } => standing.gain(memory, component, own),
+        Happened::Wrote { component } => {
+            standing.lose(component);
             Ok(())
         }
         _ => Ok(()),
@@ -72,70 +73,59 @@ fn stand_after<'a>(
 }
 
 impl<'a> History<'a> {
-    /// No events and no matches. Does not allocate.
+    /// No events and no matches. Events that are added are not recorded. Does not allocate.
     pub(crate) fn new(alloc: Global) -> History<'a>
         ensures { result ≡ [] }
     {
         History {
             past: Past::new(),
+            trail: Trail::new(),
             standing: StandingMatches::none(alloc),
         }
     }
 
-    /// A copy that shares the events and the matches.
+    /// No events and no matches. Events that are added are recorded.
+    pub(crate) fn recording(alloc: Global) -> Result<History<'a>, AllocError>
+        ensures { IfOk result (λ history. history ≡ []) }
+    {
+        let past = Past::recording(alloc)?;
+        Ok(History {
+            past,
+            trail: Trail::new(),
+            standing: StandingMatches::none(alloc),
+        })
+    }
+
+    /// A copy that shares the matches. Its events are not recorded.
     pub(crate) fn copy(&self, memory: Memory<'a>) -> Result<History<'a>, AllocError>
         ensures { IfOk result (λ history. history ≡ self.now) }
     {
-        let past = self.past.copy(memory)?;
+        let past = self.past.copy();
         let standing = self.standing.copy(memory.alloc)?;
-        Ok(History { past, standing })
-    }
-
-    /// The same history, which keeps its next events in memory of its own.
-    pub(crate) fn set_apart(self) -> History<'a>
-        ensures { result ≡ self.entry }
-    {
-        History {
-            past: self.past.set_apart(),
-            standing: self.standing,
-        }
-    }
-
-    /// Announces that the state is not copied until `end`.
-    pub(crate) fn begin(&mut self)
-        ensures { self.new ≡ self.old }
-    {
-        self.past.begin();
-    }
-
-    /// Ends what `begin` announced: the state may be copied again.
-    pub(crate) fn end(&mut self, memory: Memory<'a>) -> Result<(), AllocError>
-        ensures { self.new ≡ self.old }
-    {
-        self.past.end(memory)
-    }
-
-    /// The same history, with its events in memory that states share.
-    pub(crate) fn shared(self, memory: Memory<'a>) -> Result<History<'a>, AllocError>
-        ensures { IfOk result (λ history. history ≡ self.entry) }
-    {
-        let past = self.past.copy(memory)?;
         Ok(History {
             past,
-            standing: self.standing,
+            trail: self.trail,
+            standing,
         })
+    }
+
+    /// Takes the history out of a state that is not used any more.
+    pub(crate) fn take(&mut self, alloc: Global) -> History<'a>
+        ensures { result ≡ self.old }
+    {
+        mem::replace(self, History::new(alloc))
     }
 
     /// Adds an event. If memory runs out, the history may be left empty.
     pub(crate) fn add(&mut self, memory: Memory<'a>, event: Happened<'a>) -> Result<(), AllocError>
         ensures { OnOk result (self.new ≡ self.old ++ event_of event.entry ∷ []) }
     {
-        let told = Told::of(memory, event)?;
-        self.past.add(memory, told)?;
-        match stand_after(memory, &mut self.standing, &told) {
+        self.past.add(memory.alloc, Told::One(event))?;
+        self.trail.count();
+        match stand_after(memory, &mut self.standing, event) {
             Ok(()) => Ok(()),
             Err(error) => {
-                self.past = Past::new();
+                self.past.clear();
                 self.standing = StandingMatches::none(memory.alloc);
                 Err(error)
             }
@@ -152,8 +142,8 @@ impl<'a> History<'a> {
         ensures { OnOk result
             (self.new ≡ self.old ++ sets_at (components_of components.entry) list.now) }
     {
-        let told = Told::sets(memory, components, list)?;
-        self.past.add(memory, told)?;
+        self.past
+            .add(memory.alloc, Told::Sets { components, list })?;
         Ok(())
     }
 
@@ -167,7 +157,8 @@ impl<'a> History<'a> {
         ensures { OnOk result
             (self.new ≡ self.old ++ Wrote component ∷ Wrote source ∷ []) }
     {
-        self.past.add(memory, Told::Swapped { component, source })?;
+        self.past
+            .add(memory.alloc, Told::Swapped { component, source })?;
         self.standing.lose(component);
         self.standing.lose(source);
         Ok(())
@@ -188,7 +179,7 @@ impl<'a> History<'a> {
             ≡ self.old
             ++ sequence_sets (sequence_tree steps.now) (components_of components.entry)) }
     {
-        self.past.add(memory, told)?;
+        self.past.add(memory.alloc, told)?;
         Ok(())
     }
 
@@ -206,7 +197,7 @@ impl<'a> History<'a> {
         self.add(memory, Happened::Failed { place })
     }
 
-    /// Adds the events of a failed condition at a place.
+    /// Adds the events of a failed condition at a place, which is passed over.
     pub(crate) fn with_end(
         self,
         memory: Memory<'a>,
@@ -225,8 +216,19 @@ impl<'a> History<'a> {
             Ended::Exhausted => return Ok(self),
         };
         let mut history = self;
+        history.trail.pass_over(memory)?;
         history.add_failure(memory, event, place)?;
         Ok(history)
+    }
+
+    /// The number of the next condition on the path that led here.
+    pub(crate) fn number(&self) -> u32 {
+        self.trail.number()
+    }
+
+    /// The numbers of the failed conditions that were passed over on that path, the last one first.
+    pub(crate) fn misses(&self, memory: Memory<'a>) -> Result<Vec<u32>, AllocError> {
+        self.trail.misses(memory)
     }
 
     /// A match for an image match at a place. Once many were made, the latest that stands are tried first.
@@ -363,10 +365,10 @@ impl<'a> History<'a> {
         self.standing.cost()
     }
 
-    /// All events in order, in memory of their own.
-    pub(crate) fn told(&self, alloc: Global) -> Result<Events, AllocError>
-        ensures { IfOk result (λ events. events ≡ self.now) }
+    /// All events in order, if they were recorded.
+    pub(crate) fn recorded(self) -> Option<Events>
+        ensures { IfSome result (λ events. events ≡ self.entry) }
     {
-        self.past.told(alloc)
+        self.past.recorded()
     }
 }

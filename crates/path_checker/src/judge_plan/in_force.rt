@@ -66,6 +66,8 @@ pub(crate) struct InForce<'a> {
     held: Rc<Vec<Row<'a>>>,
     // Whether some were overridden since they were last shared with other states.
     fresh: bool,
+    // What is mixed into fingerprints.
+    salt: u64,
 }
 
 impl<'a> Model for InForce<'a> {
@@ -183,8 +185,8 @@ impl<'a> Cells<'a> {
     }
 
     // A fingerprint. Not 0, except by chance.
-    fn fingerprint(&self) -> u64 {
-        let mut print = 1;
+    fn fingerprint(&self, salt: u64) -> u64 {
+        let mut print = salt;
         for key in &[
             ParamKey::Vendor,
             ParamKey::Class,
@@ -197,7 +199,7 @@ impl<'a> Cells<'a> {
             ParamKey::Source,
             ParamKey::Args,
         ] {
-            print = mixed(print, of_param(self.get(*key)));
+            print = mixed(print, of_param(self.get(*key), salt));
         }
         print
     }
@@ -259,9 +261,10 @@ impl<'a> Row<'a> {
     ) -> Result<Option<Row<'a>>, AllocError>
         ensures { IfOk result (λ found. IfSome found (λ row. row ≡ self.now)) }
     {
+        let salt = memory.last.salt;
         for way in 0..WAYS {
             if let Some(row) = made.get(print, way) {
-                let alike = row.fingerprint() == self.fingerprint();
+                let alike = row.fingerprint(salt) == self.fingerprint(salt);
                 if alike && memory.may_read(self.bytes()) && row.is_same(self) {
                     return Ok(Some(row.copy()?));
                 }
@@ -282,7 +285,7 @@ impl<'a> Row<'a> {
         if !self.is_fresh() {
             return self.copy();
         }
-        let print = mixed(self.fingerprint(), component as u64);
+        let print = mixed(self.fingerprint(memory.last.salt), component as u64);
         if let Some(row) = self.found(memory, made, print)? {
             return Ok(row);
         }
@@ -303,12 +306,12 @@ impl<'a> Row<'a> {
     }
 
     // The fingerprint, computed once.
-    fn fingerprint(&self) -> u64 {
+    fn fingerprint(&self, salt: u64) -> u64 {
         let made = self.held.print.get();
         if made != 0 {
             return made;
         }
-        let print = self.held.fingerprint();
+        let print = self.held.fingerprint(salt);
         self.held.print.set(print);
         print
     }
@@ -395,12 +398,16 @@ fn share_rows<'a>(
 
 impl<'a> InForce<'a> {
     /// Nothing is in force.
-    pub(crate) fn new(alloc: Global) -> Result<InForce<'a>, AllocError>
+    pub(crate) fn new(alloc: Global, salt: u64) -> Result<InForce<'a>, AllocError>
         ensures { IfOk result (λ params. params ≡ none_in_force) }
     {
         overriding_laws();
         let held = Rc::new(alloc, empty_rows(alloc)?)?;
-        Ok(InForce { held, fresh: false })
+        Ok(InForce {
+            held,
+            fresh: false,
+            salt,
+        })
     }
 
     /// A copy that shares the memory.
@@ -411,6 +418,7 @@ impl<'a> InForce<'a> {
         Ok(InForce {
             held,
             fresh: self.fresh,
+            salt: self.salt,
         })
     }
 
@@ -527,7 +535,7 @@ impl<'a> InForce<'a> {
         let mut print = 0;
         let mut index = 0;
         while index < rows.len() && index < count {
-            print = mixed(print, rows[index].fingerprint());
+            print = mixed(print, rows[index].fingerprint(self.salt));
             index += 1;
         }
         print

@@ -231,9 +231,7 @@ fn all_in<'a>(
         (λ h. Halts (λ identities. Runs (sequence_tree steps.now) identities count)
         (k.old ∷ []) h) }
 {
-    k.begin();
     let goes_on = steps_in(memory, count, steps, k)?;
-    k.end(memory)?;
     settle(memory, k)?;
     Ok(goes_on)
 }

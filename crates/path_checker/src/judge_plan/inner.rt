@@ -51,28 +51,6 @@ pub(crate) fn only<'a>(alloc: Global, k: Kept<'a>) -> Result<Vec<Kept<'a>>, Allo
     Ok(one)
 }
 
-/// A list of one state, whose events are put into memory that all states share.
-pub(crate) fn only_shared<'a>(memory: Memory<'a>, k: Kept<'a>) -> Result<Vec<Kept<'a>>, AllocError>
-    ensures { IfOk result (λ v. v.items ≡ k.entry ∷ []) }
-{
-    let k = k.shared(memory)?;
-    only(memory.alloc, k)
-}
-
-/// The same states, whose events are put into memory that all states share.
-pub(crate) fn all_shared<'a>(
-    memory: Memory<'a>,
-    from: Vec<Kept<'a>>,
-) -> Result<Vec<Kept<'a>>, AllocError>
-    ensures { IfOk result (λ v. v.items ≡ from.entry.items) }
-{
-    let mut all = Vec::new(memory.alloc);
-    for k in from {
-        all.push(k.shared(memory)?)?;
-    }
-    Ok(all)
-}
-
 /// The states in which a branch begins, and its failures so far.
 #[derive(Drop)]
 pub(crate) struct Inside<'a> {
@@ -105,8 +83,12 @@ pub(crate) fn enter<'a>(component: u32, soft_failure: bool, k: Kept<'a>) -> Kept
     k
 }
 
-// The state in which a branch begins. Its parameters are those from before the try each.
-fn enter_branch<'a>(component: u32, outer: &Outer<'a>, k: Kept<'a>) -> Result<Kept<'a>, AllocError>
+/// The state in which a branch begins. Its parameters are those from before the try each.
+pub(crate) fn enter_branch<'a>(
+    component: u32,
+    outer: &Outer<'a>,
+    k: Kept<'a>,
+) -> Result<Kept<'a>, AllocError>
     requires room { component < 8 }
     ensures { IfOk result (λ to. to ≡ entered outer.now component true k.entry) }
 {
@@ -137,8 +119,8 @@ pub(crate) fn enter_all<'a>(
     Ok(inside)
 }
 
-// Leaves a completed inner sequence: restores the selection and soft failure, and keeps the parameters.
-fn leave_in<'a>(outer: &Outer<'a>, k: &mut Kept<'a>)
+/// Leaves a completed inner sequence: restores the selection and soft failure, and keeps the parameters.
+pub(crate) fn leave_in<'a>(outer: &Outer<'a>, k: &mut Kept<'a>)
     ensures { k.new ≡ left outer.now k.old }
 {
     k.selection = outer.selection.copy();
@@ -197,8 +179,8 @@ pub(crate) fn leave_one<'a>(
     done
 }
 
-// Leaves an inner sequence that failed softly: restores parameters, selection and soft failure.
-fn resume<'a>(
+/// Leaves an inner sequence that failed softly: restores parameters, selection and soft failure.
+pub(crate) fn resume<'a>(
     memory: Memory<'a>,
     outer: &Outer<'a>,
     stop: Stopped<'a>,
@@ -206,7 +188,8 @@ fn resume<'a>(
     ensures { IfOk result (λ k. k ≡ resumed outer.now stop.entry) }
 {
     let params = outer.params.copy()?;
-    let history = stop.history.with_end(memory, stop.ended, stop.place)?;
+    let (ended, place) = (stop.ended, stop.place);
+    let history = stop.history.with_end(memory, ended, place)?;
     Ok(Kept {
         facts: stop.facts,
         history,
@@ -301,8 +284,8 @@ pub(crate) fn leave_branch<'a>(
     Ok(rest)
 }
 
-// The failure of a try each in which no branch completed.
-fn exhaust_one<'a>(place: u64, outer: &Outer<'a>, k: Kept<'a>) -> Stopped<'a>
+/// The failure of a try each in which no branch completed.
+pub(crate) fn exhaust_one<'a>(place: u64, outer: &Outer<'a>, k: Kept<'a>) -> Stopped<'a>
     ensures { result ≡ exhausted_at outer.now place k.entry }
 {
     Stopped {

@@ -148,42 +148,6 @@ impl<'a> Kept<'a> {
             soft_failure: self.soft_failure,
         })
     }
-
-    /// The same state, which goes on alone. If others do so after it, its next events are in memory of its own.
-    pub(crate) fn set_apart(self, memory: Memory<'a>) -> Kept<'a>
-        ensures { result ≡ self.entry }
-    {
-        let mut k = self;
-        if memory.takes_turns() {
-            k.history = k.history.set_apart();
-        } else {
-            k.begin();
-        }
-        k
-    }
-
-    /// Announces that the state is not copied until `end`.
-    pub(crate) fn begin(&mut self)
-        ensures { self.new ≡ self.old }
-    {
-        self.history.begin();
-    }
-
-    /// Ends what `begin` announced: the state may be copied again.
-    pub(crate) fn end(&mut self, memory: Memory<'a>) -> Result<(), AllocError>
-        ensures { self.new ≡ self.old }
-    {
-        self.history.end(memory)
-    }
-
-    /// The same state, with its events in memory that all states share.
-    pub(crate) fn shared(self, memory: Memory<'a>) -> Result<Kept<'a>, AllocError>
-        ensures { IfOk result (λ k. k ≡ self.entry) }
-    {
-        let mut k = self;
-        k.history = k.history.shared(memory)?;
-        Ok(k)
-    }
 }
 
 /// Adds an event to the history of a state.

@@ -17,7 +17,7 @@ pub(crate) trait Fact: Copy {
         ensures { IsTrue result ↔ self.now ≡ other.now };
 
     /// A fingerprint. Equal values have equal ones.
-    fn fingerprint(&self) -> u64;
+    fn fingerprint(&self, salt: u64) -> u64;
 }
 
 impl Fact for [u8; 16] {
@@ -25,8 +25,8 @@ impl Fact for [u8; 16] {
         *self == *other
     }
 
-    fn fingerprint(&self) -> u64 {
-        of_bytes(&self[..])
+    fn fingerprint(&self, salt: u64) -> u64 {
+        of_bytes(&self[..], salt)
     }
 }
 
@@ -35,8 +35,8 @@ impl Fact for u64 {
         *self == *other
     }
 
-    fn fingerprint(&self) -> u64 {
-        mixed(2, *self)
+    fn fingerprint(&self, salt: u64) -> u64 {
+        mixed(salt, *self)
     }
 }
 
@@ -150,13 +150,13 @@ impl<T: Fact> Known<T> {
     }
 
     /// A fingerprint. Equal knowledge has equal ones.
-    pub(crate) fn fingerprint(&self) -> u64 {
+    pub(crate) fn fingerprint(&self, salt: u64) -> u64 {
         if let Some(value) = &self.value {
-            return value.fingerprint();
+            return value.fingerprint(salt);
         }
         let mut print = 0;
         for other in self.others.as_slice() {
-            print = mixed(print, other.fingerprint());
+            print = mixed(print, other.fingerprint(salt));
         }
         print
     }

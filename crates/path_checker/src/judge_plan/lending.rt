@@ -24,7 +24,7 @@ impl<'a> Match<'a> {
     {
         memory.count_made();
         let own = Match::new(stated);
-        let lent = memory.last.events.try_alloc(own)?;
+        let lent = memory.last.arena.try_alloc(own)?;
         Ok(lent)
     }
 
@@ -89,10 +89,11 @@ impl<'a> Match<'a> {
     fn used(memory: Memory<'a>, stated: Stated<'a>) -> Result<&'a Match<'a>, AllocError>
         ensures { IfOk result (λ own. match_of own.now ≡ stated_by stated.entry) }
     {
+        let salt = memory.last.salt;
         let number = if memory.has_plenty() {
-            print_of(stated)
+            print_of(stated, salt)
         } else {
-            number_of(stated)
+            number_of(stated, salt)
         };
         for second in &[false, true] {
             if let Some(last) = memory.used(number, *second) {

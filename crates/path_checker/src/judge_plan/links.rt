@@ -30,8 +30,9 @@ struct Form {
     indices: u32,
 }
 
-// A list that is no longer than this has an index of the first form, up to four times this length.
-const SHORT: usize = 16_384;
+// A list that is no longer than this when it is indexed gets the form with four sides, and keeps it while it is shorter
+// than four times this, since only then there are too few buckets. So 18 bits hold an index.
+const SHORT: usize = 65_536;
 
 impl Form {
     // The form for so many matches.
@@ -46,7 +47,7 @@ impl Form {
             Form {
                 bits: 2,
                 sides: 4,
-                indices: 0xffff,
+                indices: 0x0003_ffff,
             }
         }
     }
@@ -253,16 +254,16 @@ impl Links {
     }
 
     /// Searches for a match among those that are linked.
-    pub(crate) fn search(&self, all: &[Lent<'_>], wanted: &Match<'_>) -> Ended
+    pub(crate) fn search(&self, all: &[Lent<'_>], wanted: &Match<'_>, salt: u64) -> Ended
         ensures { IfSome result.found (λ at. In (match_of wanted.now) (all_lent all.now)) }
     {
-        let (form, print) = (self.form, wanted.print());
+        let (form, print) = (self.form, wanted.print(salt));
         let mut bits = print;
         let mut link = self.first_link(print);
         let mut place = Place::First;
         for depth in 0..DEEPEST {
             if depth == form.deep() {
-                bits = wanted.whole_print();
+                bits = wanted.whole_print(salt);
             }
             let Some(at) = link.index(form) else {
                 return Ended { found: None, place };
@@ -301,8 +302,13 @@ impl Links {
 
     /// Links the next match of the list at the place where a search for it ended. If the search found one, this match
     /// is there twice, and only the first is linked.
-    pub(crate) fn link(&mut self, own: &Match<'_>, ended: Ended) -> Result<(), AllocError> {
-        let print = own.print();
+    pub(crate) fn link(
+        &mut self,
+        own: &Match<'_>,
+        ended: Ended,
+        salt: u64,
+    ) -> Result<(), AllocError> {
+        let print = own.print(salt);
         let link = Link::to(self.count, print, self.form);
         let room = room_after(self.below.len(), self.below.capacity());
         self.below.reserve_exact(room)?;
@@ -326,12 +332,17 @@ impl Links {
     }
 
     /// Links all matches of a list that are not linked yet.
-    pub(crate) fn reach(&mut self, alloc: Global, all: &[Lent<'_>]) -> Result<(), AllocError> {
+    pub(crate) fn reach(
+        &mut self,
+        alloc: Global,
+        all: &[Lent<'_>],
+        salt: u64,
+    ) -> Result<(), AllocError> {
         self.widen(alloc, all.len())?;
         let linked = self.count.min(all.len());
         for lent in &all[linked..] {
-            let ended = self.search(all, lent.own);
-            self.link(lent.own, ended)?;
+            let ended = self.search(all, lent.own, salt);
+            self.link(lent.own, ended, salt)?;
         }
         Ok(())
     }

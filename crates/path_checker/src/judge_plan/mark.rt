@@ -87,18 +87,22 @@ impl Mark {
     }
 }
 
-/// The fingerprint of a match, by SipHash: many matches whose 31 highest bits are the same are hard to find.
-pub(crate) fn print_of(stated: Stated<'_>) -> u64 {
+/// The fingerprint of a match, by SipHash: many matches whose 31 highest bits are the same are hard to find, and cannot
+/// be sought before the salt is known.
+pub(crate) fn print_of(stated: Stated<'_>, salt: u64) -> u64 {
     let mut hasher = stated.digest.hasher();
-    if let Some(size) = stated.size {
-        hasher.write_u64(size);
-    }
+    hasher.write_u64(match stated.size {
+        Some(size) => size ^ salt,
+        None => salt.rotate_left(1),
+    });
     hasher.finish()
 }
 
-/// A quick hash of a match. Under one digest, matches with the same one are easy to find.
-pub(crate) fn number_of(stated: Stated<'_>) -> u64 {
-    mixed(stated.digest.hasher().finish(), stated.size.unwrap_or(0))
+/// A quick hash of a match. The digest is mixed with the salt before the size is, so that no two sizes make up for what
+/// two digests differ in, and all is mixed once more, so that the high bits of a size reach the low ones.
+pub(crate) fn number_of(stated: Stated<'_>, salt: u64) -> u64 {
+    let digest = mixed(stated.digest.hasher().finish(), salt);
+    mixed(mixed(digest, stated.size.unwrap_or(0)), salt)
 }
 
 /// A bit of a digest. Past the last one they start over.

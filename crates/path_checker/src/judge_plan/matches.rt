@@ -137,26 +137,26 @@ impl<'a> Match<'a> {
     }
 
     /// The fingerprint, computed when it is first needed.
-    pub(crate) fn print(&self) -> u64 {
+    pub(crate) fn print(&self, salt: u64) -> u64 {
         if let Some(print) = self.mark.get().print() {
             return print;
         }
-        let mark = Mark::printed(self.whole_print());
+        let mark = Mark::printed(self.whole_print(salt));
         self.mark.set(mark);
         mark.spread()
     }
 
     /// All 64 bits of the fingerprint, computed anew.
-    pub(crate) fn whole_print(&self) -> u64 {
-        print_of(self.stated())
+    pub(crate) fn whole_print(&self, salt: u64) -> u64 {
+        print_of(self.stated(), salt)
     }
 
     // Computes the fingerprint. Returns whether there was none before.
-    fn gets_print(&self) -> bool {
+    fn gets_print(&self, salt: u64) -> bool {
         if self.mark.get().print().is_some() {
             return false;
         }
-        self.print();
+        self.print(salt);
         true
     }
 
@@ -174,7 +174,7 @@ impl<'a> Match<'a> {
         if self.mark.get().is_free(component) {
             self.mark.set(Mark::put(component, index));
         } else {
-            memory.keep_place(self.print(), component, index);
+            memory.keep_place(self.print(memory.last.salt), component, index);
         }
     }
 
@@ -193,6 +193,8 @@ impl<'a> Match<'a> {
 #[derive(Drop)]
 pub(crate) struct Matches<'a> {
     alloc: Global,
+    // What is mixed into fingerprints.
+    salt: u64,
     all: Vec<Lent<'a>>,
     links: Cell<Links>,
     // The sum of the fingerprints of the first `summed` matches.
@@ -224,11 +226,12 @@ fn room_after(len: usize, capacity: usize) -> usize {
 
 impl<'a> Matches<'a> {
     /// No matches.
-    pub(crate) fn none(alloc: Global) -> Matches<'a>
+    pub(crate) fn none(alloc: Global, salt: u64) -> Matches<'a>
         ensures { result ≡ [] }
     {
         Matches {
             alloc,
+            salt,
             all: Vec::new(alloc),
             links: Cell::new(Links::none(alloc)),
             sum: Cell::new(0),
@@ -238,12 +241,13 @@ impl<'a> Matches<'a> {
     }
 
     // No matches, with room for `count` of them.
-    fn for_many(alloc: Global, count: usize) -> Result<Matches<'a>, AllocError>
+    fn for_many(alloc: Global, salt: u64, count: usize) -> Result<Matches<'a>, AllocError>
         ensures { IfOk result (λ held. held ≡ []) }
     {
         let links = Links::for_many(alloc, count)?;
         Ok(Matches {
             alloc,
+            salt,
             all: Vec::with_capacity(alloc, count.saturating_add(1))?,
             links: Cell::new(links),
             sum: Cell::new(0),
@@ -274,6 +278,7 @@ impl<'a> Matches<'a> {
         };
         Ok(Matches {
             alloc: self.alloc,
+            salt: self.salt,
             all,
             links: Cell::new(links),
             sum: Cell::new(self.sum.get()),
@@ -288,8 +293,8 @@ impl<'a> Matches<'a> {
     {
         let all = self.all.as_slice();
         let mut links = self.links.replace(Links::none(self.alloc));
-        let ended = match links.reach(self.alloc, all) {
-            Ok(()) => links.search(all, wanted),
+        let ended = match links.reach(self.alloc, all, self.salt) {
+            Ok(()) => links.search(all, wanted, self.salt),
             Err(_) => Ended::lost(),
         };
         self.links.set(links);
@@ -330,7 +335,7 @@ impl<'a> Matches<'a> {
     {
         let found = self.search(wanted);
         if let Some(at) = found {
-            memory.keep_place(wanted.print(), component, at);
+            memory.keep_place(wanted.print(self.salt), component, at);
         }
         found
     }
@@ -342,7 +347,7 @@ impl<'a> Matches<'a> {
         if self.is_there(memory, component, wanted) {
             return true;
         }
-        if wanted.gets_print() && self.is_there(memory, component, wanted) {
+        if wanted.gets_print(self.salt) && self.is_there(memory, component, wanted) {
             return true;
         }
         match self.search_kept(memory, component, wanted) {
@@ -353,9 +358,9 @@ impl<'a> Matches<'a> {
 
     // Computes the fingerprints of the wanted match and of all others, so that nearly all of these are passed over.
     fn print_all(&self, wanted: &Match<'_>) {
-        wanted.gets_print();
+        wanted.gets_print(self.salt);
         for lent in self.all.as_slice() {
-            lent.own.gets_print();
+            lent.own.gets_print(self.salt);
         }
     }
 
@@ -383,7 +388,8 @@ impl<'a> Matches<'a> {
             let at = index_in(self.all.as_slice(), wanted)?;
             return self.found_at(at, wanted);
         }
-        if let Some(found) = self.found_at(memory.place(wanted.print(), component), wanted) {
+        let place = memory.place(wanted.print(self.salt), component);
+        if let Some(found) = self.found_at(place, wanted) {
             return Some(found);
         }
         let at = self.search_kept(memory, component, wanted)?;
@@ -479,7 +485,7 @@ impl<'a> Matches<'a> {
     fn once(&self) -> Result<Matches<'a>, AllocError>
         ensures { IfOk result (λ held. SameMembers held self.now) }
     {
-        let mut held = Matches::for_many(self.alloc, self.all.len())?;
+        let mut held = Matches::for_many(self.alloc, self.salt, self.all.len())?;
         for lent in self.all.as_slice() {
             held.push_once(lent.own)?;
         }
@@ -523,7 +529,7 @@ impl<'a> Matches<'a> {
         let mut sum = self.sum.get();
         let from = self.summed.get().min(self.all.len());
         for lent in &self.all[from..] {
-            sum = sum.wrapping_add(lent.own.print());
+            sum = sum.wrapping_add(lent.own.print(self.salt));
         }
         self.sum.set(sum);
         self.summed.set(self.all.len());
@@ -536,7 +542,7 @@ impl<'a> Matches<'a> {
             return self.few_summed();
         }
         let mut links = self.links.replace(Links::none(self.alloc));
-        let sum = match links.reach(self.alloc, self.all.as_slice()) {
+        let sum = match links.reach(self.alloc, self.all.as_slice(), self.salt) {
             Ok(()) => links.sum(),
             Err(_) => 0,
         };
@@ -563,7 +569,7 @@ impl<'a> Matches<'a> {
     // Links the last match where a search for it ended.
     fn link_last(&self, own: &Match<'_>, ended: Ended) -> Result<(), AllocError> {
         let mut links = self.links.replace(Links::none(self.alloc));
-        let linked = links.link(own, ended);
+        let linked = links.link(own, ended, self.salt);
         self.links.set(links);
         linked
     }
@@ -576,19 +582,19 @@ impl<'a> Matches<'a> {
     ) -> Result<&'a Match<'a>, AllocError>
         ensures { IfOk result (λ lent. match_of lent.now ≡ match_of own.entry) }
     {
-        if let Some(made) = self.at(memory.place(own.print(), ALL), &own) {
+        if let Some(made) = self.at(memory.place(own.print(self.salt), ALL), &own) {
             memory.count_found();
             return Ok(made);
         }
         let ended = self.ended(&own);
         if let Some(at) = ended.found {
-            memory.keep_place(own.print(), ALL, at);
+            memory.keep_place(own.print(self.salt), ALL, at);
             memory.count_found();
             if let Some(made) = self.at(at, &own) {
                 return Ok(made);
             }
         }
-        let lent = memory.last.events.try_alloc(own)?;
+        let lent = memory.last.arena.try_alloc(own)?;
         self.push(lent)?;
         self.link_last(lent, ended)?;
         Ok(lent)
@@ -606,13 +612,22 @@ impl<'a> Matches<'a> {
         false
     }
 
-    /// Whether each is found among others.
+    // Whether a match is at this index, or else a search finds it.
+    fn finds_from(&self, at: usize, wanted: &Match<'_>) -> bool
+        ensures { IsTrue result → In (match_of wanted.now) self.now }
+    {
+        self.is_own_at(at, wanted) || self.finds(wanted)
+    }
+
+    /// Whether each is found among others, where most that are there have the same index.
     pub(crate) fn is_within(&self, others: &Matches<'_>) -> bool
         ensures { IsTrue result
             → (one : TheMatch) → In one self.now → In one others.now }
     {
-        for lent in self.all.as_slice() {
-            if !others.finds(lent.own) {
+        let all = self.all.as_slice();
+        for at in 0..all.len() {
+            let lent = all[at];
+            if !others.finds_from(at, lent.own) {
                 return false;
             }
         }

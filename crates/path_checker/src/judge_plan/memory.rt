@@ -12,7 +12,7 @@ use std::cell::Cell;
 
 /// What may be spent in all on comparing states, where a match costs 1. Once it is spent, states are kept without being
 /// compared, and the width alone bounds the work.
-pub(crate) const COMPARED: u64 = 4_194_304;
+pub(crate) const COMPARED: u64 = 1_048_576;
 
 // The base cost of comparing two states.
 const LEAST: u64 = 32;
@@ -21,18 +21,18 @@ const LEAST: u64 = 32;
 const CROWD: usize = 4_096;
 
 // How many bytes of parameters may be compared in all for sharing.
-const READ: u64 = 4_294_967_296;
+const READ: u64 = 1_073_741_824;
 
 // At most this many recently used matches are kept. A power of two.
 const USED: usize = 8_192;
 
 // At most this many indices of matches are kept, in a part for each component. A power of two.
-const SPOTS: usize = 65_536;
+const SPOTS: usize = 1_048_576;
 
 const PARTS: usize = 16;
 
 // For at most this many pairs of a command and a component, the last two matches are kept. A power of two.
-const STEPS: usize = 65_536;
+const STEPS: usize = 262_144;
 
 // How many matches are passed to `keep_told` before any is kept.
 const UNKEPT: usize = 16;
@@ -63,8 +63,10 @@ pub(crate) struct Memory<'a> {
 /// Values that were made recently, in any state.
 #[derive(Drop)]
 pub(crate) struct Last<'a> {
-    /// The arena for events, which are freed together when the judgement ends.
-    pub events: &'a Bump,
+    /// Matches, what is left to run, and tables of recent values lie here. All of it is freed when the judgement ends.
+    pub arena: &'a Bump,
+    /// What is mixed into fingerprints.
+    pub salt: u64,
     compared: &'a Cell<u64>,
     /// The matches that new ones are searched for among. They are forgotten once they are too many.
     pub matches: Cell<Held<'a>>,
@@ -92,10 +94,10 @@ pub(crate) struct Last<'a> {
     // kept.
     places: Cell<&'a [Cell<u64>]>,
     sought: Cell<usize>,
+    // The failed conditions that states passed over.
+    misses: Cell<Vec<Miss>>,
     // How many states are kept at once.
     states: Cell<usize>,
-    // Whether states went on one after another, so that what one of them holds is to be freed before the next one.
-    in_turn: Cell<bool>,
     // How many bytes of parameters may still be compared for sharing.
     left: Cell<u64>,
     /// The parameters made last, and recent rows of them, each for one component.
@@ -113,6 +115,27 @@ pub(crate) struct LastTold<'a> {
     pub own: &'a Match<'a>,
     pub at: usize,
     pub second: bool,
+}
+
+// A failed condition that a state passed over, by its number, and the one before it, counted from 1, or 0 for none.
+#[derive(Clone, Copy)]
+struct Miss {
+    number: u32,
+    before: u32,
+}
+
+// The numbers of a failed condition and of those before it.
+fn numbers_from(alloc: Global, all: &[Miss], last: u32) -> Result<Vec<u32>, AllocError> {
+    let mut numbers = Vec::new(alloc);
+    let mut at = last;
+    for _ in 0..all.len() {
+        let Some(miss) = all.get((at as usize).wrapping_sub(1)) else {
+            break;
+        };
+        numbers.push(miss.number)?;
+        at = miss.before;
+    }
+    Ok(numbers)
 }
 
 /// The last knowledge of each component, in any state.
@@ -158,9 +181,10 @@ impl LastKnown {
 
 impl<'a> Last<'a> {
     // No values yet.
-    fn new(events: &'a Bump, compared: &'a Cell<u64>) -> Last<'a> {
+    fn new(alloc: Global, arena: &'a Bump, compared: &'a Cell<u64>, salt: u64) -> Last<'a> {
         Last {
-            events,
+            arena,
+            salt,
             compared,
             matches: Cell::new(Held::none()),
             found: Cell::new(0),
@@ -177,8 +201,8 @@ impl<'a> Last<'a> {
             indices: Cell::new(&[]),
             places: Cell::new(&[]),
             sought: Cell::new(0),
+            misses: Cell::new(Vec::new(alloc)),
             states: Cell::new(0),
-            in_turn: Cell::new(false),
             left: Cell::new(READ),
             params: Cell::new(None),
             rows: Cell::new(None),
@@ -229,18 +253,23 @@ fn pair_by(number: u64, count: usize) -> usize {
     number as usize & count.wrapping_sub(2)
 }
 
-// An index in the low half of a word, and half of a size in the other one. A larger index becomes one that is past any list.
-fn word_of(at: usize, size: u64) -> u64 {
+// A tag by both halves of a size.
+fn tag_of(size: u64) -> u64 {
+    (size ^ size >> 32) & 0xffff_ffff
+}
+
+// An index in the low half of a word, and a tag in the other one. A larger index becomes one that is past any list.
+fn word_of(at: usize, tag: u64) -> u64 {
     let low = match u32::try_from(at) {
         Ok(at) => u64::from(at),
         Err(_) => 0xffff_ffff,
     };
-    size << 32 | low
+    tag << 32 | low
 }
 
 // The index of a word, if its match may have this size.
 fn index_of(word: u64, size: u64) -> Option<usize> {
-    if (word ^ size << 32) >> 32 == 0 {
+    if word >> 32 == tag_of(size) {
         Some((word & 0xffff_ffff) as usize)
     } else {
         None
@@ -256,22 +285,44 @@ impl<'a> Memory<'a> {
     /// The memory of a new judgement. `left` is what it may spend on comparing states.
     pub(crate) fn new(
         alloc: Global,
-        events: &'a Bump,
+        arena: &'a Bump,
         left: &'a Cell<u64>,
+        salt: u64,
     ) -> Result<Memory<'a>, AllocError> {
-        let last = events.try_alloc(Last::new(events, left))?;
+        let last = arena.try_alloc(Last::new(alloc, arena, left, salt))?;
         Ok(Memory { alloc, last })
     }
 
     /// Frees the values that were made recently.
     pub(crate) fn release(&self) {
         self.last.matches.set(Held::none());
+        self.last.misses.set(Vec::new(self.alloc));
         self.last.params.set(None);
         self.last.rows.set(None);
         self.last.known.set(None);
         if let Some(known) = self.last.each.get() {
             known.release();
         }
+    }
+
+    /// Notes a failed condition that a state passed over, and the one before it on the same path. Returns how it is counted,
+    /// from 1.
+    pub(crate) fn note_miss(&self, number: u32, before: u32) -> Result<u32, AllocError> {
+        let mut all = self.last.misses.replace(Vec::new(self.alloc));
+        all.push(Miss { number, before })?;
+        let Ok(last) = u32::try_from(all.len()) else {
+            return Err(AllocError);
+        };
+        self.last.misses.set(all);
+        Ok(last)
+    }
+
+    /// The numbers of a failed condition and of those before it on the same path, the last one first.
+    pub(crate) fn misses(&self, last: u32) -> Result<Vec<u32>, AllocError> {
+        let all = self.last.misses.replace(Vec::new(self.alloc));
+        let numbers = numbers_from(self.alloc, &all, last);
+        self.last.misses.set(all);
+        numbers
     }
 
     /// Notes that this many states are kept at once, unless more are noted already. Returns the previous note, for
@@ -285,18 +336,6 @@ impl<'a> Memory<'a> {
     /// Notes that this many states are kept at once, whatever was noted before.
     pub(crate) fn keep(&self, states: usize) {
         self.last.states.set(states);
-    }
-
-    /// Notes that so many states go on one after another.
-    pub(crate) fn take_turns(&self, states: usize) {
-        if states > 1 {
-            self.last.in_turn.set(true);
-        }
-    }
-
-    /// Whether several states went on one after another, so that what one of them holds is freed before the next one.
-    pub(crate) fn takes_turns(&self) -> bool {
-        self.last.in_turn.get()
     }
 
     /// Whether so many states are kept at once that they are to share what they hold.
@@ -404,7 +443,7 @@ impl<'a> Memory<'a> {
         }
         if let (Some(last), Some(before)) = (indices.get(first), indices.get(first | 1)) {
             before.set(last.get());
-            last.set(word_of(at, own.number()));
+            last.set(word_of(at, tag_of(own.number())));
         }
         Ok(())
     }
@@ -414,7 +453,7 @@ impl<'a> Memory<'a> {
         let told = self.all_of(own, count)?;
         let indices = self
             .last
-            .events
+            .arena
             .try_alloc_slice_fill_clone(count, Cell::new(u64::MAX))?;
         self.last.told.set(told);
         self.last.indices.set(indices);
@@ -486,7 +525,7 @@ impl<'a> Memory<'a> {
     fn more_spots(&self, count: usize) {
         if let Ok(places) = self
             .last
-            .events
+            .arena
             .try_alloc_slice_fill_clone(count, Cell::new(0))
         {
             self.last.places.set(places);
@@ -501,7 +540,7 @@ impl<'a> Memory<'a> {
     ) -> Result<&'a [Cell<&'a Match<'a>>], AllocError> {
         let places = self
             .last
-            .events
+            .arena
             .try_alloc_slice_fill_clone(count, Cell::new(own))?;
         Ok(places)
     }
@@ -512,7 +551,7 @@ impl<'a> Memory<'a> {
         let used = self.all_of(own, count)?;
         let numbers = self
             .last
-            .events
+            .arena
             .try_alloc_slice_fill_clone(count, Cell::new(0))?;
         self.last.used.set(used);
         self.last.numbers.set(numbers);
@@ -524,7 +563,7 @@ impl<'a> Memory<'a> {
         if let Some(known) = self.last.each.get() {
             return Ok(known);
         }
-        let known = self.last.events.try_alloc(LastKnown::new())?;
+        let known = self.last.arena.try_alloc(LastKnown::new())?;
         self.last.each.set(Some(known));
         Ok(known)
     }

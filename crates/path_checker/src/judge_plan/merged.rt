@@ -15,6 +15,9 @@ const FEW: usize = 32;
 // How many entries with other fingerprints a search passes over before it gives up.
 const FAR: u32 = 64;
 
+// How many entries with the same fingerprint a search compares before it gives up.
+const ALIKE: u32 = 8;
+
 // An entry for one that is kept.
 #[derive(Clone, Copy)]
 struct Print {
@@ -90,6 +93,7 @@ fn stands_for<T: Standing>(memory: Memory<'_>, kept: &[T], seen: &Seen, print: u
     ensures { IsTrue result → (other : T) × In other kept.now × T.same other one.now }
 {
     let mut far = FAR;
+    let mut alike = ALIKE;
     let mut left = kept.len();
     let mut at = seen.last(print);
     while let Some(index) = at {
@@ -97,9 +101,10 @@ fn stands_for<T: Standing>(memory: Memory<'_>, kept: &[T], seen: &Seen, print: u
             return false;
         }
         if seen.has(index, print) {
-            if !memory.may_compare(one.cost()) {
+            if alike == 0 || !memory.may_compare(one.cost()) {
                 return false;
             }
+            alike -= 1;
             if kept[index].is_same(one) {
                 return true;
             }

@@ -16,7 +16,7 @@ ghost use Rattle.path_checker.specs.Halting.{Halts};
 use crate::judge_plan::failures::Failures;
 use crate::judge_plan::halt::Halt;
 use crate::judge_plan::inner::{
-    Inside, Outer, all_shared, enter_all, leave_one, none_inside, only_shared, outer_of, restart,
+    Inside, Outer, enter_all, leave_one, none_inside, only, outer_of, restart,
 };
 use crate::judge_plan::kept::Kept;
 use crate::judge_plan::memory::Memory;
@@ -81,9 +81,8 @@ fn outermost<'a>(
     if is_straight(&step.command) {
         return straight(memory, count, step, from);
     }
-    let shared = all_shared(memory, from)?;
     let mut ended = Failures::none(memory.alloc, false, false);
-    command(memory, count, step, shared, &mut ended)
+    command(memory, count, step, from, &mut ended)
 }
 
 // The commands of a sequence, or none if it is absent.
@@ -135,7 +134,6 @@ fn follow<'a>(
     ensures ok { OnOk result (Covers (RunsRest rest.now count) from.entry.items) }
     ensures err { IfErr result (λ h. Halts (RunsRest rest.now count) from.entry.items h) }
 {
-    memory.take_turns(from.len());
     let mut now = from;
     while let Some(k) = now.pop() {
         follow_alone(memory, count, rest, k)?;
@@ -220,7 +218,6 @@ fn each_alone<'a>(
     ensures err { IfErr result
         (λ h. Halts (RunsThen (sequence_tree steps.now) rest.now count) from.entry.items h) }
 {
-    memory.take_turns(from.len());
     let mut now = from;
     while let Some(k) = now.pop() {
         alone(memory, count, steps, rest, k)?;
@@ -244,7 +241,7 @@ fn alone<'a>(
     ensures err { IfErr result
         (λ h. Halts (RunsThen (sequence_tree steps.now) rest.now count) (from.entry ∷ []) h) }
 {
-    let mut k = from.set_apart(memory);
+    let mut k = from;
     let done = straight_steps(memory, count, steps, &mut k)?;
     let Some(at) = done else {
         return Ok(());
@@ -252,7 +249,7 @@ fn alone<'a>(
     if at == steps.len() {
         return follow_alone(memory, count, rest, k);
     }
-    let one = only_shared(memory, k)?;
+    let one = only(memory.alloc, k)?;
     commands(memory, count, &steps[at..], rest, one)
 }
 
@@ -275,7 +272,6 @@ fn each_tried<'a>(
         (λ h. Halts (TriesThen (tried_branches tried.entry) tried.entry.place behind.now count)
         from.entry.items h) }
 {
-    memory.take_turns(from.len());
     let mut now = from;
     while let Some(k) = now.pop() {
         let selection = k.selection.copy();
@@ -407,7 +403,7 @@ fn tried_before<'a>(
         (k.entry ∷ []) h) }
 {
     let mut ended = Failures::none(memory.alloc, false, false);
-    let mut now = only_shared(memory, k)?;
+    let mut now = only(memory.alloc, k)?;
     for branch in tried.before {
         let Some(inner) = branch else {
             done.append(&mut now)?;

@@ -1,9 +1,8 @@
-//! Several overrides in a row. All states share the record of their events.
+//! Several overrides in a row.
 
 ghost use Rattle.std.specs.Prelude.{◌≡◌, ◌<◌, ◌≤◌, ◌+◌, IsTrue, IfSome, IfOk, OnOk, length, get_or, take, drop};
 ghost use Rattle.suit_commands.specs.View.{command_tree, sequence_tree};
 ghost use Rattle.path_checker.specs.Exploring.{state_of};
-ghost use Rattle.path_checker.specs.Happening.{sequence_sets, told_by};
 ghost use Rattle.path_checker.specs.Overriding.{IsOverride, AreOverrides, after_overrides, overridden_by};
 ghost use Rattle.path_checker.specs.Small.{AreSmall};
 
@@ -12,7 +11,7 @@ use crate::judge_plan::in_force::InForce;
 use crate::judge_plan::kept::Kept;
 use crate::judge_plan::memory::Memory;
 use crate::judge_plan::selected::Selected;
-use crate::judge_plan::trace::Told;
+use crate::judge_plan::telling::Told;
 use std::alloc::{AllocError, Global};
 use suit_commands::{Command, Step};
 
@@ -95,28 +94,6 @@ fn set_selected<'a>(
     set_all(alloc, steps, &components, soft_failure, params)
 }
 
-// Overrides parameters in a state, and records these events.
-fn override_in<'a>(
-    memory: Memory<'a>,
-    steps: &'a [Step],
-    told: Told<'a>,
-    k: &mut Kept<'a>,
-) -> Result<(), AllocError>
-    requires { told_by told ≡ sequence_sets (sequence_tree steps.now) k.now.state.selection }
-    ensures { OnOk result (k.new ≡ overridden_by k.old (sequence_tree steps.now)) }
-{
-    k.soft_failure = set_selected(
-        memory.alloc,
-        steps,
-        &k.selection,
-        k.soft_failure,
-        &mut k.params,
-    )?;
-    k.history
-        .add_told(memory, steps, k.selection.components(), told)?;
-    Ok(())
-}
-
 /// Runs several overrides in a row on a state.
 pub(crate) fn overrides_in<'a>(
     memory: Memory<'a>,
@@ -126,6 +103,15 @@ pub(crate) fn overrides_in<'a>(
     requires { AreOverrides (sequence_tree steps.now) }
     ensures { OnOk result (k.new ≡ overridden_by k.old (sequence_tree steps.now)) }
 {
-    let told = Told::several(memory, k.selection.components(), steps)?;
-    override_in(memory, steps, told, k)
+    k.soft_failure = set_selected(
+        memory.alloc,
+        steps,
+        &k.selection,
+        k.soft_failure,
+        &mut k.params,
+    )?;
+    let components = k.selection.components();
+    let told = Told::Several { components, steps };
+    k.history.add_told(memory, steps, components, told)?;
+    Ok(())
 }

@@ -11,30 +11,48 @@ use crate::judge_plan::facts::Facts;
 use crate::judge_plan::halt::Halt;
 use crate::judge_plan::history::History;
 use crate::judge_plan::in_force::InForce;
+use crate::judge_plan::inner::only;
 use crate::judge_plan::invoking::lent_invokes;
 use crate::judge_plan::kept::Kept;
 use crate::judge_plan::memory::Memory;
+use crate::judge_plan::misses::Misses;
 use crate::judge_plan::outermost::parts;
 use crate::judge_plan::selected::Selected;
-use std::alloc::{AllocError, Global};
+use crate::judge_plan::spelling::{Way, spell};
+use std::alloc::AllocError;
 use suit_commands::Plan;
 
-/// A list of the one state in which a procedure of `count` components begins.
-pub(crate) fn first<'a>(alloc: Global, count: u32) -> Result<Vec<Kept<'a>>, AllocError>
-    ensures { IfOk result (λ v. v.items ≡ first_kept count ∷ []) }
+// The state in which a procedure of `count` components begins.
+fn begun<'a>(memory: Memory<'a>, count: u32, history: History<'a>) -> Result<Kept<'a>, AllocError>
+    requires none { history ≡ [] }
+    ensures { IfOk result (λ k. k ≡ first_kept count) }
 {
+    let alloc = memory.alloc;
     let facts = Facts::unknown(alloc, count)?;
-    let params = InForce::new(alloc)?;
-    let history = History::new(alloc);
-    let mut from = Vec::new(alloc);
-    from.push(Kept {
+    let params = InForce::new(alloc, memory.last.salt)?;
+    Ok(Kept {
         facts,
         history,
         params,
         selection: Selected::one(0),
         soft_failure: false,
-    })?;
-    Ok(from)
+    })
+}
+
+/// A list of the one state in which a procedure of `count` components begins.
+pub(crate) fn first<'a>(memory: Memory<'a>, count: u32) -> Result<Vec<Kept<'a>>, AllocError>
+    ensures { IfOk result (λ v. v.items ≡ first_kept count ∷ []) }
+{
+    let k = begun(memory, count, History::new(memory.alloc))?;
+    only(memory.alloc, k)
+}
+
+/// The state in which a procedure of `count` components begins. What happens then is recorded.
+pub(crate) fn first_recorded<'a>(memory: Memory<'a>, count: u32) -> Result<Kept<'a>, AllocError>
+    ensures { IfOk result (λ k. k ≡ first_kept count) }
+{
+    let history = History::recording(memory.alloc)?;
+    begun(memory, count, history)
 }
 
 // ---- whether the rest of a procedure holds an invoke
@@ -77,4 +95,20 @@ pub(crate) fn procedure<'a>(
         return parts(memory, plan.count, &[shared, first, shared, second], from);
     }
     parts(memory, plan.count, &[shared, first], from)
+}
+
+/// Follows the path of a procedure on which these conditions fail. Returns an error at its first uncovered invoke.
+pub(crate) fn path<'a>(
+    memory: Memory<'a>,
+    plan: &Plan<'a>,
+    misses: &Misses<'_>,
+    from: Kept<'a>,
+) -> Result<(), Halt<'a>>
+    requires { ArePlan (plan_tree plan.now) }
+    ensures { IfErr result (λ h. Halts (RunsPlan (plan_tree plan.now)) (from.entry ∷ []) h) }
+{
+    let (shared, first, second, third) = (plan.shared, plan.first, plan.second, plan.third);
+    let all = [shared, first, shared, second, shared, third];
+    let way = Way { memory, misses };
+    spell(way, plan.count, &all, from)
 }

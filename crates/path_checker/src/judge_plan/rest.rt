@@ -62,7 +62,7 @@ impl<'a> Rest<'a> {
     pub(crate) fn of(memory: Memory<'a>, first: First<'a>) -> Result<&'a Rest<'a>, AllocError>
         ensures { IfOk result (λ rest. rest.now ≡ all_of first.entry) }
     {
-        let rest = memory.last.events.try_alloc(Rest { first })?;
+        let rest = memory.last.arena.try_alloc(Rest { first })?;
         Ok(rest)
     }
 

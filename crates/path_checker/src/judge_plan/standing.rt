@@ -22,6 +22,8 @@ pub(crate) struct StandingMatches<'a> {
     of: Vec<Held<'a>>,
     // How many were added, whether or not they still stand.
     added: u32,
+    // What is mixed into fingerprints, once a match was added.
+    salt: u64,
     // The index of the match of each component that `last` tries.
     last: Cell<[u16; ROOM]>,
 }
@@ -34,6 +36,7 @@ impl<'a> StandingMatches<'a> {
         StandingMatches {
             of: Vec::new(alloc),
             added: 0,
+            salt: 0,
             last: Cell::new([0; ROOM]),
         }
     }
@@ -49,6 +52,7 @@ impl<'a> StandingMatches<'a> {
         Ok(StandingMatches {
             of,
             added: self.added,
+            salt: self.salt,
             last: Cell::new(self.last.get()),
         })
     }
@@ -187,6 +191,7 @@ impl<'a> StandingMatches<'a> {
         self.widen(index)?;
         self.of[index].add(memory, index, own)?;
         self.added = self.added.saturating_add(1);
+        self.salt = memory.last.salt;
         Ok(())
     }
 
@@ -212,7 +217,7 @@ impl<'a> StandingMatches<'a> {
         }
         let mut index = 0;
         while index < mine.len() {
-            if !is_same_held(&mine[index], &others[index]) {
+            if !is_same_held(&mine[index], &others[index], self.salt) {
                 return false;
             }
             index += 1;
@@ -229,17 +234,17 @@ impl<'a> StandingMatches<'a> {
     pub(crate) fn fingerprint(&self) -> u64 {
         let mut print = 0;
         for held in self.of.as_slice() {
-            print = mixed(print, held.sum());
+            print = mixed(print, held.sum(self.salt));
         }
         print
     }
 }
 
 // Whether the same matches of a component stand in both. `false` if a search misses one.
-fn is_same_held<'a>(one: &Held<'a>, other: &Held<'a>) -> bool
+fn is_same_held<'a>(one: &Held<'a>, other: &Held<'a>, salt: u64) -> bool
     ensures { IsTrue result → SameMembers one.now other.now }
 {
-    if one.sum() != other.sum() {
+    if one.sum(salt) != other.sum(salt) {
         return false;
     }
     one.is_within(other) && other.is_within(one)

@@ -110,7 +110,6 @@ pub(crate) fn straight<'a>(
     while let Some(one) = now.pop() {
         reuse(&mut now, &mut next);
         let mut k = one;
-        k.begin();
         let goes_on = straight_in(memory, count, step, &mut k)?;
         add_if(goes_on, k, &mut next)?;
     }

@@ -145,34 +145,31 @@ is_none (Some x) never = absurd (never x refl)
 
 pub alone-returns-in_err-done-clause-err : goal.alone-returns-in_err-done-clause-err
 alone-returns-in_err-done-clause-err t c =
-    let whole = RunsThen (sequence_tree c.args.steps.now) c.args.rest.now c.args.count in
     let p = err_from_is_err_and c.from_residual.result c.from_residual.ensures.1 in
-    rw (p.1, p.2) (subst (λ (k : Kept). Halts whole (k ∷ []) c.in_err-done.field-0.0) c.set_apart-k.ensures (c.in_err-done.ensures.err c.args.rest.now))
+    rw (p.1, p.2) (c.in_err-done.ensures.err c.args.rest.now)
 
 pub alone-returns-in_default-clause-ok : goal.alone-returns-in_default-clause-ok
-alone-returns-in_default-clause-ok t c =
-    let whole = RunsThen (sequence_tree c.args.steps.now) c.args.rest.now c.args.count in
-    subst (λ (k : Kept). Covers whole (k ∷ [])) c.set_apart-k.ensures (c.in_ok-done.ensures.ended (is_none c.in_ok-done.done c.in_default.not-Some) c.args.rest.now)
+alone-returns-in_default-clause-ok t c = c.in_ok-done.ensures.ended (is_none c.in_ok-done.done c.in_default.not-Some) c.args.rest.now
 
 pub alone-follow_alone-requires : goal.alone-follow_alone-requires
 alone-follow_alone-requires t c = (omega (arith, c.decreases), c.requires.rest)
 
 -- the commands that are left, in the state after the others
-alone_goes : (steps : List Step) (at count : ℕ) (rest : List Later) (from apart k : Kept) (done : Option ℕ) → done ≡ Some at
-    → IfSome done (λ (n : ℕ). (r : List Later) → GoesOn (RunsThen (sequence_tree steps) r count) (apart ∷ []) (RunsThen (sequence_tree (drop n steps)) r count) (k ∷ []))
-    → apart ≡ from → GoesOn (RunsThen (sequence_tree steps) rest count) (from ∷ []) (RunsThen (sequence_tree (drop at steps)) rest count) (k ∷ [])
-alone_goes steps at count rest from apart k done is on same =
-    subst (λ (x : Kept). GoesOn (RunsThen (sequence_tree steps) rest count) (x ∷ []) (RunsThen (sequence_tree (drop at steps)) rest count) (k ∷ [])) same (at_some (λ (n : ℕ). (r : List Later) → GoesOn (RunsThen (sequence_tree steps) r count) (apart ∷ []) (RunsThen (sequence_tree (drop n steps)) r count) (k ∷ [])) done at is on rest)
+alone_goes : (steps : List Step) (at count : ℕ) (rest : List Later) (from k : Kept) (done : Option ℕ) → done ≡ Some at
+    → IfSome done (λ (n : ℕ). (r : List Later) → GoesOn (RunsThen (sequence_tree steps) r count) (from ∷ []) (RunsThen (sequence_tree (drop n steps)) r count) (k ∷ []))
+    → GoesOn (RunsThen (sequence_tree steps) rest count) (from ∷ []) (RunsThen (sequence_tree (drop at steps)) rest count) (k ∷ [])
+alone_goes steps at count rest from k done is on =
+    at_some (λ (n : ℕ). (r : List Later) → GoesOn (RunsThen (sequence_tree steps) r count) (from ∷ []) (RunsThen (sequence_tree (drop n steps)) r count) (k ∷ [])) done at is on rest
 
 pub alone-returns-then-at-steps-clause-ok : goal.alone-returns-then-at-steps-clause-ok
 alone-returns-then-at-steps-clause-ok t c =
-    let on = alone_goes c.args.steps.now c.in-Some.at c.args.count c.args.rest.now c.args.from c.set_apart-k.result c.straight_steps.new.k c.in_ok-done.done c.in-Some.is c.in_ok-done.ensures.on c.set_apart-k.ensures in
+    let on = alone_goes c.args.steps.now c.in-Some.at c.args.count c.args.rest.now c.args.from c.straight_steps.new.k c.in_ok-done.done c.in-Some.is c.in_ok-done.ensures.on in
     let goes = GoesOn-end c.args.steps.now c.in-Some.at c.args.count (RunsRest c.args.rest.now c.args.count) (RunsThen (sequence_tree c.args.steps.now) c.args.rest.now c.args.count) (c.args.from ∷ []) (c.straight_steps.new.k ∷ []) (drop_all c.in-Some.at c.args.steps.now (omega (arith, c.if-at-steps.true))) on in
     on_ok_weaker c.follow_alone.result goes.covers c.follow_alone.ensures.ok
 
 pub alone-returns-then-at-steps-clause-err : goal.alone-returns-then-at-steps-clause-err
 alone-returns-then-at-steps-clause-err t c =
-    let on = alone_goes c.args.steps.now c.in-Some.at c.args.count c.args.rest.now c.args.from c.set_apart-k.result c.straight_steps.new.k c.in_ok-done.done c.in-Some.is c.in_ok-done.ensures.on c.set_apart-k.ensures in
+    let on = alone_goes c.args.steps.now c.in-Some.at c.args.count c.args.rest.now c.args.from c.straight_steps.new.k c.in_ok-done.done c.in-Some.is c.in_ok-done.ensures.on in
     let goes = GoesOn-end c.args.steps.now c.in-Some.at c.args.count (RunsRest c.args.rest.now c.args.count) (RunsThen (sequence_tree c.args.steps.now) c.args.rest.now c.args.count) (c.args.from ∷ []) (c.straight_steps.new.k ∷ []) (drop_all c.in-Some.at c.args.steps.now (omega (arith, c.if-at-steps.true))) on in
     IfErr-weaker c.follow_alone.result (λ h. Halts (RunsRest c.args.rest.now c.args.count) (c.straight_steps.new.k ∷ []) h) (λ h. Halts (RunsThen (sequence_tree c.args.steps.now) c.args.rest.now c.args.count) (c.args.from ∷ []) h)
     (λ h u. GoesOn-halts (RunsThen (sequence_tree c.args.steps.now) c.args.rest.now c.args.count) (RunsRest c.args.rest.now c.args.count) (c.args.from ∷ []) (c.straight_steps.new.k ∷ []) goes h u) c.follow_alone.ensures.err
@@ -186,14 +183,14 @@ alone-commands-requires t c =
 
 pub alone-returns-clause-ok : goal.alone-returns-clause-ok
 alone-returns-clause-ok t c =
-    let on = alone_goes c.args.steps.now c.in-Some.at c.args.count c.args.rest.now c.args.from c.set_apart-k.result c.straight_steps.new.k c.in_ok-done.done c.in-Some.is c.in_ok-done.ensures.on c.set_apart-k.ensures in
+    let on = alone_goes c.args.steps.now c.in-Some.at c.args.count c.args.rest.now c.args.from c.straight_steps.new.k c.in_ok-done.done c.in-Some.is c.in_ok-done.ensures.on in
     let rest = RunsThen (sequence_tree (drop c.in-Some.at c.args.steps.now)) c.args.rest.now c.args.count in
     on_ok_weaker c.commands.result on.covers
     (subst (λ (ks : List Kept). OnOk c.commands.result (Covers rest ks)) c.in_ok-one.ensures (subst (λ (s : List Step). OnOk c.commands.result (Covers (RunsThen (sequence_tree s) c.args.rest.now c.args.count) c.in_ok-one.one.items)) (same_rest c.args.steps.now c.in-Some.at) c.commands.ensures.ok))
 
 pub alone-returns-clause-err : goal.alone-returns-clause-err
 alone-returns-clause-err t c =
-    let on = alone_goes c.args.steps.now c.in-Some.at c.args.count c.args.rest.now c.args.from c.set_apart-k.result c.straight_steps.new.k c.in_ok-done.done c.in-Some.is c.in_ok-done.ensures.on c.set_apart-k.ensures in
+    let on = alone_goes c.args.steps.now c.in-Some.at c.args.count c.args.rest.now c.args.from c.straight_steps.new.k c.in_ok-done.done c.in-Some.is c.in_ok-done.ensures.on in
     let rest = RunsThen (sequence_tree (drop c.in-Some.at c.args.steps.now)) c.args.rest.now c.args.count in
     IfErr-weaker c.commands.result (λ h. Halts rest (c.straight_steps.new.k ∷ []) h) (λ h. Halts (RunsThen (sequence_tree c.args.steps.now) c.args.rest.now c.args.count) (c.args.from ∷ []) h)
     (λ h u. GoesOn-halts (RunsThen (sequence_tree c.args.steps.now) c.args.rest.now c.args.count) rest (c.args.from ∷ []) (c.straight_steps.new.k ∷ []) on h u)

@@ -1,9 +1,8 @@
-use Rattle.std.proofs.Common.{Bool, List, [], subst}
-use Rattle.std.specs.Prelude.{IsTrue, IfOk, IfErr}
-use Rattle.path_checker.specs.Halting.{Halts}
+use Rattle.std.proofs.Common.{Bool, [], subst}
+use Rattle.std.specs.Prelude.{IsTrue}
 use Rattle.std.proofs.lemmas.Result.{IfOk-weaker}
 use Rattle.suit_commands.specs.View.{command_tree}
-use Rattle.path_checker.specs.Exploring.{Kept, Adds, Passes}
+use Rattle.path_checker.specs.Exploring.{Adds, Passes}
 use Rattle.path_checker.proofs.DirectiveLeaves.{never_true}
 use Rattle.path_checker.proofs.Passing.{Passes-added}
 use Rattle.path_checker.proofs.Unconditional.{unconditional_straight}
@@ -14,12 +13,7 @@ pub returns-clause-ok : goal.returns-clause-ok
 returns-clause-ok c =
     let course = does_course (command_tree c.args.step.now.command) c.args.count c.args.step.now.place in
     IfOk-weaker c.command.result (λ v. Adds course c.args.from.items [] v.items c.none-ended.result c.command.new.failed) (λ v. Passes course c.args.from.items v.items)
-    (λ v a. Passes-added course c.args.from.items v.items c.none-ended.result c.command.new.failed a)
-    (subst (λ (ks : List Kept). IfOk c.command.result (λ v. Adds course ks [] v.items c.none-ended.result c.command.new.failed)) c.in_ok-shared.ensures c.command.ensures.ok)
-
-pub returns-clause-err : goal.returns-clause-err
-returns-clause-err c =
-    subst (λ (ks : List Kept). IfErr c.command.result (λ h. Halts (does_course (command_tree c.args.step.now.command) c.args.count c.args.step.now.place) ks h)) c.in_ok-shared.ensures c.command.ensures.err
+    (λ v a. Passes-added course c.args.from.items v.items c.none-ended.result c.command.new.failed a) c.command.ensures.ok
 
 pub command-requires : goal.command-requires
 command-requires c = record {

@@ -1,9 +1,8 @@
-use Rattle.std.proofs.Common.{rules, ◌≡◌, ◌<◌, [], ◌∷◌, subst}
+use Rattle.std.proofs.Common.{rules, ◌≡◌, ◌<◌, []}
 use Rattle.std.proofs.lemmas.Result.{err_from_is_err_and}
 use Rattle.std.specs.Vec.{vec_len}
 use Rattle.suit_commands.specs.View.{command_tree}
-use Rattle.path_checker.specs.Exploring.{Kept, Passes, kept_if}
-use Rattle.path_checker.specs.Halting.{Halts}
+use Rattle.path_checker.specs.Exploring.{kept_if}
 use Rattle.path_checker.proofs.DirectiveLeaves.{never_true}
 use Rattle.path_checker.proofs.Passing.{Passed-start, Passed-step, Passed-halt, Passed-end}
 use Rattle.path_checker.proofs.Popping.{none_left}
@@ -15,15 +14,13 @@ loop-one-init c = Passed-start (does_course (command_tree c.args.step.now.comman
 
 pub loop-one-preserved : goal.loop-one-preserved
 loop-one-preserved c =
-    let passes = subst (λ (k : Kept). Passes (does_course (command_tree c.args.step.now.command) c.args.count c.args.step.now.place) (k ∷ []) (kept_if c.in_ok-goes_on.goes_on c.straight_in.new.k)) c.begin.ensures c.in_ok-goes_on.ensures.ok in
     Passed-step (does_course (command_tree c.args.step.now.command) c.args.count c.args.step.now.place) c.args.from.items c.loop-one.now.items c.pop.new.self.items c.reuse.new.now.items c.loop-one.next.items c.reuse.new.next.items (kept_if c.in_ok-goes_on.goes_on c.straight_in.new.k) c.add_if.new.next.items c.in-Some.one c.loop-one.invariant c.in-Some.ensures.items c.reuse.ensures.now c.reuse.ensures.next
-    passes c.in_ok-add_if.ensures
+    c.in_ok-goes_on.ensures.ok c.in_ok-add_if.ensures
 
 pub returns-in_err-goes_on-clause-err : goal.returns-in_err-goes_on-clause-err
 returns-in_err-goes_on-clause-err c =
     let p = err_from_is_err_and c.from_residual.result c.from_residual.ensures.1 in
-    let halts = subst (λ (k : Kept). Halts (does_course (command_tree c.args.step.now.command) c.args.count c.args.step.now.place) (k ∷ []) c.in_err-goes_on.field-0.0) c.begin.ensures c.in_err-goes_on.ensures.err in
-    rw (p.1, p.2) (Passed-halt (does_course (command_tree c.args.step.now.command) c.args.count c.args.step.now.place) c.args.from.items c.loop-one.now.items c.pop.new.self.items c.loop-one.next.items c.in-Some.one c.loop-one.invariant c.in-Some.ensures.items c.in_err-goes_on.field-0.0 halts)
+    rw (p.1, p.2) (Passed-halt (does_course (command_tree c.args.step.now.command) c.args.count c.args.step.now.place) c.args.from.items c.loop-one.now.items c.pop.new.self.items c.loop-one.next.items c.in-Some.one c.loop-one.invariant c.in-Some.ensures.items c.in_err-goes_on.field-0.0 c.in_err-goes_on.ensures.err)
 
 pub returns-clause-ok : goal.returns-clause-ok
 returns-clause-ok c =

@@ -1,7 +1,7 @@
 use Rattle.std.proofs.Common.{refl, ◌∙◌}
 use Rattle.std.proofs.lemmas.Result.{on_ok_weaker}
 use Rattle.path_checker.specs.Happening.{event_of}
-use Rattle.path_checker.proofs.ChainLaws.{end_told}
+use Rattle.path_checker.proofs.PastLaws.{end_told}
 use Rattle.path_checker.proofs.judge_plan.history.History.add_failure.Goals as goal
 
 pub returns : goal.returns

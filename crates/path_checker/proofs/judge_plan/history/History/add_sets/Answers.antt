@@ -1,4 +1,4 @@
-use Rattle.std.proofs.Common.{List, ◌++◌, sym, ap, ◌∙◌, subst}
+use Rattle.std.proofs.Common.{List, sym, subst}
 use Rattle.path_model.specs.declared.event.Event.{Event}
 use Rattle.path_checker.specs.Selecting.{components_of}
 use Rattle.path_checker.specs.Standing.{Stands}
@@ -10,5 +10,5 @@ invariant_of-self c = subst (λ (es : List Event). Stands c.self.inside.standing
 
 pub invariant_of-self-2 : goal.invariant_of-self-2
 invariant_of-self-2 c =
-    subst (λ (es : List Event). Stands c.self.inside.standing es) (sym (c.in_ok-add.ensures.ok ∙ ap (λ (part : List Event). c.self.inside.past ++ part) c.in_ok-told.ensures))
+    subst (λ (es : List Event). Stands c.self.inside.standing es) (sym c.in_ok-add.ensures.ok)
     (stands_sets c.self.inside.standing c.self.inside.past (components_of c.args.components) c.args.list.now c.self.invariant)

@@ -5,4 +5,4 @@ use Rattle.path_checker.proofs.StandingLaws.{stands_same}
 use Rattle.path_checker.proofs.judge_plan.history.History.copy.Goals as goal
 
 pub invariant_of-result : goal.invariant_of-result
-invariant_of-result c = subst (λ (es : List Event). Stands c.in_ok-standing.standing es) (sym c.in_ok-past.ensures) (stands_same c.self.inside.standing c.in_ok-standing.standing c.self.inside.past c.in_ok-standing.ensures c.self.invariant)
+invariant_of-result c = subst (λ (es : List Event). Stands c.in_ok-standing.standing es) (sym c.copy-past.ensures) (stands_same c.self.inside.standing c.in_ok-standing.standing c.self.inside.past c.in_ok-standing.ensures c.self.invariant)

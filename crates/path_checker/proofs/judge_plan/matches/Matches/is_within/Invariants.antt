@@ -3,5 +3,5 @@ use Rattle.path_checker.specs.Exploring.{In}
 use Rattle.path_checker.specs.Matches.{Match, all_lent}
 use Rattle.path_checker.proofs.judge_plan.matches.Matches.is_within.Given as goal
 
-abbrev pub invariant-loop-lent : goal.invariant-loop-lent
-invariant-loop-lent l = (one : Match) → In one (all_lent (take l.lent-index l.lent-items)) → In one l.others
+abbrev pub invariant-loop-at : goal.invariant-loop-at
+invariant-loop-at l = (one : Match) → In one (all_lent (take l.at l.all)) → In one l.others
