@@ -42,3 +42,4 @@ pub mod Overriding
 pub mod Unconditional
 pub mod Weights
 pub mod Spelling
+pub mod TrailLaws

@@ -2,6 +2,7 @@ pub mod Knowing
 pub mod Matches
 pub mod Holding
 pub mod Happening
+pub mod Trails
 pub mod Forking
 pub mod Choosing
 pub mod Exploring

@@ -6,6 +6,7 @@ use Rattle.path_model.specs.Safe.{HasMatched}
 use Rattle.path_checker.specs.declared.judge_plan.standing.StandingMatches.{StandingMatches}
 use Rattle.path_checker.specs.Exploring.{In}
 use Rattle.path_checker.specs.Matches.{Match, matches_from}
+use Rattle.path_checker.specs.Trails.{Trail, no_trail, trail_from}
 
 -- the matches that stand for a component
 abbrev pub held_of : StandingMatches → ℕ → List Match
@@ -33,3 +34,8 @@ Stands standing events =
 -- if the first matches stand after some events, the second ones stand after one event more
 abbrev pub StandsAfter : StandingMatches → Event → StandingMatches → Type 0
 StandsAfter standing event after = (events : List Event) → Stands standing events → Stands after (events ++ event ∷ [])
+
+-- these matches stand after the events, and this is their trail
+pub record IsHistory (standing : StandingMatches) (trail : Trail) (events : List Event) : Type 0 where
+  pub stands : Stands standing events
+  pub trail_is : trail ≡ trail_from no_trail events

@@ -102,7 +102,7 @@ fn verdict_on(alloc: Global, k: Kept<'_>) -> CheckVerdict
 
 // Judges a procedure in the given memory. Returns `None` if it is safe, and otherwise which conditions fail on a path to an
 // uncovered invoke.
-fn judge_in<'a>(memory: Memory<'a>, plan: Plan<'a>) -> Result<Option<Vec<u32>>, AllocError>
+fn judge_in<'a>(memory: Memory<'a>, plan: Plan<'a>) -> Result<Option<Vec<u64>>, AllocError>
     requires { ArePlan (plan_tree plan) }
     ensures { IfOk result (λ misses. misses ≡ None → Safe (plan_tree plan.entry)) }
 {
@@ -110,15 +110,12 @@ fn judge_in<'a>(memory: Memory<'a>, plan: Plan<'a>) -> Result<Option<Vec<u32>>, 
     match procedure(memory, &plan, from) {
         Ok(_) => Ok(None),
         Err(Halt::NoMemory) => Err(AllocError),
-        Err(Halt::Uncovered(k)) => {
-            let misses = k.into_kept().history.misses(memory)?;
-            Ok(Some(misses))
-        }
+        Err(Halt::Uncovered(k)) => Ok(Some(k.into_kept().history.into_misses())),
     }
 }
 
 // Follows the path on which these conditions fail, up to an uncovered invoke.
-fn spell_in<'a>(memory: Memory<'a>, plan: Plan<'a>, misses: &[u32]) -> CheckVerdict
+fn spell_in<'a>(memory: Memory<'a>, plan: Plan<'a>, misses: &[u64]) -> CheckVerdict
     requires { ArePlan (plan_tree plan) }
     ensures { Judges (plan_tree plan.entry) result }
 {
@@ -137,7 +134,7 @@ fn judge_with<'a>(
     shared: &'a Bump,
     left: &'a Cell<u64>,
     plan: Plan<'a>,
-) -> Result<Option<Vec<u32>>, AllocError>
+) -> Result<Option<Vec<u64>>, AllocError>
     requires { ArePlan (plan_tree plan) }
     ensures { IfOk result (λ misses. misses ≡ None → Safe (plan_tree plan.entry)) }
 {
@@ -153,7 +150,7 @@ fn spell_with<'a>(
     shared: &'a Bump,
     left: &'a Cell<u64>,
     plan: Plan<'a>,
-    misses: &[u32],
+    misses: &[u64],
 ) -> CheckVerdict
     requires { ArePlan (plan_tree plan) }
     ensures { Judges (plan_tree plan.entry) result }
@@ -167,7 +164,7 @@ fn spell_with<'a>(
 }
 
 // Judges a procedure in memory that is freed afterwards.
-fn judged(alloc: Global, plan: &Plan<'_>) -> Result<Option<Vec<u32>>, AllocError>
+fn judged(alloc: Global, plan: &Plan<'_>) -> Result<Option<Vec<u64>>, AllocError>
     requires { ArePlan (plan_tree plan.now) }
     ensures { IfOk result (λ misses. misses ≡ None → Safe (plan_tree plan.now)) }
 {
@@ -179,7 +176,7 @@ fn judged(alloc: Global, plan: &Plan<'_>) -> Result<Option<Vec<u32>>, AllocError
 }
 
 // Follows a path in memory that is freed afterwards.
-fn spelled(alloc: Global, plan: &Plan<'_>, misses: &[u32]) -> CheckVerdict
+fn spelled(alloc: Global, plan: &Plan<'_>, misses: &[u64]) -> CheckVerdict
     requires { ArePlan (plan_tree plan.now) }
     ensures { Judges (plan_tree plan.now) result }
 {

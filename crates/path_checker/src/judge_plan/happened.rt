@@ -3,6 +3,7 @@
 ghost use Rattle.std.specs.Prelude.{◌≡◌};
 ghost use Rattle.std.specs.Option.{option_copied};
 ghost use Rattle.path_checker.specs.Happening.{event_of};
+ghost use Rattle.path_checker.specs.Trails.{is_miss};
 
 use crate::judge_plan::matches::Match;
 use path_model::Event;
@@ -62,6 +63,17 @@ fn copied(digest: Option<&Digest>) -> Option<Digest>
 }
 
 impl<'a> Happened<'a> {
+    /// Whether it is a failed condition.
+    pub(crate) fn is_miss(&self) -> bool
+        ensures { result ≡ is_miss (event_of self.now) }
+    {
+        match *self {
+            Happened::Tried { passed, .. } => !passed,
+            Happened::Missed { .. } => true,
+            _ => false,
+        }
+    }
+
     /// The event, with its own copy of the digest.
     pub(crate) fn told(&self) -> Event
         ensures { result ≡ event_of self.now }

@@ -139,6 +139,14 @@ impl<'a> Held<'a> {
         }
     }
 
+    /// Whether both may have the same matches, by the fingerprints of several.
+    pub(crate) fn may_be(&self, other: &Held<'_>) -> bool {
+        match (&self.held, &other.held) {
+            (Holding::Several(all), Holding::Several(others)) => all.sum() == others.sum(),
+            _ => true,
+        }
+    }
+
     /// How many there are, where duplicates count.
     pub(crate) fn len(&self) -> usize {
         match &self.held {

@@ -9,6 +9,7 @@ ghost use Rattle.path_checker.specs.Happening.{event_of, after_end, sets_at, seq
 ghost use Rattle.path_checker.specs.Matches.{stated_by, match_of};
 ghost use Rattle.path_checker.specs.Selecting.{components_of};
 ghost use Rattle.path_checker.specs.Standing.{StandsAfter};
+ghost use Rattle.path_checker.specs.Trails.{no_trail, trail_after, trail_from};
 
 use crate::judge_plan::happened::{Ended, Happened};
 use crate::judge_plan::matches::{Found, Match};
@@ -47,11 +48,11 @@ impl<'a> Model for History<'a> {
 
     ghost Value = { List Event };
 
-    ghost use Rattle.path_checker.specs.Standing.{Stands};
+    ghost use Rattle.path_checker.specs.Standing.{IsHistory};
 
     ghost view = { λ a. a.past };
 
-    ghost invariant = { λ a. Stands a.standing a.past };
+    ghost invariant = { λ a. IsHistory a.standing a.trail a.past };
 }
 
 // Updates the matches that stand, after an event.
@@ -72,6 +73,20 @@ fn stand_after<'a>(
     }
 }
 
+// Updates the trail and the matches that stand, after an event.
+fn follow<'a>(
+    memory: Memory<'a>,
+    trail: &mut Trail,
+    standing: &mut StandingMatches<'a>,
+    event: Happened<'a>,
+) -> Result<(), AllocError>
+    ensures trail { OnOk result (trail.new ≡ trail_after trail.old (event_of event.entry)) }
+    ensures stands { OnOk result (StandsAfter standing.old (event_of event.entry) standing.new) }
+{
+    trail.add(event)?;
+    stand_after(memory, standing, event)
+}
+
 impl<'a> History<'a> {
     /// No events and no matches. Events that are added are not recorded. Does not allocate.
     pub(crate) fn new(alloc: Global) -> History<'a>
@@ -79,7 +94,7 @@ impl<'a> History<'a> {
     {
         History {
             past: Past::new(),
-            trail: Trail::new(),
+            trail: Trail::new(alloc),
             standing: StandingMatches::none(alloc),
         }
     }
@@ -91,7 +106,7 @@ impl<'a> History<'a> {
         let past = Past::recording(alloc)?;
         Ok(History {
             past,
-            trail: Trail::new(),
+            trail: Trail::new(alloc),
             standing: StandingMatches::none(alloc),
         })
     }
@@ -101,10 +116,11 @@ impl<'a> History<'a> {
         ensures { IfOk result (λ history. history ≡ self.now) }
     {
         let past = self.past.copy();
+        let trail = self.trail.copy(memory.alloc)?;
         let standing = self.standing.copy(memory.alloc)?;
         Ok(History {
             past,
-            trail: self.trail,
+            trail,
             standing,
         })
     }
@@ -121,11 +137,11 @@ impl<'a> History<'a> {
         ensures { OnOk result (self.new ≡ self.old ++ event_of event.entry ∷ []) }
     {
         self.past.add(memory.alloc, Told::One(event))?;
-        self.trail.count();
-        match stand_after(memory, &mut self.standing, event) {
+        match follow(memory, &mut self.trail, &mut self.standing, event) {
             Ok(()) => Ok(()),
             Err(error) => {
                 self.past.clear();
+                self.trail = Trail::new(memory.alloc);
                 self.standing = StandingMatches::none(memory.alloc);
                 Err(error)
             }
@@ -159,6 +175,8 @@ impl<'a> History<'a> {
     {
         self.past
             .add(memory.alloc, Told::Swapped { component, source })?;
+        self.trail.count();
+        self.trail.count();
         self.standing.lose(component);
         self.standing.lose(source);
         Ok(())
@@ -197,7 +215,7 @@ impl<'a> History<'a> {
         self.add(memory, Happened::Failed { place })
     }
 
-    /// Adds the events of a failed condition at a place, which is passed over.
+    /// Adds the events of a failed condition at a place.
     pub(crate) fn with_end(
         self,
         memory: Memory<'a>,
@@ -216,19 +234,22 @@ impl<'a> History<'a> {
             Ended::Exhausted => return Ok(self),
         };
         let mut history = self;
-        history.trail.pass_over(memory)?;
         history.add_failure(memory, event, place)?;
         Ok(history)
     }
 
     /// The number of the next condition on the path that led here.
-    pub(crate) fn number(&self) -> u32 {
+    pub(crate) fn number(&self) -> u64
+        ensures { result ≡ (trail_from no_trail self.now).events }
+    {
         self.trail.number()
     }
 
-    /// The numbers of the failed conditions that were passed over on that path, the last one first.
-    pub(crate) fn misses(&self, memory: Memory<'a>) -> Result<Vec<u32>, AllocError> {
-        self.trail.misses(memory)
+    /// The numbers of the failed conditions on that path, in order.
+    pub(crate) fn into_misses(self) -> Vec<u64>
+        ensures { result.items ≡ (trail_from no_trail self.entry).misses }
+    {
+        self.trail.into_misses()
     }
 
     /// A match for an image match at a place. Once many were made, the latest that stands are tried first.
@@ -356,8 +377,8 @@ impl<'a> History<'a> {
     }
 
     /// A fingerprint. If the same matches stand, it is the same, unless memory runs out.
-    pub(crate) fn fingerprint(&self) -> u64 {
-        self.standing.fingerprint()
+    pub(crate) fn fingerprint(&self, salt: u64) -> u64 {
+        self.standing.fingerprint(salt)
     }
 
     /// The cost of comparing the matches.

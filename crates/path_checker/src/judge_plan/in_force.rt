@@ -66,8 +66,6 @@ pub(crate) struct InForce<'a> {
     held: Rc<Vec<Row<'a>>>,
     // Whether some were overridden since they were last shared with other states.
     fresh: bool,
-    // What is mixed into fingerprints.
-    salt: u64,
 }
 
 impl<'a> Model for InForce<'a> {
@@ -398,16 +396,12 @@ fn share_rows<'a>(
 
 impl<'a> InForce<'a> {
     /// Nothing is in force.
-    pub(crate) fn new(alloc: Global, salt: u64) -> Result<InForce<'a>, AllocError>
+    pub(crate) fn new(alloc: Global) -> Result<InForce<'a>, AllocError>
         ensures { IfOk result (λ params. params ≡ none_in_force) }
     {
         overriding_laws();
         let held = Rc::new(alloc, empty_rows(alloc)?)?;
-        Ok(InForce {
-            held,
-            fresh: false,
-            salt,
-        })
+        Ok(InForce { held, fresh: false })
     }
 
     /// A copy that shares the memory.
@@ -418,7 +412,6 @@ impl<'a> InForce<'a> {
         Ok(InForce {
             held,
             fresh: self.fresh,
-            salt: self.salt,
         })
     }
 
@@ -463,9 +456,9 @@ impl<'a> InForce<'a> {
     fn share_all(&mut self, memory: Memory<'a>) -> Result<(), AllocError>
         ensures { OnOk result (self.new ≡ self.old) }
     {
-        let last = &memory.last.params;
+        let (last, salt) = (&memory.last.params, memory.last.salt);
         if let Some(made) = last.replace(None) {
-            let alike = made.fingerprint(ROWS) == self.fingerprint(ROWS);
+            let alike = made.fingerprint(ROWS, salt) == self.fingerprint(ROWS, salt);
             if alike && memory.may_read(self.bytes()) && made.is_same(self) {
                 self.held = made.held.clone()?;
                 last.set(Some(made));
@@ -530,12 +523,12 @@ impl<'a> InForce<'a> {
     }
 
     /// A fingerprint of the first `count` components. Where the same is in force, it is the same.
-    pub(crate) fn fingerprint(&self, count: usize) -> u64 {
+    pub(crate) fn fingerprint(&self, count: usize, salt: u64) -> u64 {
         let rows = self.rows();
         let mut print = 0;
         let mut index = 0;
         while index < rows.len() && index < count {
-            print = mixed(print, rows[index].fingerprint(self.salt));
+            print = mixed(print, rows[index].fingerprint(salt));
             index += 1;
         }
         print

@@ -63,7 +63,7 @@ pub(crate) trait Standing: Drop {
         ensures { IsTrue result → same self.now other.now };
 
     /// A fingerprint. Those that are the same have equal ones, unless memory runs out.
-    fn fingerprint(&self) -> u64;
+    fn fingerprint(&self, salt: u64) -> u64;
 
     /// An estimate of what a comparison costs: 1 for each match, each value ruled out, and each 64 bytes of parameters.
     fn cost(&self) -> u64;
@@ -87,10 +87,10 @@ impl<'a> Standing for Stopped<'a> {
             && self.same_matches(other)
     }
 
-    fn fingerprint(&self) -> u64 {
+    fn fingerprint(&self, salt: u64) -> u64 {
         mixed(
             mixed(self.soft_failure as u64, self.facts.fingerprint()),
-            self.history.fingerprint(),
+            self.history.fingerprint(salt),
         )
     }
 
@@ -110,12 +110,15 @@ impl<'a> Standing for Kept<'a> {
             && self.history.same_matches(&other.history)
     }
 
-    fn fingerprint(&self) -> u64 {
+    fn fingerprint(&self, salt: u64) -> u64 {
         let count = self.facts.as_slice().len();
-        let known = mixed(self.facts.fingerprint(), self.params.fingerprint(count));
+        let known = mixed(
+            self.facts.fingerprint(),
+            self.params.fingerprint(count, salt),
+        );
         mixed(
             mixed(self.soft_failure as u64, known),
-            self.history.fingerprint(),
+            self.history.fingerprint(salt),
         )
     }
 

@@ -23,9 +23,8 @@ const CROWD: usize = 4;
 // more bits in a link to tell matches apart.
 #[derive(Clone, Copy)]
 struct Form {
-    // How many bits of a fingerprint choose a side, and how many sides there are.
+    // How many bits of a fingerprint choose a side.
     bits: u32,
-    sides: usize,
     // The bits of a link that hold an index.
     indices: u32,
 }
@@ -40,16 +39,19 @@ impl Form {
         if count > SHORT {
             Form {
                 bits: 1,
-                sides: 2,
                 indices: 0x00ff_ffff,
             }
         } else {
             Form {
                 bits: 2,
-                sides: 4,
                 indices: 0x0003_ffff,
             }
         }
+    }
+
+    // How many sides there are.
+    fn sides(self) -> usize {
+        1_usize.wrapping_shl(self.bits)
     }
 
     // The depth from which on all bits of the fingerprint choose the side.
@@ -205,7 +207,7 @@ impl Links {
         Ok(Links {
             form,
             first: first_links(alloc, count / 2)?,
-            below: Vec::with_capacity(alloc, count.saturating_mul(form.sides))?,
+            below: Vec::with_capacity(alloc, count.saturating_mul(form.sides()))?,
             count: 0,
             sum: 0,
         })
@@ -242,7 +244,7 @@ impl Links {
 
     // Where the links to the children of the match at an index begin.
     fn below(&self, at: usize) -> usize {
-        at.wrapping_mul(self.form.sides)
+        at.wrapping_shl(self.form.bits)
     }
 
     // The link to a child of the match at an index. It does not branch by the side, which no processor could foresee.
@@ -312,7 +314,7 @@ impl Links {
         let link = Link::to(self.count, print, self.form);
         let room = room_after(self.below.len(), self.below.capacity());
         self.below.reserve_exact(room)?;
-        for _ in 0..self.form.sides {
+        for _ in 0..self.form.sides() {
             self.below.push(Link::none())?;
         }
         self.count = self.count.saturating_add(1);

@@ -94,8 +94,6 @@ pub(crate) struct Last<'a> {
     // kept.
     places: Cell<&'a [Cell<u64>]>,
     sought: Cell<usize>,
-    // The failed conditions that states passed over.
-    misses: Cell<Vec<Miss>>,
     // How many states are kept at once.
     states: Cell<usize>,
     // How many bytes of parameters may still be compared for sharing.
@@ -115,27 +113,6 @@ pub(crate) struct LastTold<'a> {
     pub own: &'a Match<'a>,
     pub at: usize,
     pub second: bool,
-}
-
-// A failed condition that a state passed over, by its number, and the one before it, counted from 1, or 0 for none.
-#[derive(Clone, Copy)]
-struct Miss {
-    number: u32,
-    before: u32,
-}
-
-// The numbers of a failed condition and of those before it.
-fn numbers_from(alloc: Global, all: &[Miss], last: u32) -> Result<Vec<u32>, AllocError> {
-    let mut numbers = Vec::new(alloc);
-    let mut at = last;
-    for _ in 0..all.len() {
-        let Some(miss) = all.get((at as usize).wrapping_sub(1)) else {
-            break;
-        };
-        numbers.push(miss.number)?;
-        at = miss.before;
-    }
-    Ok(numbers)
 }
 
 /// The last knowledge of each component, in any state.
@@ -181,7 +158,7 @@ impl LastKnown {
 
 impl<'a> Last<'a> {
     // No values yet.
-    fn new(alloc: Global, arena: &'a Bump, compared: &'a Cell<u64>, salt: u64) -> Last<'a> {
+    fn new(arena: &'a Bump, compared: &'a Cell<u64>, salt: u64) -> Last<'a> {
         Last {
             arena,
             salt,
@@ -201,7 +178,6 @@ impl<'a> Last<'a> {
             indices: Cell::new(&[]),
             places: Cell::new(&[]),
             sought: Cell::new(0),
-            misses: Cell::new(Vec::new(alloc)),
             states: Cell::new(0),
             left: Cell::new(READ),
             params: Cell::new(None),
@@ -289,40 +265,19 @@ impl<'a> Memory<'a> {
         left: &'a Cell<u64>,
         salt: u64,
     ) -> Result<Memory<'a>, AllocError> {
-        let last = arena.try_alloc(Last::new(alloc, arena, left, salt))?;
+        let last = arena.try_alloc(Last::new(arena, left, salt))?;
         Ok(Memory { alloc, last })
     }
 
     /// Frees the values that were made recently.
     pub(crate) fn release(&self) {
         self.last.matches.set(Held::none());
-        self.last.misses.set(Vec::new(self.alloc));
         self.last.params.set(None);
         self.last.rows.set(None);
         self.last.known.set(None);
         if let Some(known) = self.last.each.get() {
             known.release();
         }
-    }
-
-    /// Notes a failed condition that a state passed over, and the one before it on the same path. Returns how it is counted,
-    /// from 1.
-    pub(crate) fn note_miss(&self, number: u32, before: u32) -> Result<u32, AllocError> {
-        let mut all = self.last.misses.replace(Vec::new(self.alloc));
-        all.push(Miss { number, before })?;
-        let Ok(last) = u32::try_from(all.len()) else {
-            return Err(AllocError);
-        };
-        self.last.misses.set(all);
-        Ok(last)
-    }
-
-    /// The numbers of a failed condition and of those before it on the same path, the last one first.
-    pub(crate) fn misses(&self, last: u32) -> Result<Vec<u32>, AllocError> {
-        let all = self.last.misses.replace(Vec::new(self.alloc));
-        let numbers = numbers_from(self.alloc, &all, last);
-        self.last.misses.set(all);
-        numbers
     }
 
     /// Notes that this many states are kept at once, unless more are noted already. Returns the previous note, for

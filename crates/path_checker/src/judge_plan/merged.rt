@@ -139,7 +139,7 @@ fn merged<T: Standing>(memory: Memory<'_>, from: Vec<T>) -> Result<Vec<T>, Alloc
     let mut left = from;
     while let Some(one) = left.pop() {
         fit(&mut left);
-        let print = one.fingerprint();
+        let print = one.fingerprint(memory.last.salt);
         if stands_for(memory, &kept, &seen, print, &one) {
             continue;
         }

@@ -2,31 +2,29 @@
 
 use std::cell::Cell;
 
-/// The conditions that fail on a path and are passed over, by their numbers (`Trail::number`), the last one first.
+/// The conditions that fail on a path, in order, by their numbers (`Trail::number`).
 #[derive(Drop)]
 pub(crate) struct Misses<'s> {
-    numbers: &'s [u32],
-    // How many of them are still to come.
-    left: Cell<usize>,
+    numbers: &'s [u64],
+    // How many of them have come.
+    come: Cell<usize>,
 }
 
 impl<'s> Misses<'s> {
-    /// Conditions that are all still to come.
-    pub(crate) fn new(numbers: &'s [u32]) -> Misses<'s> {
+    /// Conditions none of which has come.
+    pub(crate) fn new(numbers: &'s [u64]) -> Misses<'s> {
         Misses {
             numbers,
-            left: Cell::new(numbers.len()),
+            come: Cell::new(0),
         }
     }
 
     /// Whether the condition with this number fails. It is asked for each condition of the path, in order.
-    pub(crate) fn has(&self, number: u32) -> bool {
-        let Some(left) = self.left.get().checked_sub(1) else {
-            return false;
-        };
-        match self.numbers.get(left) {
+    pub(crate) fn has(&self, number: u64) -> bool {
+        let come = self.come.get();
+        match self.numbers.get(come) {
             Some(next) if *next == number => {
-                self.left.set(left);
+                self.come.set(come.wrapping_add(1));
                 true
             }
             _ => false,

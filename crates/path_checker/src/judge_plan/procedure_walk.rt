@@ -29,7 +29,7 @@ fn begun<'a>(memory: Memory<'a>, count: u32, history: History<'a>) -> Result<Kep
 {
     let alloc = memory.alloc;
     let facts = Facts::unknown(alloc, count)?;
-    let params = InForce::new(alloc, memory.last.salt)?;
+    let params = InForce::new(alloc)?;
     Ok(Kept {
         facts,
         history,

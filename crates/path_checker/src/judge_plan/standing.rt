@@ -22,8 +22,6 @@ pub(crate) struct StandingMatches<'a> {
     of: Vec<Held<'a>>,
     // How many were added, whether or not they still stand.
     added: u32,
-    // What is mixed into fingerprints, once a match was added.
-    salt: u64,
     // The index of the match of each component that `last` tries.
     last: Cell<[u16; ROOM]>,
 }
@@ -36,7 +34,6 @@ impl<'a> StandingMatches<'a> {
         StandingMatches {
             of: Vec::new(alloc),
             added: 0,
-            salt: 0,
             last: Cell::new([0; ROOM]),
         }
     }
@@ -52,7 +49,6 @@ impl<'a> StandingMatches<'a> {
         Ok(StandingMatches {
             of,
             added: self.added,
-            salt: self.salt,
             last: Cell::new(self.last.get()),
         })
     }
@@ -191,7 +187,6 @@ impl<'a> StandingMatches<'a> {
         self.widen(index)?;
         self.of[index].add(memory, index, own)?;
         self.added = self.added.saturating_add(1);
-        self.salt = memory.last.salt;
         Ok(())
     }
 
@@ -217,7 +212,7 @@ impl<'a> StandingMatches<'a> {
         }
         let mut index = 0;
         while index < mine.len() {
-            if !is_same_held(&mine[index], &others[index], self.salt) {
+            if !is_same_held(&mine[index], &others[index]) {
                 return false;
             }
             index += 1;
@@ -231,20 +226,20 @@ impl<'a> StandingMatches<'a> {
     }
 
     /// A fingerprint. If the same matches stand, it is the same, unless memory runs out.
-    pub(crate) fn fingerprint(&self) -> u64 {
+    pub(crate) fn fingerprint(&self, salt: u64) -> u64 {
         let mut print = 0;
         for held in self.of.as_slice() {
-            print = mixed(print, held.sum(self.salt));
+            print = mixed(print, held.sum(salt));
         }
         print
     }
 }
 
 // Whether the same matches of a component stand in both. `false` if a search misses one.
-fn is_same_held<'a>(one: &Held<'a>, other: &Held<'a>, salt: u64) -> bool
+fn is_same_held<'a>(one: &Held<'a>, other: &Held<'a>) -> bool
     ensures { IsTrue result → SameMembers one.now other.now }
 {
-    if one.sum(salt) != other.sum(salt) {
+    if !one.may_be(other) {
         return false;
     }
     one.is_within(other) && other.is_within(one)

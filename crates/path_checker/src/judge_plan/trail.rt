@@ -1,41 +1,80 @@
 //! Which failed conditions a state passed over. With these one path that leads to it is known.
 
-use crate::judge_plan::memory::Memory;
-use std::alloc::AllocError;
+ghost use Rattle.std.specs.Prelude.{◌≡◌, ◌+◌, ◌%◌, IfOk, OnOk, OnErr};
+ghost use Rattle.path_checker.specs.Happening.{event_of};
+ghost use Rattle.path_checker.specs.Trails.{no_trail, trail_after};
 
-/// How many events a state has, and the last failed condition that it passed over.
-#[derive(Clone, Copy)]
+use crate::judge_plan::happened::Happened;
+use std::alloc::{AllocError, Global};
+use std::marker::Model;
+
+/// How many events a state has, without those that set a parameter, and how many come before each failed condition.
+#[derive(Drop)]
 pub(crate) struct Trail {
-    // Without those of overrides and swaps, of which none is a condition.
-    events: u32,
-    // As `Memory::note_miss` numbers them, or 0 for none.
-    last: u32,
+    events: u64,
+    misses: Vec<u64>,
+}
+
+impl Model for Trail {
+    ghost use Rattle.path_checker.specs.Trails.{Trail as TheTrail};
+
+    ghost Value = { TheTrail };
+
+    ghost view = { λ a. record { events = a.events; misses = a.misses.items } };
 }
 
 impl Trail {
-    /// No events.
-    pub(crate) fn new() -> Trail {
-        Trail { events: 0, last: 0 }
+    /// No events. Does not allocate.
+    pub(crate) fn new(alloc: Global) -> Trail
+        ensures { result ≡ no_trail }
+    {
+        Trail {
+            events: 0,
+            misses: Vec::new(alloc),
+        }
     }
 
-    /// Counts an event.
-    pub(crate) fn count(&mut self) {
+    /// A copy.
+    pub(crate) fn copy(&self, alloc: Global) -> Result<Trail, AllocError>
+        ensures { IfOk result (λ trail. trail ≡ self.now) }
+    {
+        let misses = Vec::from_slice(alloc, &self.misses)?;
+        Ok(Trail {
+            events: self.events,
+            misses,
+        })
+    }
+
+    /// Adds an event.
+    pub(crate) fn add(&mut self, event: Happened<'_>) -> Result<(), AllocError>
+        ensures ok { OnOk result (self.new ≡ trail_after self.old (event_of event.entry)) }
+        ensures err { OnErr result (self.new ≡ self.old) }
+    {
+        if event.is_miss() {
+            self.misses.push(self.events)?;
+        }
+        self.events = self.events.wrapping_add(1);
+        Ok(())
+    }
+
+    /// Counts a write.
+    pub(crate) fn count(&mut self)
+        ensures { self.new ≡ record self.old { events = (self.old.events + 1) % 18446744073709551616 } }
+    {
         self.events = self.events.wrapping_add(1);
     }
 
     /// The number of the next condition: no two of a path have the same one.
-    pub(crate) fn number(&self) -> u32 {
+    pub(crate) fn number(&self) -> u64
+        ensures { result ≡ self.now.events }
+    {
         self.events
     }
 
-    /// Notes that the next condition fails and is passed over.
-    pub(crate) fn pass_over(&mut self, memory: Memory<'_>) -> Result<(), AllocError> {
-        self.last = memory.note_miss(self.events, self.last)?;
-        Ok(())
-    }
-
-    /// The numbers of the failed conditions that were passed over, the last one first.
-    pub(crate) fn misses(&self, memory: Memory<'_>) -> Result<Vec<u32>, AllocError> {
-        memory.misses(self.last)
+    /// The numbers of the failed conditions, in order.
+    pub(crate) fn into_misses(self) -> Vec<u64>
+        ensures { result.items ≡ self.misses }
+    {
+        self.misses
     }
 }

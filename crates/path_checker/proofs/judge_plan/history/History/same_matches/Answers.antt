@@ -8,4 +8,4 @@ pub returns : goal.returns
 returns c t =
     subst (λ (es : List Event). SameMatches es c.args.other.now) c.self.view_is
     (subst (λ (es : List Event). SameMatches c.self.inside.past es) c.other.view_is
-    (same_standing c.self.inside.standing c.other.inside.standing _ _ c.self.invariant c.other.invariant (c.is_same.ensures t)))
+    (same_standing c.self.inside.standing c.other.inside.standing _ _ c.self.invariant.stands c.other.invariant.stands (c.is_same.ensures t)))

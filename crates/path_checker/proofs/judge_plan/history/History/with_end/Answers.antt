@@ -12,4 +12,4 @@ returns c =
       | in-Missed w ↦ ap (λ e. after_end c.args.self e c.args.place) w.in-Missed.is ∙ ap (λ h. c.args.self ++ event_of h ∷ Failed c.args.place ∷ []) (sym w.event-is)
     ]
     in
-    c.in_ok-add_failure.ensures ∙ ap (λ es. es ++ event_of c.match-ended.event ∷ Failed c.args.place ∷ []) c.history.view_is ∙ sym told
+    c.in_ok-add_failure.ensures ∙ sym told
