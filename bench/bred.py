@@ -25,6 +25,8 @@ LONG_COUNT = 56_000
 PAIR_COUNT = 65_500
 # How many sizes the lost member invokes in another order, at three components after another, and how many times.
 LOST_COUNT, LOST_TIMES = 40_000, 49
+# The sizes that the missed member invokes in another order, at five components after another, and how many times.
+MISSED, MISSED_TIMES = range(3_000, 65_000), 28
 TESTS, ACTS = (3, 1, 2, 24, 5, 6), (18, 23, 31, 21, 22)
 NUMBERS, IDENTITIES, BYTES = (5, 14, 22), (1, 2, 24), (18, 23, 21)
 LENGTHS = (1, 2, 31, 64, 65, 300, 1_000, 1_100, 1_900, 4_000, 4_096, 4_097, 13_000)
@@ -231,7 +233,16 @@ def lost_member():
     return byte_string(worst.spelled(commands_of((pick(0, 1, 2), sets((3, IMAGE)), *matched, three, run(*invoked), *ENDING))))
 
 
-OTHERS = {"beside": long_member, "along": dear_member, "aside": lost_member}
+@functools.lru_cache
+def missed_member():
+    first, second = (random.Random(seed).sample(MISSED, len(MISSED)) for seed in (1, 2))
+    matched, invoked = ([node for number in order for node in (size(number), act)] for order, act in ((first, MATCH), (second, INVOKE)))
+    own = [node for one in range(5) for node in (pick(one), sets((3, ("digest", one + 1, 32))))]
+    five = pick(*((0, 1, 2, 3, 4) * MISSED_TIMES)[:MISSED_TIMES])
+    return byte_string(worst.spelled(commands_of((*own, pick(0, 1, 2, 3, 4), *matched, five, run(*invoked), *ENDING))))
+
+
+OTHERS = {"beside": long_member, "along": dear_member, "aside": lost_member, "among": missed_member}
 
 
 class Plan:

@@ -9,6 +9,7 @@ from against_pairs import against_pairs
 from against_room import against_room
 from against_sides import against_sides
 from against_tables import against_tables
+from against_walks import against_walks
 from against_words import against_words
 from bred import ALL, EACH, IMAGE, INVOKE, MATCH, SWAP, WRITE, Plan, again, nested, pick, run, sets, size, tries
 
@@ -209,7 +210,7 @@ def known():
     """All plans, by name."""
     all = {}
     for kind in (outside, in_states, compared, in_loops, long_ones, against, against_alone, against_lists, against_tables, against_words,
-                 against_pairs, against_last, against_room, against_sides):
+                 against_pairs, against_last, against_room, against_sides, against_walks):
         for name, nodes, place, count in kind():
             nodes = nodes if isinstance(nodes[0], tuple) else (nodes,)
             all[name] = Plan(nodes, place, count)
