@@ -8,6 +8,7 @@ use Rattle.det_cbor.specs.HeadReading.{◌>>=◌}
 use Rattle.det_cbor.specs.OneReading.{IsItem, StartsWithItem}
 use Rattle.det_cbor.specs.Position.{Position}
 use Rattle.det_cbor.specs.ResultLaws.{same_ok, same_err, not_both}
+use Rattle.det_cbor.specs.declared.reason.CborFault.{CborFault}
 use Rattle.det_cbor.specs.declared.reason.CborFault.TheVariants.{Refused, NoMemory}
 use Rattle.det_cbor.specs.declared.reason.Reason.{Reason}
 use Rattle.suit_params.specs.HeldLaws.{ReadsAs, whole_is}
@@ -91,9 +92,10 @@ decoded_item bytes y n item every =
     let same = every item.0 (length bytes) (starts bytes item.0 item.1) in
     subst (λ (x : DataItem). Spells x bytes) (sym same.0) item.1
 
-pub never_faulty : (bytes : List ℕ) (place : ℕ) (reason : Reason) → IsItem bytes → ((x : DataItem) (used : ℕ) → StartsWithItem bytes x used → Refused place reason ≡ NoMemory) → ⊥
-never_faulty bytes place reason item every =
-    let never : Refused place reason ≡ NoMemory = every item.0 (length bytes) (starts bytes item.0 item.1) in
+pub never_faulty : (bytes : List ℕ) (fault : CborFault) (place : ℕ) (reason : Reason) → IsItem bytes → fault ≡ Refused place reason
+    → ((x : DataItem) (used : ℕ) → StartsWithItem bytes x used → fault ≡ NoMemory) → ⊥
+never_faulty bytes fault place reason item is every =
+    let never : Refused place reason ≡ NoMemory = sym is ∙ every item.0 (length bytes) (starts bytes item.0 item.1) in
     absurd cc
 
 -- ---- bytes spell one item, or are refused once
