@@ -18,40 +18,12 @@ diag map
 0
 {2: 1, 3: 1}
 
-file numbers
-841bffffffffffffffff3bffffffffffffffff0020
-
-diag numbers
-0
-[18446744073709551615, -18446744073709551616, 0, -1]
-
 file strings
 8344000fa0ff4066225c0a7fc3a9
 
 diag strings
 0
 [h'000fa0ff', h'', "\"\\\u000a\u007fé"]
-
-file tag
-c1d81820
-
-diag tag
-0
-1(24(-1))
-
-file others
-83f4f6a0
-
-diag others
-0
-[false, null, {}]
-
-file deepest
-81*15 80
-
-diag deepest
-0
-[[[[[[[[[[[[[[[[]]]]]]]]]]]]]]]]
 
 file e.suit
 d86ba2025827815824822f5820 00*32 035847a501010201035835a2028181410004582c8214a2035824822f5820ba7816bf8f01cfea414140de5dae2223b00361a396177a9cb410ff61f20015ad0e03074382030f094382170f
@@ -71,55 +43,6 @@ file number
 diag number
 3
 refused at 0: not shortest
-
-file later
-8200f7
-
-diag later
-3
-refused at 2: kind
-
-file cut
-82f538
-
-diag cut
-3
-refused at 3: truncated
-
-file text
-8161ff
-
-diag text
-3
-refused at 1: bad text
-
-file keys
-a203010201
-
-diag keys
-3
-refused at 3: order
-
-file twice
-a203010301
-
-diag twice
-3
-refused at 3: repeated
-
-file open
-9fff
-
-diag open
-3
-refused at 0: indefinite
-
-file deeper
-81*16 80
-
-diag deeper
-3
-refused at 16: too deep
 
 file behind
 82f5381800
