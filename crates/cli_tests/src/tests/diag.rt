@@ -3,7 +3,7 @@
 use crate::tests::goes::both_go;
 use std::alloc::AllocError;
 
-/// Items of each kind, and an envelope.
+/// Items, one of them an envelope.
 const NOTATIONS: &str = r#"file array
 82f53818
 
