@@ -11,11 +11,11 @@ use Rattle.suit_cli.proofs.diag.item_in.Goals as goal
 pub decoded-requires : goal.decoded-requires
 decoded-requires c = is_item c.args.bytes.now _ (λ i. omega (arith, c.type_inv.bytes i)) (c.in-Ok.ensures ∙ ap only_from c.new.ensures)
 
-pub returns-in_err-decoded : goal.returns-in_err-decoded
-returns-in_err-decoded c here = let p = err_from_is_err_and c.from_residual.result c.from_residual.ensures.1 in rw (p.1, p.2) refl
+pub returns-in_err-decoded-in-Ok : goal.returns-in_err-decoded-in-Ok
+returns-in_err-decoded-in-Ok c here = let p = err_from_is_err_and c.from_residual.result c.from_residual.ensures.1 in rw (p.1, p.2) refl
 
-pub returns-in-Ok : goal.returns-in-Ok
-returns-in-Ok c here = (refl, c.in_ok-decoded.ensures)
+pub returns-in_ok-decoded-in-Ok : goal.returns-in_ok-decoded-in-Ok
+returns-in_ok-decoded-in-Ok c here = (refl, c.in_ok-decoded-in-Ok.ensures)
 
 pub returns-in-Err : goal.returns-in-Err
 returns-in-Err c =
