@@ -1,5 +1,5 @@
 -- The words that the commands take, and their values.
-use Rattle.std.proofs.Common.{◌≡◌, ℕ, [], ◌∷◌, length, eqb, true, false, ◌&&◌, ◌≤◌, ◌∙◌, List, Option, Some, None, refl, codes, drop, Bor, arith}
+use Rattle.std.proofs.Common.{◌≡◌, ℕ, [], ◌∷◌, length, eqb, true, false, ◌≤◌, ◌∙◌, List, Option, Some, None, refl, codes, drop, Bor, arith}
 use Rattle.std.specs.List.{list_all}
 use Rattle.clap.specs.Lexer.{short_of}
 use Rattle.clap.specs.Takes.{takes}

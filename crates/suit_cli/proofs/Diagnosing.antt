@@ -1,5 +1,5 @@
 -- An answer of `diag FILE`.
-use Rattle.std.proofs.Common.{◌≡◌, ◌∙◌, ◌≤◌, ℕ, List, [], ◌∷◌, length, take, take_all, Result, Ok, Err, inl, inr, refl, sym, ap, subst, arith}
+use Rattle.std.proofs.Common.{◌≡◌, ◌∙◌, ℕ, List, [], ◌∷◌, length, take_all, Result, Ok, Err, inl, inr, refl, sym, ap, subst, arith}
 use Rattle.std.specs.Prelude.{IsTrue}
 use Rattle.std.specs.declared.alloc.AllocError.{AllocError}
 use Rattle.det_cbor.specs.ArgumentLaws.{IsBytes, all_bytes}
@@ -20,7 +20,6 @@ use Rattle.suit_cli.specs.declared.reply.Object.{Object}
 use Rattle.suit_cli.specs.declared.reply.Object.TheVariants as objects
 use Rattle.suit_cli.specs.declared.reply.Outcome.TheVariants as outcomes
 use Rattle.suit_cli.specs.declared.reply.Reply.{Reply}
-use Rattle.suit_cli.specs.declared.reply.Stop.{Stop}
 use Rattle.suit_cli.specs.Outside.{Outside, Asks, MayAsk}
 use Rattle.suit_cli.specs.Stages.{Says, FaultOf, Goes, Declines, Faults, Ends, Does, at_host}
 use Rattle.suit_cli.specs.Replies.{Makes, stop_of}
