@@ -36,7 +36,7 @@ component 0 slot 1 length 3";
 
 /// The answer to wrong words. A row names the line `USAGE`.
 const USAGE: &str =
-    "usage: suit make DESCRIPTION KEY OUT | show FILE [KEY] | check FILE | run init DEVICE KEY | run update FILE [URI=NAME]... | run boot | run status | run migrate BASE | drill NUMBER";
+    "usage: suit make DESCRIPTION KEY OUT | show FILE [KEY] | check FILE | run init DEVICE KEY | run update FILE [URI=NAME]... | run boot | run status | run migrate BASE | drill NUMBER | diag FILE";
 
 /// A command, and how it is to end.
 #[derive(Clone, Copy)]

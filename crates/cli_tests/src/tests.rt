@@ -6,6 +6,7 @@ mod check;
 mod cut;
 mod damage;
 mod device;
+mod diag;
 mod draws;
 mod drilled;
 mod failing;

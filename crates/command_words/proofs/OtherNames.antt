@@ -55,11 +55,12 @@ pub record IsNoCommand (name : Word) : Type 0 where
   pub check : name ≡ codes "check" → ⊥
   pub run : name ≡ codes "run" → ⊥
   pub drill : name ≡ codes "drill" → ⊥
+  pub diag : name ≡ codes "diag" → ⊥
 
 no_command : (name : Word) (words : Words) → IsNoCommand name → task_in (name ∷ words) ≡ None
 no_command name words other =
     rw (no_name name (codes "make") other.make) (rw (no_name name (codes "show") other.show) (rw (no_name name (codes "check") other.check) (rw (no_name name (codes "run") other.run)
-    (rw (no_name name (codes "drill") other.drill) refl))))
+    (rw (no_name name (codes "drill") other.drill) (rw (no_name name (codes "diag") other.diag) refl)))))
 
 pub default : (words : List (Bor Word)) (none : Bor Word) → 1 ≤ length words → list_all is_plain (texts words) ≡ true → IsNoCommand (slice_index_or words 0 none).now → None ≡ task_of (texts words)
 default [] none some plain other = absurd (omega arith)

@@ -6,11 +6,11 @@ use Rattle.std.proofs.lemmas.List.{length-map}
 use Rattle.std.specs.Str.{bytes_eq}
 use Rattle.std.specs.Str.Parse.{digits_value}
 use lib.Pointwise.{bytes_decides}
-use Rattle.command_words.specs.Tasks.{Word, Words, Answer, Task, Make, Describe, Show, Check, Init, Update, Boot, Status, Migrate, Drill}
+use Rattle.command_words.specs.Tasks.{Word, Words, Answer, Task, Make, Describe, Show, Check, Init, Update, Boot, Status, Migrate, Drill, Diagnose}
 use Rattle.command_words.specs.Words.{begins_with_dash, is_plain}
 use Rattle.command_words.specs.Numbers.{is_number}
 use Rattle.command_words.specs.UriWords.{most_uris, are_answers, uris_of, cut}
-use Rattle.command_words.specs.Table.{make_of, show_of, check_of, init_of, update_of, alone_of, migrate_of, drill_of, run_named, run_of, named, task_in, task_of}
+use Rattle.command_words.specs.Table.{make_of, show_of, check_of, init_of, update_of, alone_of, migrate_of, drill_of, diag_of, run_named, run_of, named, task_in, task_of}
 use Rattle.command_words.specs.Spelled.{spelled_answer, spelled, IsPlain, IsAfterLast, AreDistinct, IsWithin, Asks, AskFor, WordLaws}
 use Rattle.command_words.proofs.Handed.{both}
 use Rattle.command_words.proofs.Cuts.{denied, answers_read, answers_spelled}
@@ -63,6 +63,11 @@ module _ (name : Word) (task : Task) where
     of true e g = spells (name ∷ n ∷ []) (Drill (digits_value 10 n)) task g (ap₂ (λ (a b : Word). a ∷ b ∷ []) is (number_spelled n e)) (is_that_number n e).small
     of false e g = nothing _ task g
   drill_reads is (n ∷ x ∷ more) h = nothing _ task h
+
+  diag_reads : name ≡ codes "diag" → (words : Words) → diag_of (name ∷ words) ≡ Some task → Spells (name ∷ words) task
+  diag_reads is [] h = nothing _ task h
+  diag_reads is (f ∷ []) h = spells (name ∷ f ∷ []) (Diagnose f) task h (ap (λ (n : Word). n ∷ f ∷ []) is) tt
+  diag_reads is (f ∷ x ∷ more) h = nothing _ task h
 
 -- ---- `run`
 
@@ -129,8 +134,9 @@ named_reads name words task h =
     (λ h1. by_choice (bytes_eq name (codes "show")) (show_of (name ∷ words)) _ task h1 (λ e g. show_reads name task (is_name name (codes "show") e) words g)
     (λ h2. by_choice (bytes_eq name (codes "check")) (check_of (name ∷ words)) _ task h2 (λ e g. check_reads name task (is_name name (codes "check") e) words g)
     (λ h3. by_choice (bytes_eq name (codes "run")) (run_of (name ∷ words)) _ task h3 (λ e g. run_reads name words task (is_name name (codes "run") e) g)
-    (λ h4. by_choice (bytes_eq name (codes "drill")) (drill_of (name ∷ words)) None task h4 (λ e g. drill_reads name task (is_name name (codes "drill") e) words g)
-    (λ h5. nothing _ task h5)))))
+    (λ h4. by_choice (bytes_eq name (codes "drill")) (drill_of (name ∷ words)) _ task h4 (λ e g. drill_reads name task (is_name name (codes "drill") e) words g)
+    (λ h5. by_choice (bytes_eq name (codes "diag")) (diag_of (name ∷ words)) None task h5 (λ e g. diag_reads name task (is_name name (codes "diag") e) words g)
+    (λ h6. nothing _ task h6))))))
 
 in_reads : (words : Words) (task : Task) → task_in words ≡ Some task → Spells words task
 in_reads [] task h = nothing _ task h
@@ -174,6 +180,7 @@ in_spelled Boot within = refl
 in_spelled Status within = refl
 in_spelled (Migrate n) within = ap (option_map Migrate) (number_of_decimal n within)
 in_spelled (Drill n) within = ap (option_map Drill) (number_of_decimal n within)
+in_spelled (Diagnose f) within = refl
 
 table_of_spelled : (words : Words) (task : Task) → Asks words task → task_of words ≡ Some task
 table_of_spelled words task asks =

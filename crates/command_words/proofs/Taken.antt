@@ -1,5 +1,5 @@
 -- The words that the commands take, and their values.
-use Rattle.std.proofs.Common.{◌≡◌, ℕ, [], ◌∷◌, length, eqb, true, false, ◌&&◌, ◌≤◌, ◌∙◌, List, Option, Some, None, refl, codes, drop, Bor, arith}
+use Rattle.std.proofs.Common.{◌≡◌, ℕ, [], ◌∷◌, length, eqb, true, false, ◌≤◌, ◌∙◌, List, Option, Some, None, refl, codes, drop, Bor, arith}
 use Rattle.std.specs.List.{list_all}
 use Rattle.clap.specs.Lexer.{short_of}
 use Rattle.clap.specs.Takes.{takes}
@@ -27,7 +27,7 @@ first_plain word more plain = (both (is_plain word) (list_all is_plain more) pla
 pub rest_plain : (word : Word) (more : Words) → list_all is_plain (word ∷ more) ≡ true → list_all is_plain more ≡ true
 rest_plain word more plain = (both (is_plain word) (list_all is_plain more) plain).1
 
--- ---- `check`, `drill` and `run migrate`
+-- ---- `check`, `drill`, `diag` and `run migrate`
 
 -- a row takes any plain word after its name as this argument
 abbrev TakesOne : Row → Word → Type 0
@@ -42,6 +42,11 @@ takes_drill : TakesOne row.Drill (codes "NUMBER")
 unfolding clap_on_literals
 takes_drill n [] hw = (refl, refl)
 takes_drill n (w ∷ ws) hw = let ew = no_minus w ws hw in rw (ew, no_short w ws ew) (refl, refl)
+
+takes_diag : TakesOne row.Diagnose (codes "FILE")
+unfolding clap_on_literals
+takes_diag n [] hw = (refl, refl)
+takes_diag n (w ∷ ws) hw = let ew = no_minus w ws hw in rw (ew, no_short w ws ew) (refl, refl)
 
 takes_migrate : TakesOne row.Migrate (codes "BASE")
 unfolding clap_on_literals
@@ -69,6 +74,9 @@ checks_texts words many plain = ones row.Check (codes "FILE") takes_check (texts
 
 pub drills_texts : (words : List (Bor Word)) → length words ≡ 2 → list_all is_plain (texts words) ≡ true → Ones row.Drill (codes "NUMBER") (texts words)
 drills_texts words many plain = ones row.Drill (codes "NUMBER") takes_drill (texts words) (as_many words ∙ many) plain
+
+pub diags_texts : (words : List (Bor Word)) → length words ≡ 2 → list_all is_plain (texts words) ≡ true → Ones row.Diagnose (codes "FILE") (texts words)
+diags_texts words many plain = ones row.Diagnose (codes "FILE") takes_diag (texts words) (as_many words ∙ many) plain
 
 pub migrates_texts : (words : List (Bor Word)) → length words ≡ 2 → list_all is_plain (texts words) ≡ true → Ones row.Migrate (codes "BASE") (texts words)
 migrates_texts words many plain = ones row.Migrate (codes "BASE") takes_migrate (texts words) (as_many words ∙ many) plain

@@ -24,6 +24,7 @@ bare_app name =
 -- the command of each row: its name, and its arguments in order
 abbrev pub app_for : Row → App
 app_for row.Check = with_rule (bare_app (codes "check")) (rule_for has.One (codes "FILE"))
+app_for row.Diagnose = with_rule (bare_app (codes "diag")) (rule_for has.One (codes "FILE"))
 app_for row.Drill = with_rule (bare_app (codes "drill")) (rule_for has.One (codes "NUMBER"))
 app_for row.Init =
     with_rule (with_rule (bare_app (codes "init")) (rule_for has.One (codes "DEVICE")))

@@ -1,5 +1,5 @@
 -- What a command of the code asks for.
-use Rattle.command_words.specs.Tasks.{Task, Make, Describe, Show, Check, Init, Update, Boot, Status, Migrate, Drill}
+use Rattle.command_words.specs.Tasks.{Task, Make, Describe, Show, Check, Init, Update, Boot, Status, Migrate, Drill, Diagnose}
 use Rattle.command_words.specs.declared.command.Command.{Command}
 use Rattle.command_words.specs.declared.command.Command.TheVariants as commands
 
@@ -14,3 +14,4 @@ said commands.Boot = Boot
 said commands.Status = Status
 said (commands.Migrate base) = Migrate base
 said (commands.Drill number) = Drill number
+said (commands.Diagnose file) = Diagnose file.now

@@ -1,7 +1,7 @@
 -- How each command is spelled, and which commands there are. The table of commands reads just these.
 use Rattle.std.specs.Prelude.{◌≡◌, ◌≢◌, ◌↔◌, ◌<◌, ◌≤◌, ◌^◌, ℕ, false, List, [], ◌∷◌, ◌++◌, map, length, Option, Some, None, codes, decimal}
 use Rattle.std.specs.List.{AllByRecursion}
-use Rattle.command_words.specs.Tasks.{Word, Words, Answer, Task, Make, Describe, Show, Check, Init, Update, Boot, Status, Migrate, Drill}
+use Rattle.command_words.specs.Tasks.{Word, Words, Answer, Task, Make, Describe, Show, Check, Init, Update, Boot, Status, Migrate, Drill, Diagnose}
 use Rattle.command_words.specs.Words.{begins_with_dash}
 use Rattle.command_words.specs.UriWords.{most_uris}
 use Rattle.command_words.specs.Table.{task_of}
@@ -25,6 +25,7 @@ spelled Boot = codes "run" ∷ codes "boot" ∷ []
 spelled Status = codes "run" ∷ codes "status" ∷ []
 spelled (Migrate base) = codes "run" ∷ codes "migrate" ∷ decimal base ∷ []
 spelled (Drill number) = codes "drill" ∷ decimal number ∷ []
+spelled (Diagnose file) = codes "diag" ∷ file ∷ []
 
 -- the word does not begin with a dash
 abbrev pub IsPlain : Word → Type 0

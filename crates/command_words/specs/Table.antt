@@ -2,7 +2,7 @@
 use Rattle.std.specs.Prelude.{[], ◌∷◌, Option, Some, None, option_map, codes, if◌then◌else◌}
 use Rattle.std.specs.List.{list_all}
 use Rattle.std.specs.Str.{bytes_eq}
-use Rattle.command_words.specs.Tasks.{Word, Words, Task, Make, Describe, Show, Check, Init, Update, Boot, Status, Migrate, Drill}
+use Rattle.command_words.specs.Tasks.{Word, Words, Task, Make, Describe, Show, Check, Init, Update, Boot, Status, Migrate, Drill, Diagnose}
 use Rattle.command_words.specs.Words.{is_plain}
 use Rattle.command_words.specs.Numbers.{number_of}
 use Rattle.command_words.specs.UriWords.{uris_of}
@@ -43,6 +43,10 @@ abbrev pub drill_of : Words → Option Task
 drill_of (name ∷ number ∷ []) = option_map Drill (number_of number)
 drill_of _ = None
 
+abbrev pub diag_of : Words → Option Task
+diag_of (name ∷ file ∷ []) = Some (Diagnose file)
+diag_of _ = None
+
 -- ---- all commands
 
 abbrev pub run_named : Word → Words → Option Task
@@ -65,6 +69,7 @@ named name words =
     else if bytes_eq name (codes "check") then check_of words
     else if bytes_eq name (codes "run") then run_of words
     else if bytes_eq name (codes "drill") then drill_of words
+    else if bytes_eq name (codes "diag") then diag_of words
     else None
 
 abbrev pub task_in : Words → Option Task

@@ -24,6 +24,7 @@ pub data Task : Type 0 where
   Status : Task
   Migrate : ℕ → Task
   Drill : ℕ → Task
+  Diagnose : (file : Word) → Task
 
 -- the words that borrowed texts are
 abbrev pub texts : List (Bor Word) → Words

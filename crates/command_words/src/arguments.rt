@@ -23,6 +23,7 @@ pub(crate) enum Values {
 #[derive(Clone, Copy)]
 pub(crate) enum Row {
     Check,
+    Diagnose,
     Drill,
     Init,
     Make,
@@ -63,6 +64,7 @@ fn command_for<'a>(alloc: Global, row: Row) -> Result<Command<'a>, AllocError>
 {
     match row {
         Row::Check => with(alloc, bare(alloc, "check"), Values::One, "FILE"),
+        Row::Diagnose => with(alloc, bare(alloc, "diag"), Values::One, "FILE"),
         Row::Drill => with(alloc, bare(alloc, "drill"), Values::One, "NUMBER"),
         Row::Init => {
             let command = with(alloc, bare(alloc, "init"), Values::One, "DEVICE")?;

@@ -59,4 +59,9 @@ pub enum Command<'a> {
         /// The number that the draws of the rounds start from.
         number: u64,
     },
+    /// Prints an item of deterministic CBOR in diagnostic notation.
+    Diagnose {
+        /// The item's file.
+        file: &'a str,
+    },
 }

@@ -4,7 +4,7 @@ ghost use Rattle.std.specs.Prelude.{◌≡◌, true, IfOk, option_map};
 ghost use Rattle.std.specs.List.{list_all};
 ghost use Rattle.command_words.specs.Tasks.{texts};
 ghost use Rattle.command_words.specs.Words.{is_plain};
-ghost use Rattle.command_words.specs.Table.{alone_of, check_of, drill_of, init_of, make_of, migrate_of, run_of, show_of, update_of};
+ghost use Rattle.command_words.specs.Table.{alone_of, check_of, diag_of, drill_of, init_of, make_of, migrate_of, run_of, show_of, update_of};
 ghost use Rattle.command_words.specs.Said.{said};
 
 use crate::arguments::{Row, found, option_of, value_of, values_of};
@@ -89,6 +89,22 @@ pub(crate) fn drill<'a>(
         Some(number) => Ok(Some(Command::Drill { number })),
         None => Ok(None),
     }
+}
+
+/// `diag FILE`
+pub(crate) fn diag<'a>(
+    alloc: Global,
+    words: &'a [&'a str],
+) -> Result<Option<Command<'a>>, AllocError>
+    requires { list_all is_plain (texts words.now) ≡ true }
+    ensures { IfOk result (λ c. option_map said c ≡ diag_of (texts words.entry.now)) }
+{
+    if words.len() != 2 {
+        return Ok(None);
+    }
+    let matches = found(alloc, Row::Diagnose, words)?;
+    let file = value_of(&matches, "FILE");
+    Ok(Some(Command::Diagnose { file }))
 }
 
 // `run init DEVICE KEY`

@@ -7,7 +7,7 @@ ghost use Rattle.command_words.specs.Said.{said};
 ghost use Rattle.command_words.specs.Spelled.{AskFor};
 
 use crate::command::Command;
-use crate::rows::{check, drill, make, run, show};
+use crate::rows::{check, diag, drill, make, run, show};
 use crate::word::are_plain;
 use std::alloc::{AllocError, Global};
 
@@ -23,6 +23,7 @@ fn in_table<'a>(alloc: Global, words: &'a [&'a str]) -> Result<Option<Command<'a
         "check" => check(alloc, words),
         "run" => run(alloc, words),
         "drill" => drill(alloc, words),
+        "diag" => diag(alloc, words),
         _ => Ok(None),
     }
 }

@@ -16,6 +16,7 @@ pub mod KeyBytes
 pub mod StatusLines
 pub mod StatusNumbers
 pub mod Describing
+pub mod Diagnosing
 pub mod TaskAnswers
 pub mod DescriptionTexts
 pub mod Authoring
@@ -50,6 +51,7 @@ pub mod OneAnswers
 pub mod FlashLawProofs
 pub mod MigrateLawProofs
 pub mod DescribingLawProofs
+pub mod DiagLawProofs
 pub mod MakeAsks
 pub mod MakeLawProofs
 pub mod UpdateLawProofs

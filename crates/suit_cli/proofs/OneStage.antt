@@ -86,7 +86,7 @@ module _ (name : List ℕ) (b : Outside) (told : IsTrue b.told) where
 
 -- ---- envelopes and manifests
 
-refusal_reply : (P : Refusal → Type 0) (r q : Reply) (first : IsRefused P r) (second : IsRefused P q) → second.refusal ≡ first.refusal → q ≡ r
+pub refusal_reply : (P : Refusal → Type 0) (r q : Reply) (first : IsRefused P r) (second : IsRefused P q) → second.refusal ≡ first.refusal → q ≡ r
 refusal_reply P r q first second same =
     let says : IsReply q outcomes.Refused (refusal_line first.refusal) = subst (λ (x : Refusal). IsReply q outcomes.Refused (refusal_line x)) same second.says in
     one_reply r q _ _ first.says says

@@ -9,7 +9,7 @@ use Rattle.suit_cli.specs.Outside.{Outside, Flashed, Quiet, Reads, ReadsInVain, 
 use Rattle.suit_cli.specs.Stages.{Ending, Says, FaultOf, NoMemory, Answers, Stage, judging, reading, looking, writing, at_host, at_flash, Then, Goes, Declines, Faults, Lacks, Last, Ends, EndsWithout, Said, IsSaid}
 use Rattle.suit_cli.specs.Migrating.{migrates}
 use Rattle.suit_cli.specs.Inputs.{longest_file, longest_device, longest_key}
-use Rattle.suit_cli.specs.Commands.{describes, shows, checks, inits, inits_as, begins_boot, tells_status, drills}
+use Rattle.suit_cli.specs.Commands.{describes, shows, checks, inits, inits_as, begins_boot, tells_status, drills, diagnoses}
 use Rattle.suit_cli.specs.Program.{answers}
 
 -- only an answer that is a fault counted one, of its object
@@ -212,6 +212,9 @@ tells_keeps = then_keeps 0 0 _ _ (looking_keeps _ _) (λ config. then_keeps 0 0 
 
 pub migrates_keeps : (base : ℕ) → Keeps 0 (migrates base)
 migrates_keeps base = then_keeps 0 0 _ _ (writing_keeps _ _ _) (λ u. said_keeps _)
+
+pub diagnoses_keeps : (name : List ℕ) → Keeps (longest_file + 1) (diagnoses name)
+diagnoses_keeps name = then_keeps 1048577 0 _ _ (reading_keeps _ _ _ _) (λ bytes. then_keeps 0 0 _ _ (judging_keeps _ _) (λ x. last_keeps _))
 
 pub drills_keeps : (number : ℕ) → Keeps 0 (drills number)
 drills_keeps number = last_keeps _

@@ -7,7 +7,7 @@ use Rattle.author.specs.FileNames.{file_names}
 use Rattle.suit_cli.specs.declared.reply.Reply.{Reply}
 use Rattle.suit_cli.specs.declared.reply.Object.{Object}
 use Rattle.suit_cli.specs.declared.reply.Object.TheVariants as objects
-use Rattle.suit_cli.specs.Words.{Task, Make, Describe, Show, Check, RunInit, RunUpdate, RunBoot, RunStatus, RunMigrate, Drill, task_of}
+use Rattle.suit_cli.specs.Words.{Task, Make, Describe, Show, Check, RunInit, RunUpdate, RunBoot, RunStatus, RunMigrate, Drill, Diagnose, task_of}
 use Rattle.suit_cli.specs.Outside.{Outside, Files, Quiet, LeavesOthers, FilesStay, Leaves}
 use Rattle.suit_cli.specs.Stages.{Ending, Says, FaultOf, NoMemory, Answers, Stage, in_turn, Then, Goes, Declines, Faults, Lacks, IsSaid}
 use Rattle.suit_cli.specs.Inputs.{longest_key, file}
@@ -18,7 +18,7 @@ use Rattle.flash_layout.specs.declared.layout.Entry.{Entry}
 use Rattle.suit_cli.specs.Acceptance.{accepts}
 use Rattle.suit_cli.specs.Commands.{begins_update, makes, does}
 use Rattle.suit_cli.specs.Program.{answers, most_pulled, stored_by}
-use Rattle.suit_cli.proofs.StagesKeep.{Counts, KeptBy, Calm, Faulty, StageKeeps, host_fault, quiet_more, quiet_then, counts_then, same_quiet, same_counts, judging_keeps, last_keeps, looking_keeps, reading_keeps, describes_keeps, shows_keeps, checks_keeps, inits_keeps, begins_keeps, tells_keeps, migrates_keeps, drills_keeps}
+use Rattle.suit_cli.proofs.StagesKeep.{Counts, KeptBy, Calm, Faulty, StageKeeps, host_fault, quiet_more, quiet_then, counts_then, same_quiet, same_counts, judging_keeps, last_keeps, looking_keeps, reading_keeps, describes_keeps, shows_keeps, checks_keeps, inits_keeps, begins_keeps, tells_keeps, migrates_keeps, drills_keeps, diagnoses_keeps}
 
 -- ---- one stage and then another
 
@@ -186,6 +186,7 @@ does_lets RunBoot b a e answer = kept_left _ e b a (begins_keeps b a e answer)
 does_lets RunStatus b a e answer = kept_left _ e b a (tells_keeps b a e answer)
 does_lets (RunMigrate base) b a e answer = kept_left _ e b a (migrates_keeps base b a e answer)
 does_lets (Drill number) b a e answer = kept_left _ e b a (drills_keeps number b a e answer)
+does_lets (Diagnose name) b a e answer = kept_left _ e b a (diagnoses_keeps name b a e answer)
 
 pub answers_lets : (words : List (List ℕ)) (b a : Outside) (e : Ending) → answers words b a e → LeftBy (most_pulled (task_of words) b.files) (stored_by (task_of words)) e b a
 answers_lets words b a _ (Goes task c e g rest) =

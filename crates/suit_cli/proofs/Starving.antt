@@ -20,7 +20,7 @@ use Rattle.update_proc.specs.declared.update_end.UpdateEnd.TheVariants as update
 use Rattle.suit_cli.specs.Surroundings.{seen}
 use Rattle.suit_cli.specs.declared.reply.Object.TheVariants as objects
 use Rattle.suit_cli.specs.declared.reply.Reply.{Reply}
-use Rattle.suit_cli.specs.Words.{Task, Make, Describe, Show, Check, RunInit, RunUpdate, RunBoot, RunStatus, RunMigrate, Drill}
+use Rattle.suit_cli.specs.Words.{Task, Make, Describe, Show, Check, RunInit, RunUpdate, RunBoot, RunStatus, RunMigrate, Drill, Diagnose}
 use Rattle.suit_cli.specs.Outside.{Outside, Flashed}
 use Rattle.suit_cli.specs.Stages.{Ending, Says, FaultOf, NoMemory, Answers, Stage, judging, reading, looking, writing, in_turn, ◌>>=◌, Then, Goes, Lacks, Last, EndsWithout, Said}
 use Rattle.suit_cli.specs.Statuses.{ending_status}
@@ -112,6 +112,7 @@ does_starves RunBoot = then_starves _ _ (looking_nears _ _) (λ config. last_sta
 does_starves RunStatus = then_starves _ _ (looking_nears _ _) (λ config. then_starves _ _ (looking_nears _ _) (λ installed. then_starves _ _ (looking_nears _ _) (λ lines. last_starves _)))
 does_starves (RunMigrate base) = writing_starves _ _ _ _
 does_starves (Drill number) = last_starves _
+does_starves (Diagnose name) = then_starves _ _ (reading_nears _ _ _ _) (λ bytes. then_starves _ _ (judging_nears _ _) (λ x. last_starves _))
 
 answers_starves : (words : List (List ℕ)) → Starves (answers words)
 answers_starves words b a (Goes task c _ g rest) = near_then b c a (near_same b c g.0) (does_starves task c a rest)

@@ -3,7 +3,7 @@ use Rattle.std.proofs.Common.{◌≡◌, ℕ, List, Some, None, ◌⊎◌, inl, 
 use Rattle.std.proofs.lemmas.Option.{same_Some}
 use Rattle.suit_commands.specs.Tree.{PlanTree}
 use Rattle.suit_cli.specs.declared.reply.Reply.{Reply}
-use Rattle.suit_cli.specs.Words.{Task, Make, Describe, Show, Check, RunInit, RunUpdate, RunBoot, RunStatus, RunMigrate, Drill, task_of}
+use Rattle.suit_cli.specs.Words.{Task, Make, Describe, Show, Check, RunInit, RunUpdate, RunBoot, RunStatus, RunMigrate, Drill, Diagnose, task_of}
 use Rattle.suit_cli.specs.Outside.{Outside}
 use Rattle.suit_cli.specs.Stages.{Says, Goes, Declines}
 use Rattle.suit_cli.specs.Commands.{does}
@@ -13,6 +13,7 @@ use Rattle.suit_cli.specs.Program.{Judges, answers}
 use Rattle.suit_cli.proofs.Running.{Declining, IsJudged, Plain, checked, shown_plain, showed, inited, begun, stated, migrated, drilled}
 use Rattle.suit_cli.proofs.AcceptedFacts.{IsUnsafeFile, began}
 use Rattle.suit_cli.proofs.Describing.{described}
+use Rattle.suit_cli.proofs.Diagnosing.{diagnosed}
 use Rattle.suit_cli.proofs.MakeLawProofs.{made_as}
 
 -- a reply to words that are those of a task
@@ -51,3 +52,4 @@ reply_of RunBoot m a r rest = inl (begun m a r rest)
 reply_of RunStatus m a r rest = inl (stated m a r rest)
 reply_of (RunMigrate base) m a r rest = inl (migrated base m a r rest)
 reply_of (Drill number) m a r rest = inl (drilled number m a r rest)
+reply_of (Diagnose name) m a r rest = inl (diagnosed name m a r rest)

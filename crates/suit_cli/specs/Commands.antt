@@ -3,7 +3,7 @@ use Rattle.std.specs.Prelude.{ℕ, List}
 use Rattle.suit_envelope.specs.Envelopes.{EnvelopeSays}
 use Rattle.suit_manifest.specs.declared.manifest.Manifest.{Manifest}
 use Rattle.suit_manifest.specs.Procedures.{update_tree, invocation_tree}
-use Rattle.suit_cli.specs.Words.{Task, Make, Describe, Show, Check, RunInit, RunUpdate, RunBoot, RunStatus, RunMigrate, Drill}
+use Rattle.suit_cli.specs.Words.{Task, Make, Describe, Show, Check, RunInit, RunUpdate, RunBoot, RunStatus, RunMigrate, Drill, Diagnose}
 use Rattle.suit_cli.specs.Stages.{Answers, ◌>>=◌, Last}
 use Rattle.suit_cli.specs.Inputs.{longest_file, longest_shown, longest_device, file, key_in}
 use Rattle.suit_cli.specs.Envelopes.{envelope_in, short, manifest_in, members_in}
@@ -14,6 +14,7 @@ use Rattle.suit_cli.specs.Authoring.{longest_description, description_in, makes_
 use Rattle.suit_cli.specs.Devices.{device_in, key_of}
 use Rattle.suit_cli.specs.Formatting.{unused, formats}
 pub use Rattle.suit_cli.specs.Beginnings.{begins_boot, begins_update}
+use Rattle.suit_cli.specs.Diagnosing.{item_in, IsNotated}
 use Rattle.suit_cli.specs.Drilling.{IsDrilled}
 use Rattle.suit_cli.specs.Installed.{config_in, record_in, lines_in, TellsStatus}
 use Rattle.suit_cli.specs.Migrating.{migrates}
@@ -96,6 +97,13 @@ tells_status =
 abbrev pub drills : ℕ → Answers
 drills number = Last (IsDrilled number)
 
+-- `diag FILE`: the one item in the file, and its notation
+abbrev pub diagnoses_file : List ℕ → Answers
+diagnoses_file bytes = item_in bytes >>= λ item. Last (IsNotated item)
+
+abbrev pub diagnoses : List ℕ → Answers
+diagnoses name = file longest_file name >>= diagnoses_file
+
 abbrev pub does : Task → Answers
 does (Make description key_name out) = makes description key_name out
 does (Describe name) = describes name
@@ -107,3 +115,4 @@ does RunBoot = begins_boot
 does RunStatus = tells_status
 does (RunMigrate base) = migrates base
 does (Drill number) = drills number
+does (Diagnose name) = diagnoses name

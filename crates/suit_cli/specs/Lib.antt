@@ -12,6 +12,7 @@ pub mod Accepting
 pub mod Judgement
 pub mod Shown
 pub mod Describing
+pub mod Diagnosing
 pub mod Json
 pub mod Devices
 pub mod Authoring
@@ -42,6 +43,7 @@ pub mod DescribingLaws
 pub mod MakeLaws
 pub mod FlashLaws
 pub mod MigrateLaws
+pub mod DiagLaws
 pub mod LifeLaws
 pub mod LaunchedLaws
 pub mod LaunchedUpdateLaws

@@ -9,7 +9,7 @@ use Rattle.rollback_record.specs.SoundFlash.{Settled}
 use Rattle.path_model.specs.Settings.{found_under}
 use Rattle.suit_cli.specs.declared.reply.Outcome.TheVariants as outcomes
 use Rattle.suit_cli.specs.Texts.{usage_line}
-use Rattle.suit_cli.specs.Words.{Task, Make, Describe, Show, Check, RunInit, RunUpdate, RunBoot, RunMigrate, pairs_of, task_of}
+use Rattle.suit_cli.specs.Words.{Task, Make, Describe, Show, Check, RunInit, RunUpdate, RunBoot, RunMigrate, Diagnose, pairs_of, task_of}
 use Rattle.suit_cli.specs.Replies.{IsReply}
 use Rattle.suit_cli.specs.Outside.{Outside, Files, Sunk, Leaves}
 use Rattle.suit_cli.specs.Stages.{Stage, judging, Answers, ◌>>=◌}
@@ -164,6 +164,7 @@ most_pulled (Some (Show name key)) files = (longest_file + 1) + (longest_key + 1
 most_pulled (Some (Check name)) files = longest_file + 1
 most_pulled (Some (RunInit device key)) files = (longest_device + 1) + (longest_key + 1)
 most_pulled (Some (RunUpdate name uris)) files = longest_file + 1
+most_pulled (Some (Diagnose name)) files = longest_file + 1
 most_pulled _ files = 0
 
 -- the file that is stored

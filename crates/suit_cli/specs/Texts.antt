@@ -14,7 +14,7 @@ use Rattle.suit_cli.specs.declared.member_lines.MemberState.TheVariants as state
 use Rattle.suit_cli.specs.Lines.{joined}
 
 abbrev pub usage_line : List ℕ
-usage_line = codes "usage: suit make DESCRIPTION KEY OUT | show FILE [KEY] | check FILE | run init DEVICE KEY | run update FILE [URI=NAME]... | run boot | run status | run migrate BASE | drill NUMBER\n"
+usage_line = codes "usage: suit make DESCRIPTION KEY OUT | show FILE [KEY] | check FILE | run init DEVICE KEY | run update FILE [URI=NAME]... | run boot | run status | run migrate BASE | drill NUMBER | diag FILE\n"
 
 -- the place of a fault in the file, and what is wrong there
 abbrev pub refused_line : ℕ → List ℕ → List ℕ

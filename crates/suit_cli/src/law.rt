@@ -4,6 +4,7 @@ ghost use Rattle.suit_cli.specs.BootEndLaws.{BootEndLaws};
 ghost use Rattle.suit_cli.specs.RunLaws.{RunLaws};
 ghost use Rattle.suit_cli.specs.CommandLaws.{CheckLaws, ShowLaws};
 ghost use Rattle.suit_cli.specs.DescribingLaws.{DescribingLaws};
+ghost use Rattle.suit_cli.specs.DiagLaws.{DiagLaws};
 ghost use Rattle.suit_cli.specs.MakeLaws.{MakeLaws};
 ghost use Rattle.suit_cli.specs.MigrateLaws.{MigrateLaws};
 ghost use Rattle.suit_cli.specs.DrillLaws.{DrillLaws};
@@ -12,6 +13,7 @@ ghost use Rattle.suit_cli.specs.UpdateEndLaws.{UpdateEndLaws};
 ghost use Rattle.suit_cli.specs.UpdateLaws.{UpdateLaws};
 
 use admission::admission_laws;
+use cbor_diag::notation_laws;
 use flash_layout::config_laws;
 use invoke_proc::boot_laws;
 use rollback_record::record_laws;
@@ -44,6 +46,18 @@ pub fn show_laws()
 pub fn describing_laws()
     ensures { DescribingLaws }
 {
+    envelope_laws();
+    manifest_laws();
+    members_laws();
+}
+
+/// Does nothing. Its contract has the laws of `diag FILE` over a host that tells what it holds: each reply has its cause
+/// in the file, and where a cause stands, each answer is that reply, unless the host failed or memory ran out. Where it
+/// prints no item, `check FILE` says the same; and files whose items it prints alike are the same.
+pub fn diag_laws()
+    ensures { DiagLaws }
+{
+    notation_laws();
     envelope_laws();
     manifest_laws();
     members_laws();

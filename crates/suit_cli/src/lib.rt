@@ -7,6 +7,7 @@ mod boot_lines;
 mod check;
 mod components;
 mod device;
+mod diag;
 mod drill;
 mod init;
 mod input;
@@ -30,8 +31,8 @@ mod why;
 mod words;
 
 pub use law::{
-    boot_end_laws, check_laws, describing_laws, drill_laws, init_laws, make_laws, migrate_laws,
-    run_laws, show_laws, status_laws, update_end_laws, update_laws,
+    boot_end_laws, check_laws, describing_laws, diag_laws, drill_laws, init_laws, make_laws,
+    migrate_laws, run_laws, show_laws, status_laws, update_end_laws, update_laws,
 };
 pub use life::{
     launched_laws, launched_update_laws, life_laws, new_flash_laws, restart_laws, soundness_laws,

@@ -24,6 +24,7 @@ ghost use Rattle.rollback_record.specs.SoundFlash.{Settled, Sound};
 use crate::answer::Answer;
 use crate::boot_lines::boot_status;
 use crate::check::check;
+use crate::diag::diag;
 use crate::drill::drill;
 use crate::init::init;
 use crate::make::make_envelope;
@@ -50,7 +51,7 @@ use suit_manifest::{manifest_laws, members_laws};
 pub struct Status(pub u8);
 
 const USAGE: &str =
-    "usage: suit make DESCRIPTION KEY OUT | show FILE [KEY] | check FILE | run init DEVICE KEY | run update FILE [URI=NAME]... | run boot | run status | run migrate BASE | drill NUMBER\n";
+    "usage: suit make DESCRIPTION KEY OUT | show FILE [KEY] | check FILE | run init DEVICE KEY | run update FILE [URI=NAME]... | run boot | run status | run migrate BASE | drill NUMBER | diag FILE\n";
 
 // The answer to a command.
 fn perform<H: Host, D: Disk, L: Launcher>(
@@ -96,6 +97,7 @@ fn perform<H: Host, D: Disk, L: Launcher>(
         Command::Status => Answer::Said(status(alloc, flash)),
         Command::Migrate { base } => Answer::Said(run_migrate(alloc, base, flash)),
         Command::Drill { number } => Answer::Said(drill(alloc, number)),
+        Command::Diagnose { file } => Answer::Said(diag(alloc, file, host)),
     }
 }
 

@@ -6,6 +6,7 @@ complete -c suit -n __fish_use_subcommand -a show -d 'Print a description, or wh
 complete -c suit -n __fish_use_subcommand -a check -d 'Say whether a manifest is safe'
 complete -c suit -n __fish_use_subcommand -a run -d 'Work with a flash'
 complete -c suit -n __fish_use_subcommand -a drill -d 'Try updates and boots on a flash in memory'
+complete -c suit -n __fish_use_subcommand -a diag -d 'Print an item of CBOR in diagnostic notation'
 
 set -l commands init update boot status migrate
 complete -c suit -n "__fish_seen_subcommand_from run; and not __fish_seen_subcommand_from $commands" -a init -d 'Format a blank flash for a device'
@@ -13,4 +14,4 @@ complete -c suit -n "__fish_seen_subcommand_from run; and not __fish_seen_subcom
 complete -c suit -n "__fish_seen_subcommand_from run; and not __fish_seen_subcommand_from $commands" -a boot -d 'Start what is installed'
 complete -c suit -n "__fish_seen_subcommand_from run; and not __fish_seen_subcommand_from $commands" -a status -d 'Print what is installed'
 complete -c suit -n "__fish_seen_subcommand_from run; and not __fish_seen_subcommand_from $commands" -a migrate -d 'Give the flash the second layout'
-complete -c suit -n '__fish_seen_subcommand_from make show check init update' -F
+complete -c suit -n '__fish_seen_subcommand_from make show check init update diag' -F

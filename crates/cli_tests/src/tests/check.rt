@@ -732,6 +732,14 @@ USAGE
 
 drill 01
 2
+USAGE
+
+diag
+2
+USAGE
+
+diag e.suit k
+2
 USAGE";
 
 #[test]

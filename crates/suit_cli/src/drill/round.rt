@@ -92,7 +92,8 @@ fn uris_asked(alloc: Global, command: Option<Command<'_>>) -> Result<Option<Uris
             | Command::Boot
             | Command::Status
             | Command::Migrate { .. }
-            | Command::Drill { .. },
+            | Command::Drill { .. }
+            | Command::Diagnose { .. },
         )
         | None => None,
     })

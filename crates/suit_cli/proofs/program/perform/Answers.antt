@@ -71,6 +71,9 @@ returns-in-Migrate-clause-flash g c told =
 pub returns-in-Drill-clause-answer : goal.returns-in-Drill-clause-answer
 returns-in-Drill-clause-answer g c = comes_command c.args.command _ c.in-Drill.is _ _ _ _ (c.drill.ensures _)
 
+pub returns-in-Diagnose-clause-answer : goal.returns-in-Diagnose-clause-answer
+returns-in-Diagnose-clause-answer g c = comes_command c.args.command _ c.in-Diagnose.is _ _ _ _ (c.diag.ensures _)
+
 pub returns-in-Make-clause-flash : goal.returns-in-Make-clause-flash
 returns-in-Make-clause-flash g c told =
     flash_as c.args.command _ c.in-Make.is _ _ _ (record { any_moment = still _; sound = tt; settled = λ settled never. settled; keeps = tt })
@@ -90,3 +93,7 @@ returns-in-Check-clause-flash g c told =
 pub returns-in-Drill-clause-flash : goal.returns-in-Drill-clause-flash
 returns-in-Drill-clause-flash g c told =
     flash_as c.args.command _ c.in-Drill.is _ _ _ (record { any_moment = still _; sound = tt; settled = λ settled never. settled; keeps = tt })
+
+pub returns-in-Diagnose-clause-flash : goal.returns-in-Diagnose-clause-flash
+returns-in-Diagnose-clause-flash g c told =
+    flash_as c.args.command _ c.in-Diagnose.is _ _ _ (record { any_moment = still _; sound = tt; settled = λ settled never. settled; keeps = tt })
