@@ -10,7 +10,7 @@ use Rattle.lane_bytes.specs.Bytes.{IsFirstOther}
 use Rattle.suit_edge.specs.Ranges.{SameOn, written}
 use Rattle.suit_edge.specs.RangeLaws.{same_range}
 use Rattle.nor_flash.specs.Blocks.{IsErased, OutsideBlock, front, image_block, name_in, named, named_by, plain, plain_by, with_block}
-use Rattle.nor_flash.specs.NorLaws.{length-with_block, with_block-in, with_block-out, some_true}
+use Rattle.nor_flash.specs.NorLaws.{by_range, length-with_block, with_block-in, with_block-out, some_true}
 
 -- ---- names
 
@@ -143,14 +143,7 @@ module _ (m : ℕ) (a : List ℕ) (fits : length a ≡ 4096 * (m + 4)) where
         let d_size = length-with_block m (length a) fits_room d d_fits block within in
         let a_size = length-with_block m (length a) fits_room a refl block within in
         ext_get_or 0 (with_block m block d) (with_block m block a) (d_size ∙ sym a_size)
-        (λ i lt. let low : i < 4096 * m = omega (arith, d_size, lt) in ⊎_elim
-        (λ before. outside i low (inl before))
-        (λ from. ⊎_elim
-        (λ inside. let at : 4096 * block + (i - 4096 * block) ≡ i = omega (arith, from) in
-        subst (λ (j : ℕ). get_or (with_block m block d) j 0 ≡ get_or (with_block m block a) j 0) at (within_it (i - 4096 * block) (omega (arith, from, inside))))
-        (λ behind. outside i low (inr behind))
-        (cases_lt i (4096 * block + 4096)))
-        (cases_lt i (4096 * block)))
+        (λ i lt. by_range (λ (j : ℕ). get_or (with_block m block d) j 0 ≡ get_or (with_block m block a) j 0) (4096 * block) 4096 i (outside i (omega (arith, d_size, lt))) within_it)
       where
         fits_room : 1 ≤ m → 4096 * (m + 4) ≤ length a
         fits_room some = omega (arith, fits)

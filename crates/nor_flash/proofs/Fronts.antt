@@ -1,5 +1,5 @@
 -- A disk whose blocks are as they are on the device.
-use Rattle.std.proofs.Common.{◌≡◌, ◌<◌, ◌≤◌, ◌+◌, ◌*◌, ℕ, List, length, None, refl, sym, ◌∙◌, ap, subst, arith, get_or-take}
+use Rattle.std.proofs.Common.{◌≡◌, ◌⊎◌, ⊎_elim, ◌<◌, ◌≤◌, ◌+◌, ◌*◌, ℕ, List, length, None, refl, sym, ◌∙◌, ap, subst, arith, get_or-take}
 use Rattle.std.specs.List.{slice_range}
 use Rattle.std.proofs.lemmas.List.{ext_get_or}
 use Rattle.std.proofs.lemmas.List.Edits.{length-between, get_or-between}
@@ -21,6 +21,12 @@ module _ (m : ℕ) (few : m ≤ blank_name) (a : List ℕ) (fits : length a ≡ 
   pub settled_sees : (phase : Phase) → phase ≡ phases.Settled → HoldsPhase m phase a → seen m phase a ≡ front m a
   settled_sees phase is holds =
       subst (λ (p : Phase). seen m p a ≡ front m a) (sym is) (settled_front (subst (λ (p : Phase). HoldsPhase m p a) is holds))
+
+  -- it reads as when a rewrite was given up, or nothing was known
+  pub cleared_sees : AreErased m a → (phase : Phase) → (phase ≡ phases.GivenUp) ⊎ (phase ≡ phases.Unsettled) → plain m a ≡ seen m phase a
+  cleared_sees erased phase can = ⊎_elim
+      (λ given. subst (λ (p : Phase). plain m a ≡ seen m p a) (sym given) (settled_front erased))
+      (λ unsettled. subst (λ (p : Phase). plain m a ≡ seen m p a) (sym unsettled) refl) can
 
   -- a part of the disk
   pub front_part : (from to : ℕ) → from ≤ to → to ≤ 4096 * m → slice_range (front m a) from to ≡ slice_range a from to

@@ -1,8 +1,10 @@
 -- A disk over NOR flash.
-use Rattle.std.specs.Prelude.{◌≡◌, ◌<◌, ◌≤◌, ◌⊎◌, ◌+◌, ◌-◌, ◌/◌, ℕ, List, Option, Some, None}
+use Rattle.std.specs.Prelude.{◌≡◌, ◌<◌, ◌≤◌, ◌⊎◌, ◌+◌, ◌-◌, ◌/◌, ℕ, List, Option, Some, None, length}
+use Rattle.suit_edge.specs.Edge.{IfDone}
 use Rattle.suit_edge.specs.Faults.{Faulted}
-use Rattle.suit_edge.specs.Flash.{Flash, Grows, IsSame, Passes}
-use Rattle.suit_edge.specs.Ranges.{SameOn}
+use Rattle.suit_edge.specs.Flash.{Flash, Grows, IsSame, Keeps, Passes}
+use Rattle.suit_edge.specs.Ranges.{Outside, SameOn, written}
+use Rattle.suit_edge.specs.declared.edge.Edge.{Edge}
 use Rattle.nor_flash.specs.declared.phase.Phase.{Phase}
 use Rattle.nor_flash.specs.declared.phase.Phase.TheVariants as phases
 use Rattle.nor_flash.specs.Blocks.{IsErased, OutsideBlock, front, name_in, named, plain, with_block}
@@ -95,3 +97,9 @@ pub record IsPrepared (m block : ℕ) (device : List ℕ) : Type 0 where
   pub first : name_in (m + 1) device ≡ block
   pub second : name_in (m + 2) device ≡ block
   pub third : IsErased (m + 3) device
+
+-- if the call was done, these bytes are written from the place on; all other places stay as they are in any case
+pub record Writes (answer : Edge) (place : ℕ) (bytes : List ℕ) (old new : Flash) : Type 0 where
+  pub written : IfDone answer (new.reads ≡ written old.reads place bytes)
+  pub keeps : Keeps (Outside place (length bytes)) old new
+  pub grows : Grows old new

@@ -2,13 +2,13 @@
 
 ghost use Rattle.lane_bytes.specs.Bytes.{OnlyClears};
 ghost use Rattle.nor_flash.specs.Blocks.{plain};
-ghost use Rattle.nor_flash.specs.NorDisks.{AreErased, HoldsPhase, IsOfDisk, ReadCounts, blocks_of, nor_flash, seen};
+ghost use Rattle.nor_flash.specs.NorDisks.{AreErased, HoldsPhase, IsOfDisk, ReadCounts, Writes, blocks_of, nor_flash};
 ghost use Rattle.nor_flash.specs.declared.phase.Phase.TheVariants as phases;
 ghost use Rattle.std.specs.Prelude.{◌≡◌, ◌↔◌, ◌+◌, ◌*◌, ◌%◌, ◌≤◌, IfSome, IsTrue, length, slice_range};
 ghost use Rattle.suit_edge.specs.Edge.{IfDone};
 ghost use Rattle.suit_edge.specs.Faults.{EdgeCounts};
-ghost use Rattle.suit_edge.specs.Flash.{Grows, IsSame, Keeps};
-ghost use Rattle.suit_edge.specs.Ranges.{Outside, written};
+ghost use Rattle.suit_edge.specs.Flash.{Grows, IsSame};
+ghost use Rattle.suit_edge.specs.Ranges.{written};
 
 use crate::replacing::replace;
 use crate::settling::settle;
@@ -29,15 +29,8 @@ fn clear_bits<N: Nor>(nor: &mut N, place: u64, bytes: &[u8]) -> Edge
     ensures counts { EdgeCounts result (N.faults nor.old) (N.faults nor.new) }
     ensures erased { IsTrue N.told
         → AreErased (blocks_of (N.extent nor.old)) (N.flash nor.new).reads }
-    ensures written { IsTrue N.told → IfDone result
-        (plain (blocks_of (N.extent nor.old)) (N.flash nor.new).reads
-        ≡ written (plain (blocks_of (N.extent nor.old)) (N.flash nor.old).reads) place
-        bytes.now) }
-    ensures keeps { IsTrue N.told → Keeps (Outside place (length bytes.now))
+    ensures writes { IsTrue N.told → Writes result place bytes.now
         (nor_flash (blocks_of (N.extent nor.old)) phases.Settled (N.flash nor.old))
-        (nor_flash (blocks_of (N.extent nor.old)) phases.Settled (N.flash nor.new)) }
-    ensures grows { IsTrue N.told
-        → Grows (nor_flash (blocks_of (N.extent nor.old)) phases.Settled (N.flash nor.old))
         (nor_flash (blocks_of (N.extent nor.old)) phases.Settled (N.flash nor.new)) }
     ensures erases { IsTrue N.told → N.erases nor.new ≡ N.erases nor.old }
 {
@@ -89,15 +82,8 @@ fn replace_range<N: Nor>(nor: &mut N, phase: &mut Phase, place: u64, bytes: &[u8
     ensures within { IsOfDisk (blocks_of (N.extent nor.old)) phase.new }
     ensures holds { IsTrue N.told
         → HoldsPhase (blocks_of (N.extent nor.old)) phase.new (N.flash nor.new).reads }
-    ensures written { IsTrue N.told → IfDone result
-        (seen (blocks_of (N.extent nor.old)) phase.new (N.flash nor.new).reads
-        ≡ written (plain (blocks_of (N.extent nor.old)) (N.flash nor.old).reads) place
-        bytes.now) }
-    ensures keeps { IsTrue N.told → Keeps (Outside place (length bytes.now))
+    ensures writes { IsTrue N.told → Writes result place bytes.now
         (nor_flash (blocks_of (N.extent nor.old)) phases.Settled (N.flash nor.old))
-        (nor_flash (blocks_of (N.extent nor.old)) phase.new (N.flash nor.new)) }
-    ensures grows { IsTrue N.told
-        → Grows (nor_flash (blocks_of (N.extent nor.old)) phases.Settled (N.flash nor.old))
         (nor_flash (blocks_of (N.extent nor.old)) phase.new (N.flash nor.new)) }
 {
     let _image = blocks::count(nor);
@@ -125,15 +111,8 @@ fn write_piece<N: Nor>(nor: &mut N, phase: &mut Phase, place: u64, bytes: &[u8])
     ensures within { IsOfDisk (blocks_of (N.extent nor.old)) phase.new }
     ensures holds { IsTrue N.told
         → HoldsPhase (blocks_of (N.extent nor.old)) phase.new (N.flash nor.new).reads }
-    ensures written { IsTrue N.told → IfDone result
-        (seen (blocks_of (N.extent nor.old)) phase.new (N.flash nor.new).reads
-        ≡ written (plain (blocks_of (N.extent nor.old)) (N.flash nor.old).reads) place
-        bytes.now) }
-    ensures keeps { IsTrue N.told → Keeps (Outside place (length bytes.now))
+    ensures writes { IsTrue N.told → Writes result place bytes.now
         (nor_flash (blocks_of (N.extent nor.old)) phases.Settled (N.flash nor.old))
-        (nor_flash (blocks_of (N.extent nor.old)) phase.new (N.flash nor.new)) }
-    ensures grows { IsTrue N.told
-        → Grows (nor_flash (blocks_of (N.extent nor.old)) phases.Settled (N.flash nor.old))
         (nor_flash (blocks_of (N.extent nor.old)) phase.new (N.flash nor.new)) }
     ensures erases { IsTrue N.told
         → OnlyClears (slice_range (plain (blocks_of (N.extent nor.old)) (N.flash nor.old).reads)
@@ -170,15 +149,8 @@ fn write_settled<N: Nor>(nor: &mut N, phase: &mut Phase, place: u64, bytes: &[u8
     ensures within { IsOfDisk (blocks_of (N.extent nor.old)) phase.new }
     ensures holds { IsTrue N.told
         → HoldsPhase (blocks_of (N.extent nor.old)) phase.new (N.flash nor.new).reads }
-    ensures written { IsTrue N.told → IfDone result
-        (seen (blocks_of (N.extent nor.old)) phase.new (N.flash nor.new).reads
-        ≡ written (plain (blocks_of (N.extent nor.old)) (N.flash nor.old).reads) place
-        bytes.now) }
-    ensures keeps { IsTrue N.told → Keeps (Outside place (length bytes.now))
+    ensures writes { IsTrue N.told → Writes result place bytes.now
         (nor_flash (blocks_of (N.extent nor.old)) phases.Settled (N.flash nor.old))
-        (nor_flash (blocks_of (N.extent nor.old)) phase.new (N.flash nor.new)) }
-    ensures grows { IsTrue N.told
-        → Grows (nor_flash (blocks_of (N.extent nor.old)) phases.Settled (N.flash nor.old))
         (nor_flash (blocks_of (N.extent nor.old)) phase.new (N.flash nor.new)) }
     ensures erases { IsTrue N.told
         → OnlyClears (slice_range (plain (blocks_of (N.extent nor.old)) (N.flash nor.old).reads)
@@ -211,15 +183,8 @@ pub(crate) fn write<N: Nor>(nor: &mut N, phase: &mut Phase, place: u64, bytes: &
     ensures within { IsOfDisk (blocks_of (N.extent nor.old)) phase.new }
     ensures holds { IsTrue N.told
         → HoldsPhase (blocks_of (N.extent nor.old)) phase.new (N.flash nor.new).reads }
-    ensures written { IsTrue N.told → IfDone result
-        (seen (blocks_of (N.extent nor.old)) phase.new (N.flash nor.new).reads
-        ≡ written (seen (blocks_of (N.extent nor.old)) phase.old (N.flash nor.old).reads) place
-        bytes.now) }
-    ensures keeps { IsTrue N.told → Keeps (Outside place (length bytes.now))
+    ensures writes { IsTrue N.told → Writes result place bytes.now
         (nor_flash (blocks_of (N.extent nor.old)) phase.old (N.flash nor.old))
-        (nor_flash (blocks_of (N.extent nor.old)) phase.new (N.flash nor.new)) }
-    ensures grows { IsTrue N.told
-        → Grows (nor_flash (blocks_of (N.extent nor.old)) phase.old (N.flash nor.old))
         (nor_flash (blocks_of (N.extent nor.old)) phase.new (N.flash nor.new)) }
     ensures erases { IsTrue N.told → phase.old ≡ phases.Settled
         → OnlyClears (slice_range (plain (blocks_of (N.extent nor.old)) (N.flash nor.old).reads)
