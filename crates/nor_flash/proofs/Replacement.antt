@@ -1,14 +1,15 @@
 -- Replacing a block: the image block and the first two names, and the disk at the end.
 use Rattle.std.proofs.Common.{◌≡◌, inl, ⊎_elim, ◌<◌, ◌≤◌, ◌+◌, ◌*◌, ℕ, List, length, refl, sym, ◌∙◌, ap, subst, arith}
 use Rattle.std.specs.List.{slice_range}
-use Rattle.suit_edge.specs.Flash.{Flash, Now, Grows, IsFlash, IsSame, IsSettled, Passes}
+use Rattle.suit_edge.specs.Flash.{Flash, Now, Passes}
 use Rattle.suit_edge.specs.FlashLaws.{grows_then, joined, then_same, weakens}
 use Rattle.suit_edge.specs.Ranges.{AreBytes, written}
 use Rattle.suit_edge.specs.RangeLaws.{written_range}
+use Rattle.nor_flash.specs.declared.phase.Phase.{Phase}
 use Rattle.nor_flash.specs.declared.phase.Phase.TheVariants as phases
 use Rattle.nor_flash.specs.Blocks.{IsErased, cleared, front, image_block, plain, with_block}
 use Rattle.nor_flash.specs.NorDisks.{AreErased, IsOneOf, IsReplaced, IsSteady, blocks_of, nor_flash}
-use Rattle.nor_flash.proofs.Calm.{Changes, IsCalm, blank_stays, calm_fits}
+use Rattle.nor_flash.proofs.Calm.{Changes, IsCalm, blank_stays, calm_disk, calm_fits}
 use Rattle.nor_flash.proofs.Filling.{cleared_erased}
 use Rattle.nor_flash.proofs.Fronts.{erased_unnamed}
 use Rattle.nor_flash.proofs.Quiet.{image_quiet, other_name_quiet}
@@ -51,27 +52,35 @@ name_steady {size} {a} name change some low erased =
 
 -- ---- the whole
 
--- a power loss leaves what a settled disk reads
-pub settled_disk : {size : ℕ} {f : Flash} → IsCalm size f → IsSettled (nor_flash (blocks_of size) phases.Settled f)
-settled_disk {size} calm image now = ⊎_elim (λ h. h.2 ∙ ap (plain (blocks_of size)) (calm.settled h.0 h.1)) (λ h. h.1) now
+-- the disk was settled, and is unchanged yet
+module _ {size : ℕ} {q : Phase} {a b : Flash} (calm : IsCalm size a) (steady : IsSteady (blocks_of size) phases.Settled a q b) (with : List ℕ) where
+  abbrev m : ℕ
+  m = blocks_of size
 
-module _ {a b : Flash} (same : IsSame a b) (grown : Grows a b) (settled : IsSettled a) (with : List ℕ) where
-  -- nothing is replaced yet
-  pub same_replaced : IsReplaced a b with
-  same_replaced = record {
-    images = weakens a b (Now a) (IsOneOf a.reads with) (λ image now. inl (settled image now)) same.images;
-    grows = grown;
+  abbrev old : Flash
+  old = nor_flash m phases.Settled a
+
+  -- a power loss leaves what it read
+  at_rest : (image : List ℕ) → Now old image → IsOneOf old.reads with image
+  at_rest image now = inl (⊎_elim (λ h. h.2 ∙ ap (plain m) (calm.settled h.0 h.1)) (λ h. h.1) now)
+
+  pub same_replaced : IsReplaced old (nor_flash m q b) with
+  same_replaced = record { images = weakens old (nor_flash m q b) (Now old) (IsOneOf old.reads with) at_rest steady.same.images; grows = steady.grows }
+
+  -- it is replaced then
+  pub then_replaced : (r : Phase) (c : Flash) → IsReplaced (nor_flash m q b) (nor_flash m r c) with → IsReplaced old (nor_flash m r c) with
+  then_replaced r c put = record {
+    images = joined old (nor_flash m q b) (nor_flash m r c) (IsOneOf old.reads with) same_replaced.images
+        (subst (λ (l : List ℕ). Passes (nor_flash m q b) (nor_flash m r c) (IsOneOf l with)) steady.same.reads put.images);
+    grows = grows_then old (nor_flash m q b) (nor_flash m r c) steady.same.images.later steady.grows put.grows;
   }
 
-  pub then_replaced : {c : Flash} → IsReplaced b c with → IsReplaced a c with
-  then_replaced {c} put = record {
-    images = joined a b c (IsOneOf a.reads with) same_replaced.images
-        (subst (λ (l : List ℕ). Passes b c (IsOneOf l with)) same.reads put.images);
-    grows = grows_then a b c same.images.later grown put.grows;
-  }
-
-pub replaced_then : {a b c : Flash} {size : ℕ} {with : List ℕ} → IsFlash b size → IsReplaced a b with → IsSame b c → Grows b c → IsReplaced a c with
-replaced_then {a} {b} {c} {size} {with} law put same grown = record {
-  images = then_same a b c size (IsOneOf a.reads with) law put.images same;
-  grows = grows_then a b c put.images.later put.grows grown;
-}
+-- it was replaced, and stays the same then
+pub replaced_then : {size : ℕ} {q r : Phase} {b c : Flash} {with : List ℕ} (a : Flash) → IsCalm size b → IsReplaced a (nor_flash (blocks_of size) q b) with → IsSteady (blocks_of size) q b r c
+    → IsReplaced a (nor_flash (blocks_of size) r c) with
+replaced_then {size} {q} {r} {b} {c} {with} a calm put steady =
+    let m : ℕ = blocks_of size in
+    record {
+      images = then_same a (nor_flash m q b) (nor_flash m r c) (4096 * m) (IsOneOf a.reads with) (calm_disk q calm) put.images steady.same;
+      grows = grows_then a (nor_flash m q b) (nor_flash m r c) put.images.later put.grows steady.grows;
+    }

@@ -3,10 +3,10 @@ use Rattle.suit_edge.specs.EdgeLaws.{always}
 use Rattle.suit_edge.specs.Ranges.{written}
 use Rattle.nor_flash.specs.declared.phase.Phase.TheVariants as phases
 use Rattle.nor_flash.specs.Blocks.{front, plain, with_block}
-use Rattle.nor_flash.specs.NorDisks.{IsSteady, blocks_of}
-use Rattle.nor_flash.proofs.Calm.{IsCalm, IsSized, calm_by, calm_disk, calm_fits, sized_by}
+use Rattle.nor_flash.specs.NorDisks.{IsSteady, blocks_of, nor_flash}
+use Rattle.nor_flash.proofs.Calm.{IsCalm, IsSized, calm_by, calm_fits, sized_by}
 use Rattle.nor_flash.proofs.Fronts.{settled_front}
-use Rattle.nor_flash.proofs.Replacement.{replaced_then, same_replaced, settled_disk, stored_shows, then_replaced}
+use Rattle.nor_flash.proofs.Replacement.{replaced_then, same_replaced, stored_shows, then_replaced}
 use Rattle.nor_flash.proofs.Steadiness.{phase_step, steady_then}
 use Rattle.nor_flash.proofs.replacing.replace.Given as given
 use Rattle.nor_flash.proofs.replacing.replace.Goals as goal
@@ -46,20 +46,20 @@ module _ (g : given.Over) (c : After-finish g) (t : IsTrue g.N.Nor.told) where
 pub returns-in-Failed-clause-replaced : goal.returns-in-Failed-clause-replaced
 returns-in-Failed-clause-replaced g c t =
     let at = (goal.at.returns-in-Failed-clause-replaced g c).After-store_image in
-    same_replaced (stored g at t).same (stored g at t).grows (settled_disk (calm_a g at t)) _
+    same_replaced (calm_a g at t) (stored g at t) _
 
 pub returns-in-Failed-prepare-clause-replaced : goal.returns-in-Failed-prepare-clause-replaced
 returns-in-Failed-prepare-clause-replaced g c t =
     let at = goal.at.returns-in-Failed-prepare-clause-replaced g c in
     let steady = prepared g at.After-prepare t (stored g at.After-store_image t) in
-    same_replaced steady.same steady.grows (settled_disk (calm_a g at.After-store_image t)) _
+    same_replaced (calm_a g at.After-store_image t) steady _
 
 pub returns-in-Failed-commit-clause-replaced : goal.returns-in-Failed-commit-clause-replaced
 returns-in-Failed-commit-clause-replaced g c t =
     let at = goal.at.returns-in-Failed-commit-clause-replaced g c in
     let steady = prepared g at.After-prepare t (stored g at.After-store_image t) in
     let is = shows g at.After-prepare t (stored g at.After-store_image t) (fronts g at.After-store_image t) in
-    then_replaced steady.same steady.grows (settled_disk (calm_a g at.After-store_image t)) _
+    then_replaced (calm_a g at.After-store_image t) steady _ phases.GivenUp (g.N.Nor.flash c.commit.new.nor)
     (rw (c.prepare.ensures.size ∙ c.store_image.ensures.size, is) at (c.commit.ensures.not_committed t))
 
 pub returns-clause-replaced : goal.returns-clause-replaced
@@ -67,10 +67,8 @@ returns-clause-replaced g c t =
     let at = goal.at.returns-clause-replaced g c in
     let steady = prepared g at.After-prepare t (stored g at.After-store_image t) in
     let is = shows g at.After-prepare t (stored g at.After-store_image t) (fronts g at.After-store_image t) in
-    let last = finished g at.After-finish t in
-    replaced_then (calm_disk (phases.Rewriting c.args.block) (calm_e g at.After-finish t))
-    (then_replaced steady.same steady.grows (settled_disk (calm_a g at.After-store_image t)) _ (rw (c.prepare.ensures.size ∙ c.store_image.ensures.size, is) at (c.commit.ensures.committed t)))
-    last.same last.grows
+    let put = then_replaced (calm_a g at.After-store_image t) steady _ (phases.Rewriting c.args.block) (g.N.Nor.flash c.commit.new.nor) (rw (c.prepare.ensures.size ∙ c.store_image.ensures.size, is) at (c.commit.ensures.committed t)) in
+    replaced_then (nor_flash (blocks_of (g.N.Nor.extent c.args.nor.now)) phases.Settled (g.N.Nor.flash c.args.nor.now)) (calm_e g at.After-finish t) put (finished g at.After-finish t)
 
 pub returns-clause-written : goal.returns-clause-written
 returns-clause-written g c t =

@@ -3,19 +3,18 @@ use Rattle.std.specs.List.{slice_range}
 use Rattle.suit_edge.specs.Ranges.{written}
 use Rattle.nor_flash.specs.declared.phase.Phase.TheVariants as phases
 use Rattle.nor_flash.specs.Blocks.{plain}
-use Rattle.nor_flash.specs.NorDisks.{blocks_of}
+use Rattle.nor_flash.specs.NorDisks.{blocks_of, nor_flash}
 use Rattle.nor_flash.proofs.Calm.{IsCalm, IsSized, calm_by, calm_disk, calm_fits, sized_by}
 use Rattle.nor_flash.proofs.Fronts.{settled_part}
 use Rattle.nor_flash.proofs.Pieces.{block_written}
-use Rattle.nor_flash.proofs.Replacement.{settled_disk, then_replaced}
+use Rattle.nor_flash.proofs.Replacement.{then_replaced}
 use Rattle.nor_flash.proofs.Steadiness.{read_step}
 use Rattle.nor_flash.proofs.Written.{nothing_written, replaced_written}
 use Rattle.nor_flash.proofs.writing.replace_range.Goals as goal
 
 pub returns-in-Failed-clause-writes : goal.returns-in-Failed-clause-writes
 returns-in-Failed-clause-writes g c t =
-    let read = read_step (blocks_of (g.N.Nor.extent c.args.nor.now)) phases.Settled (c.read_at.ensures.same t) (c.read_at.ensures.grows t) in
-    rw c.requires.settled (nothing_written read.same read.grows)
+    rw c.requires.settled (nothing_written (read_step (blocks_of (g.N.Nor.extent c.args.nor.now)) phases.Settled (c.read_at.ensures.same t) (c.read_at.ensures.grows t)))
 
 pub returns-clause-writes : goal.returns-clause-writes
 returns-clause-writes g c t =
@@ -36,5 +35,6 @@ returns-clause-writes g c t =
     ap (λ (l : List ℕ). written l (4096 * block) c.put.new.room) read.same.reads
     ∙ ap (written (plain (blocks_of size) a.reads) (4096 * block)) (c.put.ensures ∙ ap (λ (l : List ℕ). written l (c.args.place % 4096) c.args.bytes.now) room)
     ∙ block_written (plain (blocks_of size) a.reads) c.args.bytes.now block (c.args.place % 4096) c.args.place (omega arith) c.requires.block (omega (arith, (calm_disk phases.Settled calm_a).fits, near)) in
-    replaced_written c.replace.result (calm_disk phases.Settled calm_a) (calm_disk c.replace.new.phase calm_f) c.requires.fits (rw (c.read_at.ensures.size, is) at (c.replace.ensures.written t))
-    (then_replaced read.same read.grows (settled_disk calm_a) _ (rw (c.read_at.ensures.size, is) at (c.replace.ensures.replaced t)))
+    replaced_written (nor_flash (blocks_of size) phases.Settled a) (nor_flash (blocks_of size) c.replace.new.phase f) c.replace.result (calm_disk phases.Settled calm_a) (calm_disk c.replace.new.phase calm_f)
+    c.requires.fits (rw (c.read_at.ensures.size, is) at (c.replace.ensures.written t))
+    (then_replaced calm_a read _ c.replace.new.phase f (rw (c.read_at.ensures.size, is) at (c.replace.ensures.replaced t)))

@@ -1,8 +1,8 @@
 use Rattle.std.proofs.Common.{◌+◌, ◌≤◌, ℕ, List, IsTrue, length, refl, subst, arith}
 use Rattle.lane_bytes.specs.Bytes.{OnlyClears}
 use Rattle.nor_flash.specs.declared.phase.Phase.TheVariants as phases
-use Rattle.nor_flash.specs.NorDisks.{IsSteady, blocks_of}
-use Rattle.nor_flash.proofs.Calm.{IsCalm, IsSized, calm_by, calm_disk, calm_fits, sized_by}
+use Rattle.nor_flash.specs.NorDisks.{IsSteady, blocks_of, nor_flash}
+use Rattle.nor_flash.proofs.Calm.{IsCalm, IsSized, calm_by, calm_fits, sized_by}
 use Rattle.nor_flash.proofs.Fronts.{settled_part}
 use Rattle.nor_flash.proofs.Steadiness.{read_step}
 use Rattle.nor_flash.proofs.Written.{nothing_written, then_written}
@@ -19,18 +19,19 @@ module _ (g : given.Over) (c : After-clears g) (t : IsTrue g.N.Nor.told) where
 
 pub returns-in-None-clause-writes : goal.returns-in-None-clause-writes
 returns-in-None-clause-writes g c t =
-    let read = was_read g (goal.at.returns-in-None-clause-writes g c).After-clears t in
-    rw c.requires.settled (nothing_written read.same read.grows)
+    rw c.requires.settled (nothing_written (was_read g (goal.at.returns-in-None-clause-writes g c).After-clears t))
 
 pub returns-in-Some-true-clause-writes : goal.returns-in-Some-true-clause-writes
 returns-in-Some-true-clause-writes g c t =
     let at = (goal.at.returns-in-Some-true-clause-writes g c).After-clears in
-    rw c.requires.settled (then_written (calm_disk phases.Settled (calm_read g at t)) (was_read g at t).same (was_read g at t).grows (rw c.clears.ensures.size at (c.clear_bits.ensures.writes t)))
+    rw c.requires.settled (then_written (nor_flash (blocks_of (g.N.Nor.extent c.args.nor.now)) phases.Settled (g.N.Nor.flash c.clear_bits.new.nor)) (calm_read g at t) (was_read g at t)
+    (rw c.clears.ensures.size at (c.clear_bits.ensures.writes t)))
 
 pub returns-in-Some-false-clause-writes : goal.returns-in-Some-false-clause-writes
 returns-in-Some-false-clause-writes g c t =
     let at = (goal.at.returns-in-Some-false-clause-writes g c).After-clears in
-    then_written (calm_disk phases.Settled (calm_read g at t)) (was_read g at t).same (was_read g at t).grows (rw c.clears.ensures.size at (c.replace_range.ensures.writes t))
+    then_written (nor_flash (blocks_of (g.N.Nor.extent c.args.nor.now)) c.replace_range.new.phase (g.N.Nor.flash c.replace_range.new.nor)) (calm_read g at t) (was_read g at t)
+    (rw c.clears.ensures.size at (c.replace_range.ensures.writes t))
 
 pub returns-in-Some-false-clause-erases : goal.returns-in-Some-false-clause-erases
 returns-in-Some-false-clause-erases g c t only =
