@@ -10,7 +10,7 @@ use Rattle.nor_flash.specs.declared.phase.Phase.{Phase}
 use Rattle.nor_flash.specs.declared.phase.Phase.TheVariants as phases
 use Rattle.nor_flash.specs.Blocks.{IsErased, OutsideBlock, cleared, front, name_in, named, plain, with_block}
 use Rattle.nor_flash.specs.NorDisks.{IsCommit, IsOneOf, IsPrepared, blocks_of, seen}
-use Rattle.nor_flash.proofs.BlockLemmas.{erased_name, front_same, name_same, names_of, plain_named, plain_unnamed, third_blank, three_names, with_block_same}
+use Rattle.nor_flash.proofs.BlockLemmas.{blank_none, erased_name, front_same, name_same, names_of, plain_named, plain_unnamed, three_names, with_block_same}
 use Rattle.nor_flash.proofs.Calm.{Changes, calm_fits, front_stays, left_same, name_stays, shown_stays}
 use Rattle.nor_flash.proofs.Filling.{cleared_erased}
 use Rattle.nor_flash.proofs.Steadiness.{passes_by, plain_grows}
@@ -24,7 +24,7 @@ module _ {size block : ℕ} {a b : Flash} (change : Changes size (blocks_of size
   fits = calm_fits change.sized change.from
 
   unnamed : named m a.reads ≡ None
-  unnamed = third_blank m (name_in (m + 1) a.reads) (name_in (m + 2) a.reads) (name_in (m + 3) a.reads) change.sized.few (erased_name m a.reads fits (m + 3) (omega arith) ready.third)
+  unnamed = blank_none m change.sized.few a.reads 3 (omega arith) (omega arith) (erased_name m a.reads fits (m + 3) (omega arith) ready.third)
 
   -- the image shows the old block or the new one
   abbrev Either : List ℕ → Type 0
@@ -33,7 +33,7 @@ module _ {size block : ℕ} {a b : Flash} (change : Changes size (blocks_of size
   shown : (d : List ℕ) → SameOn (OutsideBlock (m + 3)) a.reads d → (o : Option ℕ) → named m d ≡ o → Either (plain m d)
   shown d same None is = inl (plain_unnamed m d is ∙ front_same m a.reads fits (m + 3) d same (omega arith))
   shown d same (Some c) is =
-      let names = names_of m (name_in (m + 1) d) (name_in (m + 2) d) (name_in (m + 3) d) c is in
+      let names = names_of m d c is in
       let one = name_same m a.reads fits (m + 3) d same (m + 1) (λ e. absurd (omega (arith, e))) (omega arith) in
       let it : c ≡ block = sym names.first ∙ one ∙ ready.first in
       inr (plain_named m c d is ∙ with_block_same m a.reads fits (m + 3) d same c (omega arith) (λ e. absurd (omega (arith, e))) ∙ ap (λ (x : ℕ). with_block m x a.reads) it)
@@ -55,7 +55,7 @@ module _ {size block : ℕ} {a b : Flash} (change : Changes size (blocks_of size
   named_then within third =
       let one = name_stays change (m + 1) (λ e. absurd (omega (arith, e))) (omega arith) in
       let two = name_stays change (m + 2) (λ e. absurd (omega (arith, e))) (omega arith) in
-      three_names m (name_in (m + 1) b.reads) (name_in (m + 2) b.reads) (name_in (m + 3) b.reads) block (one ∙ ready.first) (two ∙ ready.second) third within
+      three_names m b.reads block (record { first = one ∙ ready.first; second = two ∙ ready.second; third = third; within = within })
 
   pub shown_then : block < m → name_in (m + 3) b.reads ≡ block → plain m b.reads ≡ with_block m block a.reads
   shown_then within third = plain_named m block b.reads (named_then within third) ∙ shown_stays change block (omega arith) (λ e. absurd (omega (arith, e)))
