@@ -1,5 +1,5 @@
 -- A disk over NOR flash.
-use Rattle.std.specs.Prelude.{◌≡◌, ◌<◌, ◌≤◌, ◌⊎◌, ◌+◌, ◌-◌, ◌/◌, ℕ, List, Option, Some, None, length}
+use Rattle.std.specs.Prelude.{◌≡◌, ◌<◌, ◌≤◌, ◌⊎◌, ◌+◌, ◌-◌, ◌/◌, ℕ, Bool, IsTrue, List, Option, Some, None, length}
 use Rattle.suit_edge.specs.Edge.{IfDone}
 use Rattle.suit_edge.specs.Faults.{Faulted}
 use Rattle.suit_edge.specs.Flash.{Flash, Grows, IsSame, Keeps, Passes}
@@ -71,6 +71,10 @@ IsOfDisk m phases.Unsettled = Unit {0}
 IsOfDisk m phases.Settled = Unit {0}
 IsOfDisk m phases.GivenUp = Unit {0}
 IsOfDisk m (phases.Rewriting block) = block < m
+
+-- what the phase says is so, as far as the device is told
+abbrev pub Knows : Bool → ℕ → Phase → List ℕ → Type 0
+Knows told m phase device = IsOfDisk m phase × (IsTrue told → HoldsPhase m phase device)
 
 -- the names can be erased: a rewrite was given up, or nothing is known and no block is named
 abbrev pub CanClear : ℕ → Phase → List ℕ → Type 0

@@ -2,7 +2,7 @@
 
 ghost use Rattle.lane_bytes.specs.Bytes.{OnlyClears};
 ghost use Rattle.nor_flash.specs.Blocks.{plain};
-ghost use Rattle.nor_flash.specs.NorDisks.{AreErased, HoldsPhase, IsOfDisk, ReadCounts, Writes, blocks_of, nor_flash};
+ghost use Rattle.nor_flash.specs.NorDisks.{AreErased, Knows, ReadCounts, Writes, blocks_of, nor_flash};
 ghost use Rattle.nor_flash.specs.declared.phase.Phase.TheVariants as phases;
 ghost use Rattle.std.specs.Prelude.{◌≡◌, ◌↔◌, ◌+◌, ◌*◌, ◌%◌, ◌≤◌, IfSome, IsTrue, length, slice_range};
 ghost use Rattle.suit_edge.specs.Edge.{IfDone};
@@ -79,9 +79,7 @@ fn replace_range<N: Nor>(nor: &mut N, phase: &mut Phase, place: u64, bytes: &[u8
     ensures size { N.extent nor.new ≡ N.extent nor.old }
     ensures counts { EdgeCounts result (N.faults nor.old) (N.faults nor.new) }
     ensures settled { IfDone result (phase.new ≡ phases.Settled) }
-    ensures within { IsOfDisk (blocks_of (N.extent nor.old)) phase.new }
-    ensures holds { IsTrue N.told
-        → HoldsPhase (blocks_of (N.extent nor.old)) phase.new (N.flash nor.new).reads }
+    ensures knows { Knows N.told (blocks_of (N.extent nor.old)) phase.new (N.flash nor.new).reads }
     ensures writes { IsTrue N.told → Writes result place bytes.now
         (nor_flash (blocks_of (N.extent nor.old)) phases.Settled (N.flash nor.old))
         (nor_flash (blocks_of (N.extent nor.old)) phase.new (N.flash nor.new)) }
@@ -108,9 +106,7 @@ fn write_piece<N: Nor>(nor: &mut N, phase: &mut Phase, place: u64, bytes: &[u8])
     ensures size { N.extent nor.new ≡ N.extent nor.old }
     ensures counts { EdgeCounts result (N.faults nor.old) (N.faults nor.new) }
     ensures settled { IfDone result (phase.new ≡ phases.Settled) }
-    ensures within { IsOfDisk (blocks_of (N.extent nor.old)) phase.new }
-    ensures holds { IsTrue N.told
-        → HoldsPhase (blocks_of (N.extent nor.old)) phase.new (N.flash nor.new).reads }
+    ensures knows { Knows N.told (blocks_of (N.extent nor.old)) phase.new (N.flash nor.new).reads }
     ensures writes { IsTrue N.told → Writes result place bytes.now
         (nor_flash (blocks_of (N.extent nor.old)) phases.Settled (N.flash nor.old))
         (nor_flash (blocks_of (N.extent nor.old)) phase.new (N.flash nor.new)) }
@@ -146,9 +142,7 @@ fn write_settled<N: Nor>(nor: &mut N, phase: &mut Phase, place: u64, bytes: &[u8
     ensures size { N.extent nor.new ≡ N.extent nor.old }
     ensures counts { EdgeCounts result (N.faults nor.old) (N.faults nor.new) }
     ensures settled { IfDone result (phase.new ≡ phases.Settled) }
-    ensures within { IsOfDisk (blocks_of (N.extent nor.old)) phase.new }
-    ensures holds { IsTrue N.told
-        → HoldsPhase (blocks_of (N.extent nor.old)) phase.new (N.flash nor.new).reads }
+    ensures knows { Knows N.told (blocks_of (N.extent nor.old)) phase.new (N.flash nor.new).reads }
     ensures writes { IsTrue N.told → Writes result place bytes.now
         (nor_flash (blocks_of (N.extent nor.old)) phases.Settled (N.flash nor.old))
         (nor_flash (blocks_of (N.extent nor.old)) phase.new (N.flash nor.new)) }
@@ -174,15 +168,11 @@ fn write_settled<N: Nor>(nor: &mut N, phase: &mut Phase, place: u64, bytes: &[u8
 /// Settles the disk, then writes the bytes from `place` on.
 pub(crate) fn write<N: Nor>(nor: &mut N, phase: &mut Phase, place: u64, bytes: &[u8]) -> Edge
     requires fits { place + length bytes.now ≤ 4096 * blocks_of (N.extent nor.old) }
-    requires within { IsOfDisk (blocks_of (N.extent nor.old)) phase.old }
-    requires holds { IsTrue N.told
-        → HoldsPhase (blocks_of (N.extent nor.old)) phase.old (N.flash nor.old).reads }
+    requires knows { Knows N.told (blocks_of (N.extent nor.old)) phase.old (N.flash nor.old).reads }
     ensures size { N.extent nor.new ≡ N.extent nor.old }
     ensures counts { EdgeCounts result (N.faults nor.old) (N.faults nor.new) }
     ensures settled { IfDone result (phase.new ≡ phases.Settled) }
-    ensures within { IsOfDisk (blocks_of (N.extent nor.old)) phase.new }
-    ensures holds { IsTrue N.told
-        → HoldsPhase (blocks_of (N.extent nor.old)) phase.new (N.flash nor.new).reads }
+    ensures knows { Knows N.told (blocks_of (N.extent nor.old)) phase.new (N.flash nor.new).reads }
     ensures writes { IsTrue N.told → Writes result place bytes.now
         (nor_flash (blocks_of (N.extent nor.old)) phase.old (N.flash nor.old))
         (nor_flash (blocks_of (N.extent nor.old)) phase.new (N.flash nor.new)) }

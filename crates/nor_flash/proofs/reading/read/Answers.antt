@@ -34,7 +34,7 @@ returns-in-Rewriting-clause-bytes g c t =
     let from = c.args.place in
     let to = c.args.place + length c.args.room.now in
     let block = c.in-Rewriting.block in
-    let is : named m a ≡ Some block = subst (λ (p : Phase). HoldsPhase m p a) c.in-Rewriting.is (c.requires.holds t) in
+    let is : named m a ≡ Some block = subst (λ (p : Phase). HoldsPhase m p a) c.in-Rewriting.is (c.requires.knows.1 t) in
     let sees : seen m c.args.phase.now a ≡ with_block m block a =
     subst (λ (p : Phase). seen m p a ≡ with_block m block a) (sym c.in-Rewriting.is) (plain_named m block a is) in
     if_done_then c.read_named.result (c.read_named.new.room ≡ slice_range (with_block m block a) from to) (c.read_named.new.room ≡ slice_range (seen m c.args.phase.now a) from to) (c.read_named.ensures.bytes t)

@@ -57,7 +57,7 @@ loop-at-preserved g c =
       size = c.write_piece.ensures.size ∙ c.loop-at.invariant.size;
       counts = c.in-Done.ensures.counts ∙ c.loop-at.invariant.counts;
       up = λ t. goes_on (calm_a g at t) c.args.place c.args.bytes.now c.requires.fits (calm_b g at t) c.loop-at.at _ (omega arith) (end g at t) (c.loop-at.invariant.up t)
-          (g.N.Nor.flash c.write_piece.new.nor) (rw (c.loop-at.invariant.size, c.in-Done.ensures.settled) at (c.write_piece.ensures.holds t))
+          (g.N.Nor.flash c.write_piece.new.nor) (rw (c.loop-at.invariant.size, c.in-Done.ensures.settled) at (c.write_piece.ensures.knows.1 t))
           (rw (c.loop-at.invariant.size, c.in-Done.ensures.settled) at (c.in-Done.ensures.writes t));
       erases = λ t. no_erase g at t;
     }
