@@ -1,6 +1,5 @@
 -- Blocks that the disk does not depend on.
 use Rattle.std.proofs.Common.{◌≡◌, ◌≢◌, ◌⊎◌, inl, inr, ⊎_elim, ◌<◌, ◌≤◌, ◌+◌, ◌*◌, ℕ, List, length, Option, Some, None, refl, sym, ◌∙◌, subst, arith}
-use Rattle.std.proofs.lemmas.Bool.{cases_lt}
 use Rattle.nor_flash.specs.declared.phase.Phase.{Phase}
 use Rattle.nor_flash.specs.declared.phase.Phase.TheVariants as phases
 use Rattle.nor_flash.specs.Blocks.{IsErased, front, name_in, named, plain, with_block}

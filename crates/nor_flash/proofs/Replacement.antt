@@ -1,5 +1,5 @@
 -- Replacing a block: the image block and the first two names, and the disk at the end.
-use Rattle.std.proofs.Common.{◌≡◌, inl, ⊎_elim, ◌<◌, ◌≤◌, ◌+◌, ◌*◌, ℕ, List, length, refl, sym, ◌∙◌, ap, subst, arith}
+use Rattle.std.proofs.Common.{◌≡◌, inl, ⊎_elim, ◌<◌, ◌≤◌, ◌+◌, ◌*◌, ℕ, List, length, refl, ◌∙◌, ap, subst, arith}
 use Rattle.std.specs.List.{slice_range}
 use Rattle.suit_edge.specs.Flash.{Flash, Now, Passes}
 use Rattle.suit_edge.specs.FlashLaws.{grows_then, joined, then_same, weakens}

@@ -102,7 +102,8 @@ pub record IsPrepared (m block : ℕ) (device : List ℕ) : Type 0 where
   pub second : name_in (m + 2) device ≡ block
   pub third : IsErased (m + 3) device
 
--- if the call was done, these bytes are written from the place on; all other places stay as they are in any case
+-- If the call was done, these bytes are written from the place on. In any case all other places keep what they
+-- read, and so does each image of a power loss since; and the images of earlier moments remain possible.
 pub record Writes (answer : Edge) (place : ℕ) (bytes : List ℕ) (old new : Flash) : Type 0 where
   pub written : IfDone answer (new.reads ≡ written old.reads place bytes)
   pub keeps : Keeps (Outside place (length bytes)) old new

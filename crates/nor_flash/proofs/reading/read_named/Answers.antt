@@ -1,7 +1,6 @@
 use Rattle.std.proofs.Common.{◌≡◌, inl, inr, ⊎_elim, ◌≤◌, ◌+◌, ◌-◌, ◌*◌, ℕ, List, IsTrue, length, refl, ◌∙◌, ap, arith}
 use Rattle.std.specs.List.{slice_range}
 use Rattle.std.proofs.lemmas.Bool.{cases_lt}
-use Rattle.suit_edge.specs.Edge.{IfDone}
 use Rattle.suit_edge.specs.EdgeLaws.{if_done_then}
 use Rattle.suit_edge.specs.Ranges.{written}
 use Rattle.nor_flash.specs.Blocks.{with_block}

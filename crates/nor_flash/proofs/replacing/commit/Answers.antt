@@ -9,8 +9,8 @@ use Rattle.nor_flash.proofs.replacing.commit.Goals as goal
 use Rattle.nor_flash.proofs.replacing.commit.Goals.{After-program_name}
 
 module _ (g : given.Over) (c : After-program_name g) (t : IsTrue g.N.Nor.told) where
-  last : Changes (g.N.Nor.extent c.args.nor.now) ((blocks_of (g.N.Nor.extent c.args.nor.now)) + 3) (g.N.Nor.flash c.args.nor.now) (g.N.Nor.flash c.program_name.new.nor)
-  last = changes ((blocks_of (g.N.Nor.extent c.args.nor.now)) + 3) (sized_by (g.N.Nor.extent c.args.nor.now) c.count-image.result c.count-image.ensures.count c.count-image.ensures.few c.count-image.ensures.all) (calm_by refl (g.met.N.Nor.obeys c.args.nor.now t) (g.met.N.Nor.rests c.args.nor.now t) (g.met.N.Nor.cells c.args.nor.now t))
+  last : Changes (g.N.Nor.extent c.args.nor.now) (blocks_of (g.N.Nor.extent c.args.nor.now) + 3) (g.N.Nor.flash c.args.nor.now) (g.N.Nor.flash c.program_name.new.nor)
+  last = changes (blocks_of (g.N.Nor.extent c.args.nor.now) + 3) (sized_by (g.N.Nor.extent c.args.nor.now) c.count-image.result c.count-image.ensures.count c.count-image.ensures.few c.count-image.ensures.all) (calm_by refl (g.met.N.Nor.obeys c.args.nor.now t) (g.met.N.Nor.rests c.args.nor.now t) (g.met.N.Nor.cells c.args.nor.now t))
       (calm_by c.program_name.ensures.size (g.met.N.Nor.obeys c.program_name.new.nor t) (g.met.N.Nor.rests c.program_name.new.nor t) (g.met.N.Nor.cells c.program_name.new.nor t)) (c.program_name.ensures.keeps t) (c.program_name.ensures.grows t)
 
 pub returns-clause-committed : goal.returns-clause-committed

@@ -11,16 +11,16 @@ use Rattle.nor_flash.proofs.replacing.prepare.Goals as goal
 use Rattle.nor_flash.proofs.replacing.prepare.Goals.{After-program_name, After-program_name-2}
 
 module _ (g : given.Over) (c : After-program_name g) (t : IsTrue g.N.Nor.told) where
-  one : Changes (g.N.Nor.extent c.args.nor.now) ((blocks_of (g.N.Nor.extent c.args.nor.now)) + 1) (g.N.Nor.flash c.args.nor.now) (g.N.Nor.flash c.program_name.new.nor)
-  one = changes ((blocks_of (g.N.Nor.extent c.args.nor.now)) + 1) (sized_by (g.N.Nor.extent c.args.nor.now) c.count-image.result c.count-image.ensures.count c.count-image.ensures.few c.count-image.ensures.all) (calm_by refl (g.met.N.Nor.obeys c.args.nor.now t) (g.met.N.Nor.rests c.args.nor.now t) (g.met.N.Nor.cells c.args.nor.now t))
+  one : Changes (g.N.Nor.extent c.args.nor.now) (blocks_of (g.N.Nor.extent c.args.nor.now) + 1) (g.N.Nor.flash c.args.nor.now) (g.N.Nor.flash c.program_name.new.nor)
+  one = changes (blocks_of (g.N.Nor.extent c.args.nor.now) + 1) (sized_by (g.N.Nor.extent c.args.nor.now) c.count-image.result c.count-image.ensures.count c.count-image.ensures.few c.count-image.ensures.all) (calm_by refl (g.met.N.Nor.obeys c.args.nor.now t) (g.met.N.Nor.rests c.args.nor.now t) (g.met.N.Nor.cells c.args.nor.now t))
       (calm_by c.program_name.ensures.size (g.met.N.Nor.obeys c.program_name.new.nor t) (g.met.N.Nor.rests c.program_name.new.nor t) (g.met.N.Nor.cells c.program_name.new.nor t)) (c.program_name.ensures.keeps t) (c.program_name.ensures.grows t)
 
-  third_blank : IsErased ((blocks_of (g.N.Nor.extent c.args.nor.now)) + 3) (g.N.Nor.flash c.program_name.new.nor).reads
-  third_blank = blank_stays one ((blocks_of (g.N.Nor.extent c.args.nor.now)) + 3) (λ e. absurd (omega (arith, e))) (c.requires t).2
+  third_blank : IsErased (blocks_of (g.N.Nor.extent c.args.nor.now) + 3) (g.N.Nor.flash c.program_name.new.nor).reads
+  third_blank = blank_stays one (blocks_of (g.N.Nor.extent c.args.nor.now) + 3) (λ e. absurd (omega (arith, e))) (c.requires t).2
 
 module _ (g : given.Over) (c : After-program_name-2 g) (t : IsTrue g.N.Nor.told) where
-  two : Changes (g.N.Nor.extent c.args.nor.now) ((blocks_of (g.N.Nor.extent c.args.nor.now)) + 2) (g.N.Nor.flash c.program_name.new.nor) (g.N.Nor.flash c.program_name-2.new.nor)
-  two = changes ((blocks_of (g.N.Nor.extent c.args.nor.now)) + 2) (sized_by (g.N.Nor.extent c.args.nor.now) c.count-image.result c.count-image.ensures.count c.count-image.ensures.few c.count-image.ensures.all) (calm_by c.program_name.ensures.size (g.met.N.Nor.obeys c.program_name.new.nor t) (g.met.N.Nor.rests c.program_name.new.nor t) (g.met.N.Nor.cells c.program_name.new.nor t))
+  two : Changes (g.N.Nor.extent c.args.nor.now) (blocks_of (g.N.Nor.extent c.args.nor.now) + 2) (g.N.Nor.flash c.program_name.new.nor) (g.N.Nor.flash c.program_name-2.new.nor)
+  two = changes (blocks_of (g.N.Nor.extent c.args.nor.now) + 2) (sized_by (g.N.Nor.extent c.args.nor.now) c.count-image.result c.count-image.ensures.count c.count-image.ensures.few c.count-image.ensures.all) (calm_by c.program_name.ensures.size (g.met.N.Nor.obeys c.program_name.new.nor t) (g.met.N.Nor.rests c.program_name.new.nor t) (g.met.N.Nor.cells c.program_name.new.nor t))
       (calm_by (c.program_name-2.ensures.size ∙ c.program_name.ensures.size) (g.met.N.Nor.obeys c.program_name-2.new.nor t) (g.met.N.Nor.rests c.program_name-2.new.nor t) (g.met.N.Nor.cells c.program_name-2.new.nor t)) (rw c.program_name.ensures.size at (c.program_name-2.ensures.keeps t)) (c.program_name-2.ensures.grows t)
 
 pub returns-in-Failed-clause-shown : goal.returns-in-Failed-clause-shown

@@ -3,7 +3,7 @@ use Rattle.suit_edge.specs.EdgeLaws.{always}
 use Rattle.suit_edge.specs.Ranges.{written}
 use Rattle.nor_flash.specs.declared.phase.Phase.TheVariants as phases
 use Rattle.nor_flash.specs.Blocks.{front, plain, with_block}
-use Rattle.nor_flash.specs.NorDisks.{IsSteady, blocks_of, nor_flash}
+use Rattle.nor_flash.specs.NorDisks.{IsSteady, blocks_of, nor_flash, seen}
 use Rattle.nor_flash.proofs.Calm.{IsCalm, IsSized, calm_by, calm_fits, sized_by}
 use Rattle.nor_flash.proofs.Fronts.{settled_front}
 use Rattle.nor_flash.proofs.Replacement.{replaced_then, same_replaced, stored_shows, then_replaced}
@@ -74,4 +74,5 @@ pub returns-clause-written : goal.returns-clause-written
 returns-clause-written g c t =
     let at = goal.at.returns-clause-written g c in
     let is = shows g at.After-prepare t (stored g at.After-store_image t) (fronts g at.After-store_image t) in
-    always c.finish.result _ ((finished g at.After-finish t).same.reads ∙ (rw (c.prepare.ensures.size ∙ c.store_image.ensures.size) at (c.in-Done-commit.ensures.shown t)) ∙ is)
+    always c.finish.result (seen (blocks_of (g.N.Nor.extent c.args.nor.now)) c.finish.new.phase (g.N.Nor.flash c.finish.new.nor).reads ≡ written (plain (blocks_of (g.N.Nor.extent c.args.nor.now)) (g.N.Nor.flash c.args.nor.now).reads) (4096 * c.args.block) c.args.bytes.now)
+    ((finished g at.After-finish t).same.reads ∙ (rw (c.prepare.ensures.size ∙ c.store_image.ensures.size) at (c.in-Done-commit.ensures.shown t)) ∙ is)

@@ -21,20 +21,20 @@ module _ (g : given.Over) (c : In-Some-name g) (t : IsTrue g.N.Nor.told) where
   same : (g.N.Nor.flash c.name-2.new.nor).reads ≡ (g.N.Nor.flash c.args.nor.now).reads
   same = (c.name-2.ensures.same t).reads ∙ (c.name.ensures.same t).reads
 
-  second : c.in-Some.name ≡ name_in ((blocks_of (g.N.Nor.extent c.args.nor.now)) + 2) (g.N.Nor.flash c.args.nor.now).reads
+  second : c.in-Some.name ≡ name_in (blocks_of (g.N.Nor.extent c.args.nor.now) + 2) (g.N.Nor.flash c.args.nor.now).reads
   second = rw c.count-image.ensures.count at (c.in-Some.ensures.exact t)
 
-  third : c.in-Some-name.name ≡ name_in ((blocks_of (g.N.Nor.extent c.args.nor.now)) + 3) (g.N.Nor.flash c.args.nor.now).reads
+  third : c.in-Some-name.name ≡ name_in (blocks_of (g.N.Nor.extent c.args.nor.now) + 3) (g.N.Nor.flash c.args.nor.now).reads
   third = rw (c.count-image.ensures.count, (c.name.ensures.same t).reads) at (c.in-Some-name.ensures.exact t)
 
   -- and the names erased
-  then_erased : {e : Flash} (phase : Phase) (name : ℕ) → (IsQuiet (blocks_of (g.N.Nor.extent c.args.nor.now)) phase (g.N.Nor.flash c.name-2.new.nor).reads ((blocks_of (g.N.Nor.extent c.args.nor.now)) + name) → IsSteady (blocks_of (g.N.Nor.extent c.args.nor.now)) phase (g.N.Nor.flash c.name-2.new.nor) phase e)
-      → IsQuiet (blocks_of (g.N.Nor.extent c.args.nor.now)) phase (g.N.Nor.flash c.args.nor.now).reads ((blocks_of (g.N.Nor.extent c.args.nor.now)) + name) → IsSteady (blocks_of (g.N.Nor.extent c.args.nor.now)) phase (g.N.Nor.flash c.args.nor.now) phase e
+  then_erased : {e : Flash} (phase : Phase) (name : ℕ) → (IsQuiet (blocks_of (g.N.Nor.extent c.args.nor.now)) phase (g.N.Nor.flash c.name-2.new.nor).reads (blocks_of (g.N.Nor.extent c.args.nor.now) + name) → IsSteady (blocks_of (g.N.Nor.extent c.args.nor.now)) phase (g.N.Nor.flash c.name-2.new.nor) phase e)
+      → IsQuiet (blocks_of (g.N.Nor.extent c.args.nor.now)) phase (g.N.Nor.flash c.args.nor.now).reads (blocks_of (g.N.Nor.extent c.args.nor.now) + name) → IsSteady (blocks_of (g.N.Nor.extent c.args.nor.now)) phase (g.N.Nor.flash c.args.nor.now) phase e
   then_erased phase name erases quiet =
       let calm_b : IsCalm (g.N.Nor.extent c.args.nor.now) (g.N.Nor.flash c.name.new.nor) = calm_by c.name.ensures.size (g.met.N.Nor.obeys c.name.new.nor t) (g.met.N.Nor.rests c.name.new.nor t) (g.met.N.Nor.cells c.name.new.nor t) in
       let calm_d : IsCalm (g.N.Nor.extent c.args.nor.now) (g.N.Nor.flash c.name-2.new.nor) = calm_by (c.name-2.ensures.size ∙ c.name.ensures.size) (g.met.N.Nor.obeys c.name-2.new.nor t) (g.met.N.Nor.rests c.name-2.new.nor t) (g.met.N.Nor.cells c.name-2.new.nor t) in
       steady_then calm_b (read_step (blocks_of (g.N.Nor.extent c.args.nor.now)) phase (c.name.ensures.same t) (c.name.ensures.grows t)) (steady_then calm_d (read_step (blocks_of (g.N.Nor.extent c.args.nor.now)) phase (c.name-2.ensures.same t) (c.name-2.ensures.grows t))
-      (erases (subst (λ (l : List ℕ). IsQuiet (blocks_of (g.N.Nor.extent c.args.nor.now)) phase l ((blocks_of (g.N.Nor.extent c.args.nor.now)) + name)) (sym same) quiet)))
+      (erases (subst (λ (l : List ℕ). IsQuiet (blocks_of (g.N.Nor.extent c.args.nor.now)) phase l (blocks_of (g.N.Nor.extent c.args.nor.now) + name)) (sym same) quiet)))
 
 pub returns-then-second-third-clause-steady : goal.returns-then-second-third-clause-steady
 returns-then-second-third-clause-steady g c t phase can =

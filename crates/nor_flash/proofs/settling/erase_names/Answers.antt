@@ -10,21 +10,21 @@ use Rattle.nor_flash.proofs.settling.erase_names.Goals as goal
 use Rattle.nor_flash.proofs.settling.erase_names.Goals.{After-erase, After-erase-2, After-erase-3}
 
 module _ (g : given.Over) (c : After-erase g) (t : IsTrue g.N.Nor.told) where
-  one : Changes (g.N.Nor.extent c.args.nor.now) ((blocks_of (g.N.Nor.extent c.args.nor.now)) + c.args.first) (g.N.Nor.flash c.args.nor.now) (g.N.Nor.flash c.erase.new.nor)
-  one = changes ((blocks_of (g.N.Nor.extent c.args.nor.now)) + c.args.first) (sized_by (g.N.Nor.extent c.args.nor.now) c.count-image.result c.count-image.ensures.count c.count-image.ensures.few c.count-image.ensures.all) (calm_by refl (g.met.N.Nor.obeys c.args.nor.now t) (g.met.N.Nor.rests c.args.nor.now t) (g.met.N.Nor.cells c.args.nor.now t))
+  one : Changes (g.N.Nor.extent c.args.nor.now) (blocks_of (g.N.Nor.extent c.args.nor.now) + c.args.first) (g.N.Nor.flash c.args.nor.now) (g.N.Nor.flash c.erase.new.nor)
+  one = changes (blocks_of (g.N.Nor.extent c.args.nor.now) + c.args.first) (sized_by (g.N.Nor.extent c.args.nor.now) c.count-image.result c.count-image.ensures.count c.count-image.ensures.few c.count-image.ensures.all) (calm_by refl (g.met.N.Nor.obeys c.args.nor.now t) (g.met.N.Nor.rests c.args.nor.now t) (g.met.N.Nor.cells c.args.nor.now t))
       (calm_by c.erase.ensures.size (g.met.N.Nor.obeys c.erase.new.nor t) (g.met.N.Nor.rests c.erase.new.nor t) (g.met.N.Nor.cells c.erase.new.nor t)) (rw c.count-image.ensures.count at (c.erase.ensures.keeps t)) (c.erase.ensures.grows t)
 
 module _ (g : given.Over) (c : After-erase-2 g) (t : IsTrue g.N.Nor.told) where
-  two : Changes (g.N.Nor.extent c.args.nor.now) ((blocks_of (g.N.Nor.extent c.args.nor.now)) + c.args.second) (g.N.Nor.flash c.erase.new.nor) (g.N.Nor.flash c.erase-2.new.nor)
-  two = changes ((blocks_of (g.N.Nor.extent c.args.nor.now)) + c.args.second) (sized_by (g.N.Nor.extent c.args.nor.now) c.count-image.result c.count-image.ensures.count c.count-image.ensures.few c.count-image.ensures.all) (calm_by c.erase.ensures.size (g.met.N.Nor.obeys c.erase.new.nor t) (g.met.N.Nor.rests c.erase.new.nor t) (g.met.N.Nor.cells c.erase.new.nor t))
+  two : Changes (g.N.Nor.extent c.args.nor.now) (blocks_of (g.N.Nor.extent c.args.nor.now) + c.args.second) (g.N.Nor.flash c.erase.new.nor) (g.N.Nor.flash c.erase-2.new.nor)
+  two = changes (blocks_of (g.N.Nor.extent c.args.nor.now) + c.args.second) (sized_by (g.N.Nor.extent c.args.nor.now) c.count-image.result c.count-image.ensures.count c.count-image.ensures.few c.count-image.ensures.all) (calm_by c.erase.ensures.size (g.met.N.Nor.obeys c.erase.new.nor t) (g.met.N.Nor.rests c.erase.new.nor t) (g.met.N.Nor.cells c.erase.new.nor t))
       (calm_by (c.erase-2.ensures.size ∙ c.erase.ensures.size) (g.met.N.Nor.obeys c.erase-2.new.nor t) (g.met.N.Nor.rests c.erase-2.new.nor t) (g.met.N.Nor.cells c.erase-2.new.nor t)) (rw c.count-image.ensures.count at (c.erase-2.ensures.keeps t)) (c.erase-2.ensures.grows t)
 
-  erased : IsErased ((blocks_of (g.N.Nor.extent c.args.nor.now)) + c.args.first) (g.N.Nor.flash c.erase.new.nor).reads
+  erased : IsErased (blocks_of (g.N.Nor.extent c.args.nor.now) + c.args.first) (g.N.Nor.flash c.erase.new.nor).reads
   erased = rw c.count-image.ensures.count at (c.in-Done.ensures.erased t)
 
 module _ (g : given.Over) (c : After-erase-3 g) (t : IsTrue g.N.Nor.told) where
-  three : Changes (g.N.Nor.extent c.args.nor.now) ((blocks_of (g.N.Nor.extent c.args.nor.now)) + 3) (g.N.Nor.flash c.erase-2.new.nor) (g.N.Nor.flash c.erase-3.new.nor)
-  three = changes ((blocks_of (g.N.Nor.extent c.args.nor.now)) + 3) (sized_by (g.N.Nor.extent c.args.nor.now) c.count-image.result c.count-image.ensures.count c.count-image.ensures.few c.count-image.ensures.all) (calm_by (c.erase-2.ensures.size ∙ c.erase.ensures.size) (g.met.N.Nor.obeys c.erase-2.new.nor t) (g.met.N.Nor.rests c.erase-2.new.nor t) (g.met.N.Nor.cells c.erase-2.new.nor t))
+  three : Changes (g.N.Nor.extent c.args.nor.now) (blocks_of (g.N.Nor.extent c.args.nor.now) + 3) (g.N.Nor.flash c.erase-2.new.nor) (g.N.Nor.flash c.erase-3.new.nor)
+  three = changes (blocks_of (g.N.Nor.extent c.args.nor.now) + 3) (sized_by (g.N.Nor.extent c.args.nor.now) c.count-image.result c.count-image.ensures.count c.count-image.ensures.few c.count-image.ensures.all) (calm_by (c.erase-2.ensures.size ∙ c.erase.ensures.size) (g.met.N.Nor.obeys c.erase-2.new.nor t) (g.met.N.Nor.rests c.erase-2.new.nor t) (g.met.N.Nor.cells c.erase-2.new.nor t))
       (calm_by (c.erase-3.ensures.size ∙ c.erase-2.ensures.size ∙ c.erase.ensures.size) (g.met.N.Nor.obeys c.erase-3.new.nor t) (g.met.N.Nor.rests c.erase-3.new.nor t) (g.met.N.Nor.cells c.erase-3.new.nor t)) (rw c.count-image.ensures.count at (c.erase-3.ensures.keeps t)) (c.erase-3.ensures.grows t)
 
 pub returns-in-Failed-clause-steady : goal.returns-in-Failed-clause-steady

@@ -14,7 +14,7 @@ module _ (g : given.Over) (c : After-erase_names g) (t : IsTrue g.N.Nor.told) wh
   rewritten =
       let sized : IsSized (g.N.Nor.extent c.args.nor.now) = sized_by (g.N.Nor.extent c.args.nor.now) c.count-image.result c.count-image.ensures.count c.count-image.ensures.few c.count-image.ensures.all in
       let calm : IsCalm (g.N.Nor.extent c.args.nor.now) (g.N.Nor.flash c.rewrite.new.nor) = calm_by c.rewrite.ensures.size (g.met.N.Nor.obeys c.rewrite.new.nor t) (g.met.N.Nor.rests c.rewrite.new.nor t) (g.met.N.Nor.cells c.rewrite.new.nor t) in
-      let quiet : IsQuiet (blocks_of (g.N.Nor.extent c.args.nor.now)) phases.Unsettled (g.N.Nor.flash c.rewrite.new.nor).reads ((blocks_of (g.N.Nor.extent c.args.nor.now)) + 1) =
+      let quiet : IsQuiet (blocks_of (g.N.Nor.extent c.args.nor.now)) phases.Unsettled (g.N.Nor.flash c.rewrite.new.nor).reads (blocks_of (g.N.Nor.extent c.args.nor.now) + 1) =
       finished_quiet (blocks_of (g.N.Nor.extent c.args.nor.now)) sized.few (g.N.Nor.flash c.rewrite.new.nor).reads (calm_fits sized calm) phases.Unsettled c.args.block refl (c.rewrite.ensures.named t (c.requires.named t)) (c.in-Done.ensures.copied t) in
       steady_then calm (then_turned phases.Unsettled calm (c.rewrite.ensures.steady t (c.requires.named t)) refl)
       ((rw c.rewrite.ensures.size at (c.erase_names.ensures.steady t phases.Unsettled (inr refl))) quiet)

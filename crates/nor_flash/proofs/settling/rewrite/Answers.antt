@@ -17,7 +17,7 @@ module _ (g : given.Over) (c : After-erase g) (t : IsTrue g.N.Nor.told) where
   calm_a : IsCalm (g.N.Nor.extent c.args.nor.now) (g.N.Nor.flash c.args.nor.now)
   calm_a = calm_by refl (g.met.N.Nor.obeys c.args.nor.now t) (g.met.N.Nor.rests c.args.nor.now t) (g.met.N.Nor.cells c.args.nor.now t)
 
-  from : c.read_at.new.room ≡ slice_range (g.N.Nor.flash c.args.nor.now).reads (4096 * (blocks_of (g.N.Nor.extent c.args.nor.now))) (4096 * (blocks_of (g.N.Nor.extent c.args.nor.now)) + 4096)
+  from : c.read_at.new.room ≡ slice_range (g.N.Nor.flash c.args.nor.now).reads (4096 * blocks_of (g.N.Nor.extent c.args.nor.now)) (4096 * blocks_of (g.N.Nor.extent c.args.nor.now) + 4096)
   from = rw c.count-image.ensures.count at (c.in-Done.ensures.bytes t)
 
   long : length c.read_at.new.room ≡ 4096

@@ -1,4 +1,4 @@
-use Rattle.std.proofs.Common.{◌+◌, ◌≤◌, ℕ, List, IsTrue, length, refl, subst, arith}
+use Rattle.std.proofs.Common.{◌+◌, ℕ, List, IsTrue, length, refl, subst, arith}
 use Rattle.lane_bytes.specs.Bytes.{OnlyClears}
 use Rattle.nor_flash.specs.declared.phase.Phase.TheVariants as phases
 use Rattle.nor_flash.specs.NorDisks.{IsSteady, blocks_of, nor_flash}
