@@ -10,25 +10,35 @@ use Rattle.lane_bytes.specs.Bytes.{IsFirstOther}
 use Rattle.suit_edge.specs.Ranges.{SameOn, written}
 use Rattle.suit_edge.specs.RangeLaws.{same_range}
 use Rattle.nor_flash.specs.Blocks.{IsErased, OutsideBlock, front, image_block, name_in, named, named_by, plain, plain_by, with_block}
-use Rattle.nor_flash.specs.NorLaws.{length-with_block, with_block-in, with_block-out, some_true}
+use Rattle.nor_flash.specs.NorLaws.{by_range, length-with_block, with_block-in, with_block-out, some_true}
 
 -- ---- names
 
 -- all three names are set to this block
-pub record AreNames (m a b c block : ℕ) : Type 0 where
-  pub first : a ≡ block
-  pub second : b ≡ block
-  pub third : c ≡ block
+pub record AreNames (m : ℕ) (d : List ℕ) (block : ℕ) : Type 0 where
+  pub first : name_in (m + 1) d ≡ block
+  pub second : name_in (m + 2) d ≡ block
+  pub third : name_in (m + 3) d ≡ block
   pub within : block < m
 
-pub names_of : (m a b c block : ℕ) → named_by m a b c ≡ Some block → AreNames m a b c block
-names_of m a b c block is =
+pub names_of : (m : ℕ) (d : List ℕ) (block : ℕ) → named m d ≡ Some block → AreNames m d block
+names_of m d block is =
+    let a : ℕ = name_in (m + 1) d in
+    let b : ℕ = name_in (m + 2) d in
+    let c : ℕ = name_in (m + 3) d in
     let chosen = some_true (eqb a b && (eqb b c && nat_lt a m)) a block is in
     let outer = and_parts (eqb a b) (eqb b c && nat_lt a m) chosen.0 in
     let inner = and_parts (eqb b c) (nat_lt a m) outer.1 in
     let ab : a ≡ b = eqb-true a b outer.0 in
     let bc : b ≡ c = eqb-true b c inner.0 in
     record { first = chosen.1; second = sym ab ∙ chosen.1; third = sym bc ∙ sym ab ∙ chosen.1; within = omega (arith, chosen.1, ltb-true a m inner.1) }
+
+names_by : (m a b c block : ℕ) → a ≡ block → b ≡ block → c ≡ block → block < m → named_by m a b c ≡ Some block
+names_by m a b c block first second third within = grind (arith, first, second, third, within)
+
+-- three names set to the same block name it
+pub three_names : (m : ℕ) (d : List ℕ) (block : ℕ) → AreNames m d block → named m d ≡ Some block
+three_names m d block names = names_by m (name_in (m + 1) d) (name_in (m + 2) d) (name_in (m + 3) d) block names.first names.second names.third names.within
 
 pub none_unless : (o : Option ℕ) → ((c : ℕ) → o ≡ Some c → ⊥) → o ≡ None
 none_unless None other = refl
@@ -38,19 +48,22 @@ none_unless (Some c) other = absurd (other c refl)
 abbrev pub blank_name : ℕ
 blank_name = 18446744073709551615
 
+each_name : (P : ℕ → Type 0) (j : ℕ) → 1 ≤ j → j < 4 → P 1 → P 2 → P 3 → P j
+each_name P j some near one two three = ⊎_elim
+    (λ low. let is : 1 ≡ j = omega (arith, low, some) in subst P is one)
+    (λ past. ⊎_elim
+    (λ mid. let is : 2 ≡ j = omega (arith, mid, past) in subst P is two)
+    (λ high. let is : 3 ≡ j = omega (arith, high, near) in subst P is three)
+    (cases_lt j 3))
+    (cases_lt j 2)
+
 -- if one of the names is blank, no block is named
-pub first_blank : (m a b c : ℕ) → m ≤ blank_name → a ≡ blank_name → named_by m a b c ≡ None
-first_blank m a b c few is = none_unless (named_by m a b c) (λ block at. let names = names_of m a b c block at in omega (arith, names.first, names.within, is, few))
-
-pub second_blank : (m a b c : ℕ) → m ≤ blank_name → b ≡ blank_name → named_by m a b c ≡ None
-second_blank m a b c few is = none_unless (named_by m a b c) (λ block at. let names = names_of m a b c block at in omega (arith, names.second, names.within, is, few))
-
-pub third_blank : (m a b c : ℕ) → m ≤ blank_name → c ≡ blank_name → named_by m a b c ≡ None
-third_blank m a b c few is = none_unless (named_by m a b c) (λ block at. let names = names_of m a b c block at in omega (arith, names.third, names.within, is, few))
-
--- three names set to the same block name it
-pub three_names : (m a b c block : ℕ) → a ≡ block → b ≡ block → c ≡ block → block < m → named_by m a b c ≡ Some block
-three_names m a b c block first second third within = grind (arith, first, second, third, within)
+pub blank_none : (m : ℕ) → m ≤ blank_name → (d : List ℕ) (j : ℕ) → 1 ≤ j → j < 4 → name_in (m + j) d ≡ blank_name → named m d ≡ None
+blank_none m few d j some near is = none_unless (named m d)
+    (λ block at.
+    let names = names_of m d block at in
+    let it : name_in (m + j) d ≡ block = each_name (λ (k : ℕ). name_in (m + k) d ≡ block) j some near names.first names.second names.third in
+    omega (arith, it, names.within, is, few))
 
 -- ---- a block that was read
 
@@ -143,14 +156,7 @@ module _ (m : ℕ) (a : List ℕ) (fits : length a ≡ 4096 * (m + 4)) where
         let d_size = length-with_block m (length a) fits_room d d_fits block within in
         let a_size = length-with_block m (length a) fits_room a refl block within in
         ext_get_or 0 (with_block m block d) (with_block m block a) (d_size ∙ sym a_size)
-        (λ i lt. let low : i < 4096 * m = omega (arith, d_size, lt) in ⊎_elim
-        (λ before. outside i low (inl before))
-        (λ from. ⊎_elim
-        (λ inside. let at : 4096 * block + (i - 4096 * block) ≡ i = omega (arith, from) in
-        subst (λ (j : ℕ). get_or (with_block m block d) j 0 ≡ get_or (with_block m block a) j 0) at (within_it (i - 4096 * block) (omega (arith, from, inside))))
-        (λ behind. outside i low (inr behind))
-        (cases_lt i (4096 * block + 4096)))
-        (cases_lt i (4096 * block)))
+        (λ i lt. by_range (λ (j : ℕ). get_or (with_block m block d) j 0 ≡ get_or (with_block m block a) j 0) (4096 * block) 4096 i (outside i (omega (arith, d_size, lt))) within_it)
       where
         fits_room : 1 ≤ m → 4096 * (m + 4) ≤ length a
         fits_room some = omega (arith, fits)

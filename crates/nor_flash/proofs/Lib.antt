@@ -1,4 +1,5 @@
 pub mod BlockLemmas
+pub mod Calm
 pub mod Commit
 pub mod Direct
 pub mod Filling
@@ -13,3 +14,4 @@ pub mod Quiet
 pub mod Replacement
 pub mod Rewriting
 pub mod Steadiness
+pub mod Written

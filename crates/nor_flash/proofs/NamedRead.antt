@@ -1,13 +1,12 @@
 -- Reading the disk while a block is named.
-use Rattle.std.proofs.Common.{◌≡◌, ◌⊎◌, inl, inr, ⊎_elim, ◌<◌, ◌≤◌, ◌+◌, ◌-◌, ◌*◌, ℕ, List, length, get_or, refl, sym, ◌∙◌, subst, ap, arith}
+use Rattle.std.proofs.Common.{◌≡◌, ◌⊎◌, inl, inr, ⊎_elim, ◌<◌, ◌≤◌, ◌+◌, ◌-◌, ◌*◌, ℕ, List, length, get_or, refl, sym, ◌∙◌, ap, arith}
 use Rattle.std.specs.List.{slice_range}
-use Rattle.std.proofs.lemmas.Bool.{cases_lt}
 use Rattle.std.proofs.lemmas.List.{ext_get_or}
 use Rattle.std.proofs.lemmas.List.Edits.{length-between, get_or-between}
 use Rattle.suit_edge.specs.Ranges.{written}
 use Rattle.suit_edge.specs.RangeLaws.{written_outside, written_within}
 use Rattle.nor_flash.specs.Blocks.{OutsideBlock, with_block}
-use Rattle.nor_flash.specs.NorLaws.{length-with_block, with_block-in, with_block-out}
+use Rattle.nor_flash.specs.NorLaws.{by_range, length-with_block, with_block-in, with_block-out}
 
 module _ (m block : ℕ) (within : block < m) (a : List ℕ) (fits : length a ≡ 4096 * (m + 4)) (place n : ℕ) (inside : place + n ≤ 4096 * m) where
   room_for : 1 ≤ m → 4096 * (m + 4) ≤ length a
@@ -76,11 +75,5 @@ module _ (m block : ℕ) (within : block < m) (a : List ℕ) (fits : length a �
     some_named =
         let whole = written_outside bare (from - place) part put_fits in
         ext_get_or 0 given wanted (whole.size ∙ bare_size ∙ sym wanted_size)
-        (λ k lt. let near : k < n = omega (arith, lt, whole.size, bare_size) in
-        ⊎_elim (λ l. outer k near (inl l))
-        (λ past. ⊎_elim
-        (λ mid. let is : from - place + (k - (from - place)) ≡ k = omega (arith, past) in
-        subst (λ (x : ℕ). get_or given x 0 ≡ get_or wanted x 0) is (inner (k - (from - place)) (omega (arith, past, mid, first, order))))
-        (λ r. outer k near (inr r))
-        (cases_lt k (to - place)))
-        (cases_lt k (from - place)))
+        (λ k lt. by_range (λ (x : ℕ). get_or given x 0 ≡ get_or wanted x 0) (from - place) (to - from) k
+        (λ out. outer k (omega (arith, lt, whole.size, bare_size)) (⊎_elim (λ l. inl l) (λ r. inr (omega (arith, r, first, order))) out)) inner)

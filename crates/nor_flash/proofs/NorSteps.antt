@@ -6,7 +6,7 @@ use Rattle.std.proofs.lemmas.List.{length-replicate, get_or-replicate, take-appe
 use Rattle.suit_edge.specs.declared.edge.Edge.{Edge}
 use Rattle.suit_edge.specs.declared.edge.Edge.TheVariants.{Done, Failed}
 use Rattle.suit_edge.specs.Edge.{IfDone}
-use Rattle.suit_edge.specs.Flash.{Grows, ImageOn, Keeps}
+use Rattle.suit_edge.specs.Flash.{Flash, Grows, ImageOn, Keeps}
 use Rattle.suit_edge.specs.FlashLaws.{grows_start, keeps_start}
 use Rattle.suit_edge.specs.Ranges.{AreBytes, Outside, SameOn, written}
 use Rattle.suit_edge.specs.RangeLaws.{same_start, written_outside, written_within}
@@ -44,6 +44,12 @@ after_step-outside bytes s = by_test (nat_le ((range_of s).place + (range_of s).
         subst (λ (n : ℕ). SameOn (Outside (range_of s).place n) bytes (with_range bytes s (range_of s))) (length-new bytes s fits)
         (written_outside bytes (range_of s).place (filled_by s old) (fits_new bytes s fits))
     by_test false is = same_start (Outside (range_of s).place (range_of s).size) bytes
+
+-- writing a slice of a `Vec` back to it
+put_back : (new items : List ℕ) (len : ℕ) → length new ≡ length items → len ≡ length items → take len (new ++ drop (length new) items) ≡ new
+put_back new items len size full =
+    let none : drop (length new) items ≡ [] = drop_all (length new) items (omega (arith, size)) in
+    ap (λ (l : List ℕ). take len (new ++ l)) none ∙ ap (take len) (append-nil new) ∙ take_all len new (omega (arith, size, full))
 
 -- ---- what a power loss leaves
 
@@ -138,17 +144,20 @@ module _ (blocks : ℕ) (steps new_steps : List Step) (s : Step) (more : new_ste
 
   -- ---- what the device keeps
 
-  module _ (bytes new_bytes : List ℕ) (is : IsDevice blocks steps bytes) (fits : (range_of s).place + (range_of s).size ≤ 4096 * blocks) where
-    fits_reads : (range_of s).place + (range_of s).size ≤ length (nor_reads blocks steps)
-    fits_reads = omega (arith, fits, length-nor_reads blocks steps)
+  module _ (bytes : List ℕ) (is : IsDevice blocks steps bytes) (fits : (range_of s).place + (range_of s).size ≤ 4096 * blocks) where
+    reads_filled : nor_reads blocks new_steps ≡ with_range (nor_reads blocks steps) s (range_of s)
+    reads_filled = reads_step ∙ after_step-fits (nor_reads blocks steps) s (omega (arith, fits, length-nor_reads blocks steps))
 
-    pub reads_filled : nor_reads blocks new_steps ≡ with_range (nor_reads blocks steps) s (range_of s)
-    reads_filled = reads_step ∙ after_step-fits (nor_reads blocks steps) s fits_reads
-
-    pub device_step : new_bytes ≡ with_range bytes s (range_of s) → IsDevice blocks new_steps new_bytes
-    device_step filled =
-        let reads : new_bytes ≡ nor_reads blocks new_steps = filled ∙ ap (λ (l : List ℕ). with_range l s (range_of s)) is.reads ∙ sym reads_filled in
+    device_step : (new : List ℕ) → new ≡ with_range bytes s (range_of s) → IsDevice blocks new_steps new
+    device_step new filled =
+        let reads : new ≡ nor_reads blocks new_steps = filled ∙ ap (λ (l : List ℕ). with_range l s (range_of s)) is.reads ∙ sym reads_filled in
         record { five = is.five; reads = reads; size = ap length reads ∙ length-nor_reads blocks new_steps }
+
+    -- the step was taken in a slice of them
+    pub device_after : (len : ℕ) (was new : List ℕ) → len ≡ length bytes → was ≡ bytes → length new ≡ length was → new ≡ with_range was s (range_of s)
+        → IsDevice blocks new_steps (take len (new ++ drop (length new) bytes))
+    device_after len was new full all size filled =
+        device_step (take len (new ++ drop (length new) bytes)) (put_back new bytes len (size ∙ ap length all) full ∙ filled ∙ ap (λ (l : List ℕ). with_range l s (range_of s)) all)
 
 pub device_start : (blocks : ℕ) (steps : List Step) (bytes : List ℕ) → 5 ≤ blocks → steps ≡ [] → bytes ≡ replicate (4096 * blocks) 255 → IsDevice blocks steps bytes
 unfolding nor_reads after_steps
@@ -162,42 +171,28 @@ pub cleared_range : (bytes : List ℕ) (place : ℕ) (piece : List ℕ) → clea
 unfolding cleared
 cleared_range bytes place piece = refl
 
--- writing a slice of a `Vec` back to it
-pub put_back : (new items : List ℕ) (len : ℕ) → length new ≡ length items → len ≡ length items → take len (new ++ drop (length new) items) ≡ new
-put_back new items len size full =
-    let none : drop (length new) items ≡ [] = drop_all (length new) items (omega (arith, size)) in
-    ap (λ (l : List ℕ). take len (new ++ l)) none ∙ ap (take len) (append-nil new) ∙ take_all len new (omega (arith, size, full))
-
 -- ---- calls on the device as a whole
 
+-- all places of K stay, and so do earlier images
+abbrev pub Spares : (ℕ → Type 0) → NorState → Flash → Type 0
+Spares K before now = Keeps K (memory_nor before) now × Grows (memory_nor before) now
+
 module _ (before now : NorState) where
-  flash_held : HoldsOn before now → memory_nor now ≡ memory_nor before
-  flash_held held = ap (λ (n : ℕ). flash_of n now.steps) held.blocks ∙ ap (flash_of before.blocks) held.steps
+  held : (K : ℕ → Type 0) → HoldsOn before now → Spares K before (memory_nor now)
+  held K is =
+      let same : memory_nor now ≡ memory_nor before = ap (λ (n : ℕ). flash_of n now.steps) is.blocks ∙ ap (flash_of before.blocks) is.steps in
+      subst (Spares K before) (sym same) (keeps_start K (memory_nor before), grows_start (memory_nor before))
 
-  pub grows_held : HoldsOn before now → Grows (memory_nor before) (memory_nor now)
-  grows_held held = subst (Grows (memory_nor before)) (sym (flash_held held)) (grows_start (memory_nor before))
-
-  keeps_held : (K : ℕ → Type 0) → HoldsOn before now → Keeps K (memory_nor before) (memory_nor now)
-  keeps_held K held = subst (Keeps K (memory_nor before)) (sym (flash_held held)) (keeps_start K (memory_nor before))
-
-  keeps_taken : (s : Step) → TakesStep before now s → Keeps (Outside (range_of s).place (range_of s).size) (memory_nor before) (memory_nor now)
-  keeps_taken s taken =
-      subst (Keeps (Outside (range_of s).place (range_of s).size) (memory_nor before)) (sym (ap (λ (n : ℕ). flash_of n now.steps) taken.blocks))
-      (keeps_step before.blocks before.steps now.steps s taken.steps)
-
-  grows_taken : (s : Step) → TakesStep before now s → Grows (memory_nor before) (memory_nor now)
-  grows_taken s taken =
-      subst (Grows (memory_nor before)) (sym (ap (λ (n : ℕ). flash_of n now.steps) taken.blocks)) (grows_step before.blocks before.steps now.steps s taken.steps)
+  taken : (s : Step) → TakesStep before now s → Spares (Outside (range_of s).place (range_of s).size) before (memory_nor now)
+  taken s is =
+      subst (Spares (Outside (range_of s).place (range_of s).size) before) (sym (ap (λ (n : ℕ). flash_of n now.steps) is.blocks))
+      (keeps_step before.blocks before.steps now.steps s is.steps, grows_step before.blocks before.steps now.steps s is.steps)
 
   -- for either answer of a program or an erase
   module _ (s : Step) where
-    pub keeps_exact : (answer : Edge) → StepsExactly answer before now s → Keeps (Outside (range_of s).place (range_of s).size) (memory_nor before) (memory_nor now)
-    keeps_exact Done does = keeps_taken s does.1
-    keeps_exact Failed does = ⊎_elim (λ spoils. keeps_taken (spoiling s) spoils.1) (λ starves. keeps_held (Outside (range_of s).place (range_of s).size) starves.1) does
-
-    pub grows_exact : (answer : Edge) → StepsExactly answer before now s → Grows (memory_nor before) (memory_nor now)
-    grows_exact Done does = grows_taken s does.1
-    grows_exact Failed does = ⊎_elim (λ spoils. grows_taken (spoiling s) spoils.1) (λ starves. grows_held starves.1) does
+    pub spares_exact : (answer : Edge) → StepsExactly answer before now s → Spares (Outside (range_of s).place (range_of s).size) before (memory_nor now)
+    spares_exact Done does = taken s does.1
+    spares_exact Failed does = ⊎_elim (λ spoils. taken (spoiling s) spoils.1) (λ starves. held (Outside (range_of s).place (range_of s).size) starves.1) does
 
     -- a call that is done fills its range
     pub filled_exact : (answer : Edge) → (range_of s).place + (range_of s).size ≤ 4096 * before.blocks → StepsExactly answer before now s

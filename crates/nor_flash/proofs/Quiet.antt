@@ -1,11 +1,10 @@
 -- Blocks that the disk does not depend on.
 use Rattle.std.proofs.Common.{◌≡◌, ◌≢◌, ◌⊎◌, inl, inr, ⊎_elim, ◌<◌, ◌≤◌, ◌+◌, ◌*◌, ℕ, List, length, Option, Some, None, refl, sym, ◌∙◌, subst, arith}
-use Rattle.std.proofs.lemmas.Bool.{cases_lt}
 use Rattle.nor_flash.specs.declared.phase.Phase.{Phase}
 use Rattle.nor_flash.specs.declared.phase.Phase.TheVariants as phases
 use Rattle.nor_flash.specs.Blocks.{IsErased, front, name_in, named, plain, with_block}
 use Rattle.nor_flash.specs.NorDisks.{AreFirstNames, CanClear, IsQuiet, IsQuietAt}
-use Rattle.nor_flash.proofs.BlockLemmas.{AreNames, names_of, none_unless, blank_name, first_blank, second_blank, third_blank, three_names, erased_name, block_is_over, plain_unnamed, plain_named, name_same, front_same, named_same, with_block_same}
+use Rattle.nor_flash.proofs.BlockLemmas.{AreNames, names_of, none_unless, blank_name, blank_none, three_names, erased_name, block_is_over, plain_unnamed, plain_named, name_same, front_same, named_same, with_block_same}
 
 module _ (m : ℕ) (a d : List ℕ) (fronts : front m d ≡ front m a) where
   -- a disk whose rewrite is given up is unchanged if each block that is named now was named before, with the
@@ -30,15 +29,6 @@ module _ (m : ℕ) (a d : List ℕ) (fronts : front m d ≡ front m a) where
       (λ given. subst (λ (p : Phase). IsQuietAt m p a d) (sym given) (given_up_by named_back (named m d) refl))
       (λ both. subst (λ (p : Phase). IsQuietAt m p a d) (sym both.0) (unnamed_by named_back both.1)) can
 
-blank_none : (m : ℕ) → m ≤ blank_name → (l : List ℕ) (j : ℕ) → 1 ≤ j → j < 4 → name_in (m + j) l ≡ blank_name → named m l ≡ None
-blank_none m few l j some near is = ⊎_elim
-    (λ (low : j < 2). let at : j ≡ 1 = omega (arith, low, some) in first_blank m (name_in (m + 1) l) (name_in (m + 2) l) (name_in (m + 3) l) few (subst (λ (k : ℕ). name_in (m + k) l ≡ blank_name) at is))
-    (λ (high : 2 ≤ j). ⊎_elim
-    (λ (low : j < 3). let at : j ≡ 2 = omega (arith, low, high) in second_blank m (name_in (m + 1) l) (name_in (m + 2) l) (name_in (m + 3) l) few (subst (λ (k : ℕ). name_in (m + k) l ≡ blank_name) at is))
-    (λ (top : 3 ≤ j). let at : j ≡ 3 = omega (arith, top, near) in third_blank m (name_in (m + 1) l) (name_in (m + 2) l) (name_in (m + 3) l) few (subst (λ (k : ℕ). name_in (m + k) l ≡ blank_name) at is))
-    (cases_lt j 3))
-    (cases_lt j 2)
-
 module _ (m : ℕ) (few : m ≤ blank_name) (a : List ℕ) (fits : length a ≡ 4096 * (m + 4)) (phase : Phase) where
   -- if the last two names differ, no block is named whatever becomes of the first one
   pub first_name_quiet : CanClear m phase a → name_in (m + 2) a ≢ name_in (m + 3) a → IsQuiet m phase a (m + 1)
@@ -46,7 +36,7 @@ module _ (m : ℕ) (few : m ≤ blank_name) (a : List ℕ) (fits : length a ≡ 
       let two = name_same m a fits (m + 1) d same (m + 2) (λ e. absurd (omega (arith, e))) (omega arith) in
       let three = name_same m a fits (m + 1) d same (m + 3) (λ e. absurd (omega (arith, e))) (omega arith) in
       clear_at m a d (front_same m a fits (m + 1) d same (omega arith)) phase can
-      (λ c is. let names = names_of m (name_in (m + 1) d) (name_in (m + 2) d) (name_in (m + 3) d) c is in
+      (λ c is. let names = names_of m d c is in
       absurd (other (sym two ∙ names.second ∙ sym names.third ∙ three)))
 
   -- if they are equal, a block that is named whatever becomes of the second one was named before
@@ -55,9 +45,9 @@ module _ (m : ℕ) (few : m ≤ blank_name) (a : List ℕ) (fits : length a ≡ 
       let one = name_same m a fits (m + 2) d same (m + 1) (λ e. absurd (omega (arith, e))) (omega arith) in
       let three = name_same m a fits (m + 2) d same (m + 3) (λ e. absurd (omega (arith, e))) (omega arith) in
       clear_at m a d (front_same m a fits (m + 2) d same (omega arith)) phase can
-      (λ c is. let names = names_of m (name_in (m + 1) d) (name_in (m + 2) d) (name_in (m + 3) d) c is in
+      (λ c is. let names = names_of m d c is in
       let third : name_in (m + 3) a ≡ c = sym three ∙ names.third in (
-        three_names m (name_in (m + 1) a) (name_in (m + 2) a) (name_in (m + 3) a) c (sym one ∙ names.first) (equal ∙ third) third names.within,
+        three_names m a c (record { first = sym one ∙ names.first; second = equal ∙ third; third = third; within = names.within }),
         with_block_same m a fits (m + 2) d same c (omega arith) (λ e. absurd (omega (arith, e))),
       ))
 
@@ -83,7 +73,7 @@ module _ (m : ℕ) (few : m ≤ blank_name) (a : List ℕ) (fits : length a ≡ 
   pub finished_quiet : (b : ℕ) → phase ≡ phases.Unsettled → named m a ≡ Some b → with_block m b a ≡ front m a → IsQuiet m phase a (m + 1)
   finished_quiet b un is copied d same =
       let two = name_same m a fits (m + 1) d same (m + 2) (λ e. absurd (omega (arith, e))) (omega arith) in
-      let old = names_of m (name_in (m + 1) a) (name_in (m + 2) a) (name_in (m + 3) a) b is in
+      let old = names_of m a b is in
       let fronts = front_same m a fits (m + 1) d same (omega arith) in
       let plain_a : plain m a ≡ front m a = plain_named m b a is ∙ copied in
       let plain_d : (o : Option ℕ) → named m d ≡ o → plain m d ≡ plain m a =
@@ -91,11 +81,11 @@ module _ (m : ℕ) (few : m ≤ blank_name) (a : List ℕ) (fits : length a ≡ 
       let plains = plain_d (named m d) refl in
       subst (λ (p : Phase). IsQuietAt m p a d) (sym un) (record { shows = inl plains; sees = plains; holds = tt })
     where
-      by_name : (o : Option ℕ) → named m d ≡ o → name_in (m + 2) d ≡ name_in (m + 2) a → AreNames m (name_in (m + 1) a) (name_in (m + 2) a) (name_in (m + 3) a) b
+      by_name : (o : Option ℕ) → named m d ≡ o → name_in (m + 2) d ≡ name_in (m + 2) a → AreNames m a b
           → front m d ≡ front m a → plain m a ≡ front m a → plain m d ≡ plain m a
       by_name None at two old fronts plain_a = plain_unnamed m d at ∙ fronts ∙ sym plain_a
       by_name (Some c) at two old fronts plain_a =
-          let names = names_of m (name_in (m + 1) d) (name_in (m + 2) d) (name_in (m + 3) d) c at in
+          let names = names_of m d c at in
           let is_b : c ≡ b = sym names.second ∙ two ∙ old.second in
           plain_named m c d at ∙ with_block_same m a fits (m + 1) d same c (omega arith) (λ e. absurd (omega (arith, e)))
           ∙ subst (λ (x : ℕ). with_block m x a ≡ front m a) (sym is_b) copied ∙ sym plain_a

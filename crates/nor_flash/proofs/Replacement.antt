@@ -1,44 +1,38 @@
 -- Replacing a block: the image block and the first two names, and the disk at the end.
-use Rattle.std.proofs.Common.{◌≡◌, ◌≢◌, inl, ⊎_elim, ◌<◌, ◌≤◌, ◌+◌, ◌*◌, ℕ, List, length, refl, sym, ◌∙◌, ap, subst, arith}
+use Rattle.std.proofs.Common.{◌≡◌, inl, ⊎_elim, ◌<◌, ◌≤◌, ◌+◌, ◌*◌, ℕ, List, length, refl, ◌∙◌, ap, subst, arith}
 use Rattle.std.specs.List.{slice_range}
-use Rattle.suit_edge.specs.Flash.{Flash, Now, Grows, IsFlash, IsSame, IsSettled, Keeps, Passes}
+use Rattle.suit_edge.specs.Flash.{Flash, Now, Passes}
 use Rattle.suit_edge.specs.FlashLaws.{grows_then, joined, then_same, weakens}
 use Rattle.suit_edge.specs.Ranges.{AreBytes, written}
 use Rattle.suit_edge.specs.RangeLaws.{written_range}
+use Rattle.nor_flash.specs.declared.phase.Phase.{Phase}
 use Rattle.nor_flash.specs.declared.phase.Phase.TheVariants as phases
-use Rattle.nor_flash.specs.Blocks.{IsErased, OutsideBlock, cleared, front, image_block, name_in, plain, with_block}
+use Rattle.nor_flash.specs.Blocks.{IsErased, cleared, front, image_block, plain, with_block}
 use Rattle.nor_flash.specs.NorDisks.{AreErased, IsOneOf, IsReplaced, IsSteady, blocks_of, nor_flash}
-use Rattle.nor_flash.proofs.BlockLemmas.{blank_name, erased_same, front_same, name_same, with_block_same}
+use Rattle.nor_flash.proofs.Calm.{Changes, IsCalm, blank_stays, calm_disk, calm_fits}
+use Rattle.nor_flash.proofs.Filling.{cleared_erased}
 use Rattle.nor_flash.proofs.Fronts.{erased_unnamed}
-use Rattle.nor_flash.proofs.NameSteps.{IsCalm}
 use Rattle.nor_flash.proofs.Quiet.{image_quiet, other_name_quiet}
-use Rattle.nor_flash.proofs.Rewriting.{cleared_erased}
 use Rattle.nor_flash.proofs.Steadiness.{quiet_step}
 
 -- ---- the image block
 
-module _ (size : ℕ) (all : 4096 * (blocks_of size + 4) ≡ size) (few : blocks_of size ≤ blank_name) (a b : Flash) (calm_a : IsCalm size a)
-    (erased : AreErased (blocks_of size) a.reads) (kept : Keeps (OutsideBlock (blocks_of size)) a b) (grown : Grows a b) where
-  fits : length a.reads ≡ 4096 * (blocks_of size + 4)
-  fits = calm_a.law.fits ∙ sym all
-
+module _ {size : ℕ} {a b : Flash} (change : Changes size (blocks_of size) a b) (erased : AreErased (blocks_of size) a.reads) where
   pub image_steady : IsSteady (blocks_of size) phases.GivenUp a phases.GivenUp b
-  image_steady = quiet_step (blocks_of size) size phases.GivenUp a b (blocks_of size) calm_a.law calm_a.settled
-      (image_quiet (blocks_of size) few a.reads fits phases.GivenUp refl (erased_unnamed (blocks_of size) few a.reads fits erased)) kept grown
-
-  still : (j : ℕ) → 1 ≤ j → IsErased (blocks_of size + j) a.reads → IsErased (blocks_of size + j) b.reads
-  still j some = erased_same (blocks_of size) a.reads fits (blocks_of size) b.reads kept.reads (blocks_of size + j) (λ e. absurd (omega (arith, e, some)))
+  image_steady =
+      let fits = calm_fits change.sized change.from in
+      quiet_step change (image_quiet (blocks_of size) change.sized.few a.reads fits phases.GivenUp refl (erased_unnamed (blocks_of size) change.sized.few a.reads fits erased))
 
   pub image_erased : AreErased (blocks_of size) b.reads
-  image_erased = (still 1 (omega arith) erased.0, still 2 (omega arith) erased.1, still 3 (omega arith) erased.2)
-
-  pub image_front : front (blocks_of size) b.reads ≡ front (blocks_of size) a.reads
-  image_front = front_same (blocks_of size) a.reads fits (blocks_of size) b.reads kept.reads (omega arith)
+  image_erased =
+      let still : (j : ℕ) → 1 ≤ j → IsErased (blocks_of size + j) a.reads → IsErased (blocks_of size + j) b.reads =
+      λ j some. blank_stays change (blocks_of size + j) (λ e. absurd (omega (arith, e, some))) in
+      (still 1 (omega arith) erased.0, still 2 (omega arith) erased.1, still 3 (omega arith) erased.2)
 
 pub image_stored : (m : ℕ) (old new bytes : List ℕ) → 4096 * (m + 4) ≡ length old → length bytes ≡ 4096 → AreBytes bytes → IsErased m old
     → new ≡ cleared old (4096 * m) bytes → image_block m new ≡ bytes
 image_stored m old new bytes all long are erased done =
-    let over : new ≡ written old (4096 * m) bytes = done ∙ cleared_erased old bytes m (omega (arith, all)) long erased are in
+    let over : new ≡ written old (4096 * m) bytes = done ∙ cleared_erased old bytes (4096 * m) (omega (arith, all, long)) (λ i lt. erased (4096 * m + i) (omega arith) (omega (arith, lt, long))) are in
     subst (λ (n : ℕ). slice_range new (4096 * m) (4096 * m + n) ≡ bytes) long
     (ap (λ (l : List ℕ). slice_range l (4096 * m) (4096 * m + length bytes)) over ∙ written_range old (4096 * m) bytes (omega (arith, all, long)))
 
@@ -50,51 +44,43 @@ stored_shows m block device before bytes fronts stored =
 
 -- ---- the first two names
 
-module _ (size : ℕ) (all : 4096 * (blocks_of size + 4) ≡ size) (few : blocks_of size ≤ blank_name) (name : ℕ) (some : 1 ≤ name) (low : name < 3)
-    (a b : Flash) (calm_a : IsCalm size a) (erased : IsErased (blocks_of size + 3) a.reads)
-    (kept : Keeps (OutsideBlock (blocks_of size + name)) a b) (grown : Grows a b) where
-  fits_a : length a.reads ≡ 4096 * (blocks_of size + 4)
-  fits_a = calm_a.law.fits ∙ sym all
-
-  pub name_steady : IsSteady (blocks_of size) phases.GivenUp a phases.GivenUp b
-  name_steady = quiet_step (blocks_of size) size phases.GivenUp a b (blocks_of size + name) calm_a.law calm_a.settled
-      (other_name_quiet (blocks_of size) few a.reads fits_a phases.GivenUp (inl refl) 3 name (omega arith) (omega (arith, low)) (omega arith) some
-      (λ e. absurd (omega (arith, e, low))) erased) kept grown
-
-  -- another name stays
-  pub name_stays : (other : ℕ) → name ≢ other → other < 4 → name_in (blocks_of size + other) b.reads ≡ name_in (blocks_of size + other) a.reads
-  name_stays other apart near = name_same (blocks_of size) a.reads fits_a (blocks_of size + name) b.reads kept.reads (blocks_of size + other)
-      (λ e. apart (omega (arith, e))) (omega (arith, near))
-
-  pub blank_stays : (other : ℕ) → name ≢ other → IsErased (blocks_of size + other) a.reads → IsErased (blocks_of size + other) b.reads
-  blank_stays other apart = erased_same (blocks_of size) a.reads fits_a (blocks_of size + name) b.reads kept.reads (blocks_of size + other) (λ e. apart (omega (arith, e)))
-
-  pub shown_stays : (block : ℕ) → with_block (blocks_of size) block b.reads ≡ with_block (blocks_of size) block a.reads
-  shown_stays block = with_block_same (blocks_of size) a.reads fits_a (blocks_of size + name) b.reads kept.reads block (omega arith) (λ e. absurd (omega (arith, e, some)))
+pub name_steady : {size : ℕ} {a b : Flash} (name : ℕ) → Changes size (blocks_of size + name) a b → 1 ≤ name → name < 3 → IsErased (blocks_of size + 3) a.reads
+    → IsSteady (blocks_of size) phases.GivenUp a phases.GivenUp b
+name_steady {size} {a} name change some low erased =
+    quiet_step change (other_name_quiet (blocks_of size) change.sized.few a.reads (calm_fits change.sized change.from) phases.GivenUp (inl refl) 3 name
+    (omega arith) (omega (arith, low)) (omega arith) some (λ e. absurd (omega (arith, e, low))) erased)
 
 -- ---- the whole
 
--- a power loss leaves what a settled disk reads
-pub settled_disk : (m : ℕ) (f : Flash) → IsSettled f → IsSettled (nor_flash m phases.Settled f)
-settled_disk m f settled image now = ⊎_elim (λ h. h.2 ∙ ap (plain m) (settled h.0 h.1)) (λ h. h.1) now
+-- the disk was settled, and is unchanged yet
+module _ {size : ℕ} {q : Phase} {a b : Flash} (calm : IsCalm size a) (steady : IsSteady (blocks_of size) phases.Settled a q b) (with : List ℕ) where
+  abbrev m : ℕ
+  m = blocks_of size
 
-module _ (a b : Flash) (settled : IsSettled a) (same : IsSame a b) (grown : Grows a b) (with : List ℕ) where
-  -- nothing is replaced yet
-  pub same_replaced : IsReplaced a b with
-  same_replaced = record {
-    images = weakens a b (Now a) (IsOneOf a.reads with) (λ image now. inl (settled image now)) same.images;
-    grows = grown;
+  abbrev old : Flash
+  old = nor_flash m phases.Settled a
+
+  -- a power loss leaves what it read
+  at_rest : (image : List ℕ) → Now old image → IsOneOf old.reads with image
+  at_rest image now = inl (⊎_elim (λ h. h.2 ∙ ap (plain m) (calm.settled h.0 h.1)) (λ h. h.1) now)
+
+  pub same_replaced : IsReplaced old (nor_flash m q b) with
+  same_replaced = record { images = weakens old (nor_flash m q b) (Now old) (IsOneOf old.reads with) at_rest steady.same.images; grows = steady.grows }
+
+  -- it is replaced then
+  pub then_replaced : (r : Phase) (c : Flash) → IsReplaced (nor_flash m q b) (nor_flash m r c) with → IsReplaced old (nor_flash m r c) with
+  then_replaced r c put = record {
+    images = joined old (nor_flash m q b) (nor_flash m r c) (IsOneOf old.reads with) same_replaced.images
+        (subst (λ (l : List ℕ). Passes (nor_flash m q b) (nor_flash m r c) (IsOneOf l with)) steady.same.reads put.images);
+    grows = grows_then old (nor_flash m q b) (nor_flash m r c) steady.same.images.later steady.grows put.grows;
   }
 
-  pub then_replaced : (c : Flash) → IsReplaced b c with → IsReplaced a c with
-  then_replaced c put = record {
-    images = joined a b c (IsOneOf a.reads with) same_replaced.images
-        (subst (λ (l : List ℕ). Passes b c (IsOneOf l with)) same.reads put.images);
-    grows = grows_then a b c same.images.later grown put.grows;
-  }
-
-pub replaced_then : (a b c : Flash) (size : ℕ) (with : List ℕ) → IsFlash b size → IsReplaced a b with → IsSame b c → Grows b c → IsReplaced a c with
-replaced_then a b c size with law put same grown = record {
-  images = then_same a b c size (IsOneOf a.reads with) law put.images same;
-  grows = grows_then a b c put.images.later put.grows grown;
-}
+-- it was replaced, and stays the same then
+pub replaced_then : {size : ℕ} {q r : Phase} {b c : Flash} {with : List ℕ} (a : Flash) → IsCalm size b → IsReplaced a (nor_flash (blocks_of size) q b) with → IsSteady (blocks_of size) q b r c
+    → IsReplaced a (nor_flash (blocks_of size) r c) with
+replaced_then {size} {q} {r} {b} {c} {with} a calm put steady =
+    let m : ℕ = blocks_of size in
+    record {
+      images = then_same a (nor_flash m q b) (nor_flash m r c) (4096 * m) (IsOneOf a.reads with) (calm_disk q calm) put.images steady.same;
+      grows = grows_then a (nor_flash m q b) (nor_flash m r c) put.images.later put.grows steady.grows;
+    }

@@ -1,8 +1,10 @@
 -- A disk over NOR flash.
-use Rattle.std.specs.Prelude.{◌≡◌, ◌<◌, ◌≤◌, ◌⊎◌, ◌+◌, ◌-◌, ◌/◌, ℕ, List, Option, Some, None}
+use Rattle.std.specs.Prelude.{◌≡◌, ◌<◌, ◌≤◌, ◌⊎◌, ◌+◌, ◌-◌, ◌/◌, ℕ, Bool, IsTrue, List, Option, Some, None, length}
+use Rattle.suit_edge.specs.Edge.{IfDone}
 use Rattle.suit_edge.specs.Faults.{Faulted}
-use Rattle.suit_edge.specs.Flash.{Flash, Grows, IsSame, Passes}
-use Rattle.suit_edge.specs.Ranges.{SameOn}
+use Rattle.suit_edge.specs.Flash.{Flash, Grows, IsSame, Keeps, Passes}
+use Rattle.suit_edge.specs.Ranges.{Outside, SameOn, written}
+use Rattle.suit_edge.specs.declared.edge.Edge.{Edge}
 use Rattle.nor_flash.specs.declared.phase.Phase.{Phase}
 use Rattle.nor_flash.specs.declared.phase.Phase.TheVariants as phases
 use Rattle.nor_flash.specs.Blocks.{IsErased, OutsideBlock, front, name_in, named, plain, with_block}
@@ -70,6 +72,10 @@ IsOfDisk m phases.Settled = Unit {0}
 IsOfDisk m phases.GivenUp = Unit {0}
 IsOfDisk m (phases.Rewriting block) = block < m
 
+-- what the phase says is so, as far as the device is told
+abbrev pub Knows : Bool → ℕ → Phase → List ℕ → Type 0
+Knows told m phase device = IsOfDisk m phase × (IsTrue told → HoldsPhase m phase device)
+
 -- the names can be erased: a rewrite was given up, or nothing is known and no block is named
 abbrev pub CanClear : ℕ → Phase → List ℕ → Type 0
 CanClear m phase device = (phase ≡ phases.GivenUp) ⊎ ((phase ≡ phases.Unsettled) × (named m device ≡ None))
@@ -95,3 +101,10 @@ pub record IsPrepared (m block : ℕ) (device : List ℕ) : Type 0 where
   pub first : name_in (m + 1) device ≡ block
   pub second : name_in (m + 2) device ≡ block
   pub third : IsErased (m + 3) device
+
+-- If the call was done, these bytes are written from the place on. In any case all other places keep what they
+-- read, and so does each image of a power loss since; and the images of earlier moments remain possible.
+pub record Writes (answer : Edge) (place : ℕ) (bytes : List ℕ) (old new : Flash) : Type 0 where
+  pub written : IfDone answer (new.reads ≡ written old.reads place bytes)
+  pub keeps : Keeps (Outside place (length bytes)) old new
+  pub grows : Grows old new

@@ -4,12 +4,22 @@ use Rattle.std.proofs.lemmas.Bool.{cases_lt, and_parts, ltb-true}
 use Rattle.std.proofs.lemmas.List.{get_or_past, length-take-le}
 use Rattle.std.proofs.lemmas.List.Edits.{length-between, get_or-between}
 use Rattle.suit_edge.specs.Flash.{Flash, IsFlash, IsSettled}
-use Rattle.suit_edge.specs.Ranges.{AreBytes}
+use Rattle.suit_edge.specs.Ranges.{AreBytes, Outside}
 use Rattle.suit_edge.specs.RangeLaws.{length-written, written_outside, written_within}
 use Rattle.nor_flash.specs.declared.phase.Phase.{Phase}
 use Rattle.nor_flash.specs.declared.phase.Phase.TheVariants as phases
 use Rattle.nor_flash.specs.Blocks.{OutsideBlock, front, image_block, name_in, named, named_by, plain, plain_by, with_block}
 use Rattle.nor_flash.specs.NorDisks.{blocks_of, nor_flash, seen}
+
+-- what holds outside a range and at each place of it holds
+pub by_range : (P : ℕ → Type 0) (place n i : ℕ) → (Outside place n i → P i) → ((k : ℕ) → k < n → P (place + k)) → P i
+by_range P place n i outside inside = ⊎_elim
+    (λ before. outside (inl before))
+    (λ past. ⊎_elim
+    (λ within. let is : place + (i - place) ≡ i = omega (arith, past) in subst P is (inside (i - place) (omega (arith, past, within))))
+    (λ behind. outside (inr behind))
+    (cases_lt i (place + n)))
+    (cases_lt i place)
 
 -- a test that gives something is true
 pub some_true : (t : Bool) (n c : ℕ) → (if t then Some n else None) ≡ Some c → (t ≡ true) × (n ≡ c)
@@ -83,15 +93,9 @@ module _ (m size : ℕ) (room : 1 ≤ m → 4096 * (m + 4) ≤ size) (device : L
 
     with_block_bytes : (block : ℕ) → block < m → AreBytes (with_block m block device)
     with_block_bytes block within i = ⊎_elim
-        (λ low. ⊎_elim
-        (λ before. omega (arith, with_block-out block within i low (inl before), are i))
-        (λ from. ⊎_elim
-        (λ inside. let at : 4096 * block + (i - 4096 * block) ≡ i = omega (arith, from) in
-        subst (λ (j : ℕ). get_or (with_block m block device) j 0 < 256) at
-        (omega (arith, with_block-in block within (i - 4096 * block) (omega (arith, from, inside)), are (4096 * m + (i - 4096 * block)))))
-        (λ behind. omega (arith, with_block-out block within i low (inr behind), are i))
-        (cases_lt i (4096 * block + 4096)))
-        (cases_lt i (4096 * block)))
+        (λ low. by_range (λ (j : ℕ). get_or (with_block m block device) j 0 < 256) (4096 * block) 4096 i
+        (λ out. omega (arith, with_block-out block within i low out, are i))
+        (λ k near. omega (arith, with_block-in block within k near, are (4096 * m + k))))
         (λ high. omega (arith, get_or_past (with_block m block device) i 0 (omega (arith, length-with_block block within, high))))
         (cases_lt i (4096 * m))
 

@@ -54,7 +54,8 @@ impl<R: Files<File = File> + Drop> FileNor<R> {
     }
 
     /// Whether the file exists; it is not created. If that cannot be told, the answer is yes, so
-    /// that the first call on the device fails.
+    /// that the first call on the device fails. No contract says which, since only the operating
+    /// system knows.
     pub fn is_there(rt: &R) -> bool {
         fs::exists(rt, NAME).unwrap_or(true)
     }

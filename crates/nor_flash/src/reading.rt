@@ -1,7 +1,7 @@
 //! Reading the disk.
 
 ghost use Rattle.nor_flash.specs.Blocks.{front, with_block};
-ghost use Rattle.nor_flash.specs.NorDisks.{HoldsPhase, IsOfDisk, IsSteady, blocks_of, seen};
+ghost use Rattle.nor_flash.specs.NorDisks.{IsSteady, Knows, blocks_of, seen};
 ghost use Rattle.std.specs.Prelude.{◌≡◌, ◌+◌, ◌-◌, ◌*◌, ◌<◌, ◌≤◌, IsTrue, length, slice_range};
 ghost use Rattle.suit_edge.specs.Edge.{IfDone};
 ghost use Rattle.suit_edge.specs.Faults.{EdgeCounts};
@@ -14,14 +14,10 @@ use suit_edge::Edge;
 
 /// Settles the disk, unless a rewrite was given up: then its blocks are read as they are.
 fn ready<N: Nor>(nor: &mut N, phase: &mut Phase) -> Edge
-    requires within { IsOfDisk (blocks_of (N.extent nor.old)) phase.old }
-    requires holds { IsTrue N.told
-        → HoldsPhase (blocks_of (N.extent nor.old)) phase.old (N.flash nor.old).reads }
+    requires knows { Knows N.told (blocks_of (N.extent nor.old)) phase.old (N.flash nor.old).reads }
     ensures size { N.extent nor.new ≡ N.extent nor.old }
     ensures counts { EdgeCounts result (N.faults nor.old) (N.faults nor.new) }
-    ensures within { IsOfDisk (blocks_of (N.extent nor.old)) phase.new }
-    ensures holds { IsTrue N.told
-        → HoldsPhase (blocks_of (N.extent nor.old)) phase.new (N.flash nor.new).reads }
+    ensures knows { Knows N.told (blocks_of (N.extent nor.old)) phase.new (N.flash nor.new).reads }
     ensures stands { IsTrue N.told → IfDone result
         (seen (blocks_of (N.extent nor.old)) phase.new (N.flash nor.new).reads
         ≡ front (blocks_of (N.extent nor.old)) (N.flash nor.new).reads) }
@@ -90,14 +86,10 @@ fn read_named<N: Nor>(nor: &mut N, block: u64, place: u64, room: &mut [u8]) -> E
 /// Fills `room` with the bytes of the disk from `place` on.
 pub(crate) fn read<N: Nor>(nor: &mut N, phase: &mut Phase, place: u64, room: &mut [u8]) -> Edge
     requires fits { place + length room.old ≤ 4096 * blocks_of (N.extent nor.old) }
-    requires within { IsOfDisk (blocks_of (N.extent nor.old)) phase.old }
-    requires holds { IsTrue N.told
-        → HoldsPhase (blocks_of (N.extent nor.old)) phase.old (N.flash nor.old).reads }
+    requires knows { Knows N.told (blocks_of (N.extent nor.old)) phase.old (N.flash nor.old).reads }
     ensures size { N.extent nor.new ≡ N.extent nor.old }
     ensures counts { EdgeCounts result (N.faults nor.old) (N.faults nor.new) }
-    ensures within { IsOfDisk (blocks_of (N.extent nor.old)) phase.new }
-    ensures holds { IsTrue N.told
-        → HoldsPhase (blocks_of (N.extent nor.old)) phase.new (N.flash nor.new).reads }
+    ensures knows { Knows N.told (blocks_of (N.extent nor.old)) phase.new (N.flash nor.new).reads }
     ensures bytes { IsTrue N.told → IfDone result
         (room.new
         ≡ slice_range (seen (blocks_of (N.extent nor.old)) phase.old (N.flash nor.old).reads)

@@ -1,7 +1,7 @@
 //! Replacing a whole block of a settled disk.
 
 ghost use Rattle.nor_flash.specs.Blocks.{IsErased, OutsideBlock, front, image_block, name_in, named, plain, with_block};
-ghost use Rattle.nor_flash.specs.NorDisks.{AreErased, HoldsPhase, IsCommit, IsOfDisk, IsPrepared, IsReplaced, IsSteady, blocks_of, nor_flash, seen};
+ghost use Rattle.nor_flash.specs.NorDisks.{AreErased, IsCommit, IsPrepared, IsReplaced, IsSteady, Knows, blocks_of, nor_flash, seen};
 ghost use Rattle.nor_flash.specs.declared.phase.Phase.TheVariants as phases;
 ghost use Rattle.std.specs.Prelude.{◌≡◌, ◌+◌, ◌*◌, ◌<◌, ◌≤◌, IsTrue, Some, length};
 ghost use Rattle.suit_edge.specs.Edge.{IfDone};
@@ -113,9 +113,7 @@ pub(crate) fn replace<N: Nor>(nor: &mut N, phase: &mut Phase, block: u64, bytes:
     ensures size { N.extent nor.new ≡ N.extent nor.old }
     ensures counts { EdgeCounts result (N.faults nor.old) (N.faults nor.new) }
     ensures settled { IfDone result (phase.new ≡ phases.Settled) }
-    ensures within { IsOfDisk (blocks_of (N.extent nor.old)) phase.new }
-    ensures holds { IsTrue N.told
-        → HoldsPhase (blocks_of (N.extent nor.old)) phase.new (N.flash nor.new).reads }
+    ensures knows { Knows N.told (blocks_of (N.extent nor.old)) phase.new (N.flash nor.new).reads }
     ensures written { IsTrue N.told → IfDone result
         (seen (blocks_of (N.extent nor.old)) phase.new (N.flash nor.new).reads
         ≡ written (plain (blocks_of (N.extent nor.old)) (N.flash nor.old).reads) (4096 * block)

@@ -1,7 +1,7 @@
 //! Settling a disk: a named block is rewritten, and the names are erased.
 
 ghost use Rattle.nor_flash.specs.Blocks.{front, named, with_block};
-ghost use Rattle.nor_flash.specs.NorDisks.{AreErased, AreFirstNames, CanClear, HoldsPhase, IsOfDisk, IsQuiet, IsSteady, blocks_of};
+ghost use Rattle.nor_flash.specs.NorDisks.{AreErased, AreFirstNames, CanClear, IsQuiet, IsSteady, Knows, blocks_of};
 ghost use Rattle.nor_flash.specs.declared.phase.Phase.{Phase};
 ghost use Rattle.nor_flash.specs.declared.phase.Phase.TheVariants as phases;
 ghost use Rattle.std.specs.Prelude.{◌≡◌, ◌+◌, ◌*◌, ◌<◌, ◌≤◌, ◌⊎◌, IsTrue, Some};
@@ -102,9 +102,7 @@ pub(crate) fn finish<N: Nor>(nor: &mut N, phase: &mut Phase, block: u64) -> Edge
     ensures size { N.extent nor.new ≡ N.extent nor.old }
     ensures counts { EdgeCounts result (N.faults nor.old) (N.faults nor.new) }
     ensures settled { IfDone result (phase.new ≡ phases.Settled) }
-    ensures within { IsOfDisk (blocks_of (N.extent nor.old)) phase.new }
-    ensures holds { IsTrue N.told
-        → HoldsPhase (blocks_of (N.extent nor.old)) phase.new (N.flash nor.new).reads }
+    ensures knows { Knows N.told (blocks_of (N.extent nor.old)) phase.new (N.flash nor.new).reads }
     ensures steady { IsTrue N.told
         → IsSteady (blocks_of (N.extent nor.old)) (phases.Rewriting block) (N.flash nor.old)
         phase.new (N.flash nor.new) }
@@ -131,9 +129,7 @@ fn clear<N: Nor>(nor: &mut N, phase: &mut Phase) -> Edge
     ensures size { N.extent nor.new ≡ N.extent nor.old }
     ensures counts { EdgeCounts result (N.faults nor.old) (N.faults nor.new) }
     ensures settled { IfDone result (phase.new ≡ phases.Settled) }
-    ensures within { IsOfDisk (blocks_of (N.extent nor.old)) phase.new }
-    ensures holds { IsTrue N.told
-        → HoldsPhase (blocks_of (N.extent nor.old)) phase.new (N.flash nor.new).reads }
+    ensures knows { Knows N.told (blocks_of (N.extent nor.old)) phase.new (N.flash nor.new).reads }
     ensures steady { IsTrue N.told
         → IsSteady (blocks_of (N.extent nor.old)) phase.old (N.flash nor.old) phase.new
         (N.flash nor.new) }
@@ -150,15 +146,11 @@ fn clear<N: Nor>(nor: &mut N, phase: &mut Phase) -> Edge
 
 /// Settles the disk: afterwards no block is named. What the disk reads stays the same.
 pub(crate) fn settle<N: Nor>(nor: &mut N, phase: &mut Phase) -> Edge
-    requires within { IsOfDisk (blocks_of (N.extent nor.old)) phase.old }
-    requires holds { IsTrue N.told
-        → HoldsPhase (blocks_of (N.extent nor.old)) phase.old (N.flash nor.old).reads }
+    requires knows { Knows N.told (blocks_of (N.extent nor.old)) phase.old (N.flash nor.old).reads }
     ensures size { N.extent nor.new ≡ N.extent nor.old }
     ensures counts { EdgeCounts result (N.faults nor.old) (N.faults nor.new) }
     ensures settled { IfDone result (phase.new ≡ phases.Settled) }
-    ensures within { IsOfDisk (blocks_of (N.extent nor.old)) phase.new }
-    ensures holds { IsTrue N.told
-        → HoldsPhase (blocks_of (N.extent nor.old)) phase.new (N.flash nor.new).reads }
+    ensures knows { Knows N.told (blocks_of (N.extent nor.old)) phase.new (N.flash nor.new).reads }
     ensures steady { IsTrue N.told
         → IsSteady (blocks_of (N.extent nor.old)) phase.old (N.flash nor.old) phase.new
         (N.flash nor.new) }
@@ -178,9 +170,7 @@ fn settle_unknown<N: Nor>(nor: &mut N, phase: &mut Phase) -> Edge
     ensures size { N.extent nor.new ≡ N.extent nor.old }
     ensures counts { EdgeCounts result (N.faults nor.old) (N.faults nor.new) }
     ensures settled { IfDone result (phase.new ≡ phases.Settled) }
-    ensures within { IsOfDisk (blocks_of (N.extent nor.old)) phase.new }
-    ensures holds { IsTrue N.told
-        → HoldsPhase (blocks_of (N.extent nor.old)) phase.new (N.flash nor.new).reads }
+    ensures knows { Knows N.told (blocks_of (N.extent nor.old)) phase.new (N.flash nor.new).reads }
     ensures steady { IsTrue N.told
         → IsSteady (blocks_of (N.extent nor.old)) phases.Unsettled (N.flash nor.old) phase.new
         (N.flash nor.new) }

@@ -2,13 +2,13 @@
 
 ghost use Rattle.lane_bytes.specs.Bytes.{OnlyClears};
 ghost use Rattle.nor_flash.specs.Blocks.{plain};
-ghost use Rattle.nor_flash.specs.NorDisks.{AreErased, HoldsPhase, IsOfDisk, ReadCounts, blocks_of, nor_flash, seen};
+ghost use Rattle.nor_flash.specs.NorDisks.{AreErased, Knows, ReadCounts, Writes, blocks_of, nor_flash};
 ghost use Rattle.nor_flash.specs.declared.phase.Phase.TheVariants as phases;
 ghost use Rattle.std.specs.Prelude.{◌≡◌, ◌↔◌, ◌+◌, ◌*◌, ◌%◌, ◌≤◌, IfSome, IsTrue, length, slice_range};
 ghost use Rattle.suit_edge.specs.Edge.{IfDone};
 ghost use Rattle.suit_edge.specs.Faults.{EdgeCounts};
-ghost use Rattle.suit_edge.specs.Flash.{Grows, IsSame, Keeps};
-ghost use Rattle.suit_edge.specs.Ranges.{Outside, written};
+ghost use Rattle.suit_edge.specs.Flash.{Grows, IsSame};
+ghost use Rattle.suit_edge.specs.Ranges.{written};
 
 use crate::replacing::replace;
 use crate::settling::settle;
@@ -29,15 +29,8 @@ fn clear_bits<N: Nor>(nor: &mut N, place: u64, bytes: &[u8]) -> Edge
     ensures counts { EdgeCounts result (N.faults nor.old) (N.faults nor.new) }
     ensures erased { IsTrue N.told
         → AreErased (blocks_of (N.extent nor.old)) (N.flash nor.new).reads }
-    ensures written { IsTrue N.told → IfDone result
-        (plain (blocks_of (N.extent nor.old)) (N.flash nor.new).reads
-        ≡ written (plain (blocks_of (N.extent nor.old)) (N.flash nor.old).reads) place
-        bytes.now) }
-    ensures keeps { IsTrue N.told → Keeps (Outside place (length bytes.now))
+    ensures writes { IsTrue N.told → Writes result place bytes.now
         (nor_flash (blocks_of (N.extent nor.old)) phases.Settled (N.flash nor.old))
-        (nor_flash (blocks_of (N.extent nor.old)) phases.Settled (N.flash nor.new)) }
-    ensures grows { IsTrue N.told
-        → Grows (nor_flash (blocks_of (N.extent nor.old)) phases.Settled (N.flash nor.old))
         (nor_flash (blocks_of (N.extent nor.old)) phases.Settled (N.flash nor.new)) }
     ensures erases { IsTrue N.told → N.erases nor.new ≡ N.erases nor.old }
 {
@@ -86,18 +79,9 @@ fn replace_range<N: Nor>(nor: &mut N, phase: &mut Phase, place: u64, bytes: &[u8
     ensures size { N.extent nor.new ≡ N.extent nor.old }
     ensures counts { EdgeCounts result (N.faults nor.old) (N.faults nor.new) }
     ensures settled { IfDone result (phase.new ≡ phases.Settled) }
-    ensures within { IsOfDisk (blocks_of (N.extent nor.old)) phase.new }
-    ensures holds { IsTrue N.told
-        → HoldsPhase (blocks_of (N.extent nor.old)) phase.new (N.flash nor.new).reads }
-    ensures written { IsTrue N.told → IfDone result
-        (seen (blocks_of (N.extent nor.old)) phase.new (N.flash nor.new).reads
-        ≡ written (plain (blocks_of (N.extent nor.old)) (N.flash nor.old).reads) place
-        bytes.now) }
-    ensures keeps { IsTrue N.told → Keeps (Outside place (length bytes.now))
+    ensures knows { Knows N.told (blocks_of (N.extent nor.old)) phase.new (N.flash nor.new).reads }
+    ensures writes { IsTrue N.told → Writes result place bytes.now
         (nor_flash (blocks_of (N.extent nor.old)) phases.Settled (N.flash nor.old))
-        (nor_flash (blocks_of (N.extent nor.old)) phase.new (N.flash nor.new)) }
-    ensures grows { IsTrue N.told
-        → Grows (nor_flash (blocks_of (N.extent nor.old)) phases.Settled (N.flash nor.old))
         (nor_flash (blocks_of (N.extent nor.old)) phase.new (N.flash nor.new)) }
 {
     let _image = blocks::count(nor);
@@ -122,18 +106,9 @@ fn write_piece<N: Nor>(nor: &mut N, phase: &mut Phase, place: u64, bytes: &[u8])
     ensures size { N.extent nor.new ≡ N.extent nor.old }
     ensures counts { EdgeCounts result (N.faults nor.old) (N.faults nor.new) }
     ensures settled { IfDone result (phase.new ≡ phases.Settled) }
-    ensures within { IsOfDisk (blocks_of (N.extent nor.old)) phase.new }
-    ensures holds { IsTrue N.told
-        → HoldsPhase (blocks_of (N.extent nor.old)) phase.new (N.flash nor.new).reads }
-    ensures written { IsTrue N.told → IfDone result
-        (seen (blocks_of (N.extent nor.old)) phase.new (N.flash nor.new).reads
-        ≡ written (plain (blocks_of (N.extent nor.old)) (N.flash nor.old).reads) place
-        bytes.now) }
-    ensures keeps { IsTrue N.told → Keeps (Outside place (length bytes.now))
+    ensures knows { Knows N.told (blocks_of (N.extent nor.old)) phase.new (N.flash nor.new).reads }
+    ensures writes { IsTrue N.told → Writes result place bytes.now
         (nor_flash (blocks_of (N.extent nor.old)) phases.Settled (N.flash nor.old))
-        (nor_flash (blocks_of (N.extent nor.old)) phase.new (N.flash nor.new)) }
-    ensures grows { IsTrue N.told
-        → Grows (nor_flash (blocks_of (N.extent nor.old)) phases.Settled (N.flash nor.old))
         (nor_flash (blocks_of (N.extent nor.old)) phase.new (N.flash nor.new)) }
     ensures erases { IsTrue N.told
         → OnlyClears (slice_range (plain (blocks_of (N.extent nor.old)) (N.flash nor.old).reads)
@@ -167,18 +142,9 @@ fn write_settled<N: Nor>(nor: &mut N, phase: &mut Phase, place: u64, bytes: &[u8
     ensures size { N.extent nor.new ≡ N.extent nor.old }
     ensures counts { EdgeCounts result (N.faults nor.old) (N.faults nor.new) }
     ensures settled { IfDone result (phase.new ≡ phases.Settled) }
-    ensures within { IsOfDisk (blocks_of (N.extent nor.old)) phase.new }
-    ensures holds { IsTrue N.told
-        → HoldsPhase (blocks_of (N.extent nor.old)) phase.new (N.flash nor.new).reads }
-    ensures written { IsTrue N.told → IfDone result
-        (seen (blocks_of (N.extent nor.old)) phase.new (N.flash nor.new).reads
-        ≡ written (plain (blocks_of (N.extent nor.old)) (N.flash nor.old).reads) place
-        bytes.now) }
-    ensures keeps { IsTrue N.told → Keeps (Outside place (length bytes.now))
+    ensures knows { Knows N.told (blocks_of (N.extent nor.old)) phase.new (N.flash nor.new).reads }
+    ensures writes { IsTrue N.told → Writes result place bytes.now
         (nor_flash (blocks_of (N.extent nor.old)) phases.Settled (N.flash nor.old))
-        (nor_flash (blocks_of (N.extent nor.old)) phase.new (N.flash nor.new)) }
-    ensures grows { IsTrue N.told
-        → Grows (nor_flash (blocks_of (N.extent nor.old)) phases.Settled (N.flash nor.old))
         (nor_flash (blocks_of (N.extent nor.old)) phase.new (N.flash nor.new)) }
     ensures erases { IsTrue N.told
         → OnlyClears (slice_range (plain (blocks_of (N.extent nor.old)) (N.flash nor.old).reads)
@@ -202,24 +168,13 @@ fn write_settled<N: Nor>(nor: &mut N, phase: &mut Phase, place: u64, bytes: &[u8
 /// Settles the disk, then writes the bytes from `place` on.
 pub(crate) fn write<N: Nor>(nor: &mut N, phase: &mut Phase, place: u64, bytes: &[u8]) -> Edge
     requires fits { place + length bytes.now ≤ 4096 * blocks_of (N.extent nor.old) }
-    requires within { IsOfDisk (blocks_of (N.extent nor.old)) phase.old }
-    requires holds { IsTrue N.told
-        → HoldsPhase (blocks_of (N.extent nor.old)) phase.old (N.flash nor.old).reads }
+    requires knows { Knows N.told (blocks_of (N.extent nor.old)) phase.old (N.flash nor.old).reads }
     ensures size { N.extent nor.new ≡ N.extent nor.old }
     ensures counts { EdgeCounts result (N.faults nor.old) (N.faults nor.new) }
     ensures settled { IfDone result (phase.new ≡ phases.Settled) }
-    ensures within { IsOfDisk (blocks_of (N.extent nor.old)) phase.new }
-    ensures holds { IsTrue N.told
-        → HoldsPhase (blocks_of (N.extent nor.old)) phase.new (N.flash nor.new).reads }
-    ensures written { IsTrue N.told → IfDone result
-        (seen (blocks_of (N.extent nor.old)) phase.new (N.flash nor.new).reads
-        ≡ written (seen (blocks_of (N.extent nor.old)) phase.old (N.flash nor.old).reads) place
-        bytes.now) }
-    ensures keeps { IsTrue N.told → Keeps (Outside place (length bytes.now))
+    ensures knows { Knows N.told (blocks_of (N.extent nor.old)) phase.new (N.flash nor.new).reads }
+    ensures writes { IsTrue N.told → Writes result place bytes.now
         (nor_flash (blocks_of (N.extent nor.old)) phase.old (N.flash nor.old))
-        (nor_flash (blocks_of (N.extent nor.old)) phase.new (N.flash nor.new)) }
-    ensures grows { IsTrue N.told
-        → Grows (nor_flash (blocks_of (N.extent nor.old)) phase.old (N.flash nor.old))
         (nor_flash (blocks_of (N.extent nor.old)) phase.new (N.flash nor.new)) }
     ensures erases { IsTrue N.told → phase.old ≡ phases.Settled
         → OnlyClears (slice_range (plain (blocks_of (N.extent nor.old)) (N.flash nor.old).reads)

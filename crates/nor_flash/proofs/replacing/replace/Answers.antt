@@ -1,164 +1,78 @@
-use Rattle.std.proofs.Common.{◌≡◌, ◌+◌, ◌*◌, ◌≤◌, ℕ, List, length, refl, sym, ◌∙◌, subst, arith}
-use Rattle.suit_edge.specs.Flash.{IsSettled}
+use Rattle.std.proofs.Common.{◌≡◌, ◌*◌, IsTrue, refl, sym, ◌∙◌}
+use Rattle.suit_edge.specs.EdgeLaws.{always}
 use Rattle.suit_edge.specs.Ranges.{written}
 use Rattle.nor_flash.specs.declared.phase.Phase.TheVariants as phases
 use Rattle.nor_flash.specs.Blocks.{front, plain, with_block}
-use Rattle.nor_flash.specs.NorDisks.{IsCommit, IsReplaced, IsSteady, blocks_of, nor_flash, seen}
-use Rattle.nor_flash.proofs.BlockLemmas.{blank_name}
-use Rattle.suit_edge.specs.EdgeLaws.{always}
+use Rattle.nor_flash.specs.NorDisks.{IsSteady, blocks_of, nor_flash, seen}
+use Rattle.nor_flash.proofs.Calm.{IsCalm, IsSized, calm_by, calm_fits, sized_by}
 use Rattle.nor_flash.proofs.Fronts.{settled_front}
-use Rattle.nor_flash.proofs.NameSteps.{IsCalm, calm_at, calm_disk}
-use Rattle.nor_flash.proofs.Replacement.{replaced_then, same_replaced, settled_disk, stored_shows, then_replaced}
+use Rattle.nor_flash.proofs.Replacement.{replaced_then, same_replaced, stored_shows, then_replaced}
 use Rattle.nor_flash.proofs.Steadiness.{phase_step, steady_then}
+use Rattle.nor_flash.proofs.replacing.replace.Given as given
 use Rattle.nor_flash.proofs.replacing.replace.Goals as goal
+use Rattle.nor_flash.proofs.replacing.replace.Goals.{After-store_image, After-prepare, After-finish}
+
+module _ (g : given.Over) (c : After-store_image g) (t : IsTrue g.N.Nor.told) where
+  calm_a : IsCalm (g.N.Nor.extent c.args.nor.now) (g.N.Nor.flash c.args.nor.now)
+  calm_a = calm_by refl (g.met.N.Nor.obeys c.args.nor.now t) (g.met.N.Nor.rests c.args.nor.now t) (g.met.N.Nor.cells c.args.nor.now t)
+
+  fronts : front (blocks_of (g.N.Nor.extent c.args.nor.now)) (g.N.Nor.flash c.args.nor.now).reads ≡ plain (blocks_of (g.N.Nor.extent c.args.nor.now)) (g.N.Nor.flash c.args.nor.now).reads
+  fronts =
+      let sized : IsSized (g.N.Nor.extent c.args.nor.now) = sized_by (g.N.Nor.extent c.args.nor.now) c.count-image.result c.count-image.ensures.count c.count-image.ensures.few c.count-image.ensures.all in
+      sym (settled_front (blocks_of (g.N.Nor.extent c.args.nor.now)) sized.few (g.N.Nor.flash c.args.nor.now).reads (calm_fits sized calm_a) (c.requires.erased t))
+
+  stored : IsSteady (blocks_of (g.N.Nor.extent c.args.nor.now)) phases.Settled (g.N.Nor.flash c.args.nor.now) phases.GivenUp (g.N.Nor.flash c.store_image.new.nor)
+  stored = steady_then calm_a (phase_step (blocks_of (g.N.Nor.extent c.args.nor.now)) phases.Settled phases.GivenUp (g.N.Nor.flash c.args.nor.now) fronts) (c.store_image.ensures.steady t)
+
+module _ (g : given.Over) (c : After-prepare g) (t : IsTrue g.N.Nor.told) (stored : IsSteady (blocks_of (g.N.Nor.extent c.args.nor.now)) phases.Settled (g.N.Nor.flash c.args.nor.now) phases.GivenUp (g.N.Nor.flash c.store_image.new.nor)) where
+  prepared : IsSteady (blocks_of (g.N.Nor.extent c.args.nor.now)) phases.Settled (g.N.Nor.flash c.args.nor.now) phases.GivenUp (g.N.Nor.flash c.prepare.new.nor)
+  prepared =
+      let calm_b : IsCalm (g.N.Nor.extent c.args.nor.now) (g.N.Nor.flash c.store_image.new.nor) = calm_by c.store_image.ensures.size (g.met.N.Nor.obeys c.store_image.new.nor t) (g.met.N.Nor.rests c.store_image.new.nor t) (g.met.N.Nor.cells c.store_image.new.nor t) in
+      steady_then calm_b stored (rw c.store_image.ensures.size at (c.prepare.ensures.steady t))
+
+  -- once the block is named, the disk has the new bytes
+  shows : front (blocks_of (g.N.Nor.extent c.args.nor.now)) (g.N.Nor.flash c.args.nor.now).reads ≡ plain (blocks_of (g.N.Nor.extent c.args.nor.now)) (g.N.Nor.flash c.args.nor.now).reads → with_block (blocks_of (g.N.Nor.extent c.args.nor.now)) c.args.block (g.N.Nor.flash c.prepare.new.nor).reads ≡ written (plain (blocks_of (g.N.Nor.extent c.args.nor.now)) (g.N.Nor.flash c.args.nor.now).reads) (4096 * c.args.block) c.args.bytes.now
+  shows fronts =
+      (rw c.store_image.ensures.size at (c.prepare.ensures.shown t))
+      ∙ stored_shows (blocks_of (g.N.Nor.extent c.args.nor.now)) c.args.block (g.N.Nor.flash c.store_image.new.nor).reads (plain (blocks_of (g.N.Nor.extent c.args.nor.now)) (g.N.Nor.flash c.args.nor.now).reads) c.args.bytes.now (c.store_image.ensures.front t ∙ fronts) (c.in-Done.ensures.stored t)
+
+module _ (g : given.Over) (c : After-finish g) (t : IsTrue g.N.Nor.told) where
+  calm_e : IsCalm (g.N.Nor.extent c.args.nor.now) (g.N.Nor.flash c.commit.new.nor)
+  calm_e = calm_by (c.commit.ensures.size ∙ c.prepare.ensures.size ∙ c.store_image.ensures.size) (g.met.N.Nor.obeys c.commit.new.nor t) (g.met.N.Nor.rests c.commit.new.nor t) (g.met.N.Nor.cells c.commit.new.nor t)
+
+  finished : IsSteady (blocks_of (g.N.Nor.extent c.args.nor.now)) (phases.Rewriting c.args.block) (g.N.Nor.flash c.commit.new.nor) c.finish.new.phase (g.N.Nor.flash c.finish.new.nor)
+  finished = rw (c.commit.ensures.size ∙ c.prepare.ensures.size ∙ c.store_image.ensures.size) at (c.finish.ensures.steady t)
 
 pub returns-in-Failed-clause-replaced : goal.returns-in-Failed-clause-replaced
 returns-in-Failed-clause-replaced g c t =
-    let size = g.N.Nor.extent c.args.nor.now in
-    let a = g.N.Nor.flash c.args.nor.now in
-    let m = c.count-image.ensures.count in
-    let all : 4096 * (blocks_of size + 4) ≡ size = omega (arith, m, c.count-image.ensures.all) in
-    let few : blocks_of size ≤ blank_name = omega (arith, m, c.count-image.ensures.few) in
-    let calm_a : IsCalm size a = calm_at size a size refl (g.met.N.Nor.obeys c.args.nor.now t) (g.met.N.Nor.rests c.args.nor.now t) (g.met.N.Nor.cells c.args.nor.now t) in
-    let b = g.N.Nor.flash c.store_image.new.nor in
-    let fits : length a.reads ≡ 4096 * (blocks_of size + 4) = calm_a.law.fits ∙ sym all in
-    let fronts : front (blocks_of size) a.reads ≡ plain (blocks_of size) a.reads = sym (settled_front (blocks_of size) few a.reads fits (c.requires.erased t)) in
-    let still : IsSettled (nor_flash (blocks_of size) phases.Settled a) = settled_disk (blocks_of size) a calm_a.settled in
-    let with : List ℕ = written (plain (blocks_of size) a.reads) (4096 * c.args.block) c.args.bytes.now in
-    let stored : IsSteady (blocks_of size) phases.Settled a phases.GivenUp b =
-    steady_then (blocks_of size) (4096 * blocks_of size) phases.Settled phases.GivenUp phases.GivenUp a a b (calm_disk size phases.GivenUp a calm_a)
-    (phase_step (blocks_of size) phases.Settled phases.GivenUp a fronts) (c.store_image.ensures.steady t) in
-    same_replaced (nor_flash (blocks_of size) phases.Settled a) (nor_flash (blocks_of size) phases.GivenUp b) still stored.same stored.grows with
+    let at = (goal.at.returns-in-Failed-clause-replaced g c).After-store_image in
+    same_replaced (calm_a g at t) (stored g at t) _
 
 pub returns-in-Failed-prepare-clause-replaced : goal.returns-in-Failed-prepare-clause-replaced
 returns-in-Failed-prepare-clause-replaced g c t =
-    let size = g.N.Nor.extent c.args.nor.now in
-    let a = g.N.Nor.flash c.args.nor.now in
-    let m = c.count-image.ensures.count in
-    let all : 4096 * (blocks_of size + 4) ≡ size = omega (arith, m, c.count-image.ensures.all) in
-    let few : blocks_of size ≤ blank_name = omega (arith, m, c.count-image.ensures.few) in
-    let calm_a : IsCalm size a = calm_at size a size refl (g.met.N.Nor.obeys c.args.nor.now t) (g.met.N.Nor.rests c.args.nor.now t) (g.met.N.Nor.cells c.args.nor.now t) in
-    let b = g.N.Nor.flash c.store_image.new.nor in
-    let fits : length a.reads ≡ 4096 * (blocks_of size + 4) = calm_a.law.fits ∙ sym all in
-    let fronts : front (blocks_of size) a.reads ≡ plain (blocks_of size) a.reads = sym (settled_front (blocks_of size) few a.reads fits (c.requires.erased t)) in
-    let still : IsSettled (nor_flash (blocks_of size) phases.Settled a) = settled_disk (blocks_of size) a calm_a.settled in
-    let with : List ℕ = written (plain (blocks_of size) a.reads) (4096 * c.args.block) c.args.bytes.now in
-    let stored : IsSteady (blocks_of size) phases.Settled a phases.GivenUp b =
-    steady_then (blocks_of size) (4096 * blocks_of size) phases.Settled phases.GivenUp phases.GivenUp a a b (calm_disk size phases.GivenUp a calm_a)
-    (phase_step (blocks_of size) phases.Settled phases.GivenUp a fronts) (c.store_image.ensures.steady t) in
-    let calm_b : IsCalm size b = calm_at size b (g.N.Nor.extent c.store_image.new.nor) c.store_image.ensures.size (g.met.N.Nor.obeys c.store_image.new.nor t) (g.met.N.Nor.rests c.store_image.new.nor t) (g.met.N.Nor.cells c.store_image.new.nor t) in
-    let d = g.N.Nor.flash c.prepare.new.nor in
-    let step : IsSteady (blocks_of size) phases.GivenUp b phases.GivenUp d = subst (λ (s : ℕ). IsSteady (blocks_of s) phases.GivenUp b phases.GivenUp d) c.store_image.ensures.size (c.prepare.ensures.steady t) in
-    let prepared : IsSteady (blocks_of size) phases.Settled a phases.GivenUp d =
-    steady_then (blocks_of size) (4096 * blocks_of size) phases.Settled phases.GivenUp phases.GivenUp a b d (calm_disk size phases.GivenUp b calm_b) stored step in
-    same_replaced (nor_flash (blocks_of size) phases.Settled a) (nor_flash (blocks_of size) phases.GivenUp d) still prepared.same prepared.grows with
+    let at = goal.at.returns-in-Failed-prepare-clause-replaced g c in
+    let steady = prepared g at.After-prepare t (stored g at.After-store_image t) in
+    same_replaced (calm_a g at.After-store_image t) steady _
 
 pub returns-in-Failed-commit-clause-replaced : goal.returns-in-Failed-commit-clause-replaced
 returns-in-Failed-commit-clause-replaced g c t =
-    let size = g.N.Nor.extent c.args.nor.now in
-    let a = g.N.Nor.flash c.args.nor.now in
-    let m = c.count-image.ensures.count in
-    let all : 4096 * (blocks_of size + 4) ≡ size = omega (arith, m, c.count-image.ensures.all) in
-    let few : blocks_of size ≤ blank_name = omega (arith, m, c.count-image.ensures.few) in
-    let calm_a : IsCalm size a = calm_at size a size refl (g.met.N.Nor.obeys c.args.nor.now t) (g.met.N.Nor.rests c.args.nor.now t) (g.met.N.Nor.cells c.args.nor.now t) in
-    let b = g.N.Nor.flash c.store_image.new.nor in
-    let fits : length a.reads ≡ 4096 * (blocks_of size + 4) = calm_a.law.fits ∙ sym all in
-    let fronts : front (blocks_of size) a.reads ≡ plain (blocks_of size) a.reads = sym (settled_front (blocks_of size) few a.reads fits (c.requires.erased t)) in
-    let still : IsSettled (nor_flash (blocks_of size) phases.Settled a) = settled_disk (blocks_of size) a calm_a.settled in
-    let with : List ℕ = written (plain (blocks_of size) a.reads) (4096 * c.args.block) c.args.bytes.now in
-    let stored : IsSteady (blocks_of size) phases.Settled a phases.GivenUp b =
-    steady_then (blocks_of size) (4096 * blocks_of size) phases.Settled phases.GivenUp phases.GivenUp a a b (calm_disk size phases.GivenUp a calm_a)
-    (phase_step (blocks_of size) phases.Settled phases.GivenUp a fronts) (c.store_image.ensures.steady t) in
-    let calm_b : IsCalm size b = calm_at size b (g.N.Nor.extent c.store_image.new.nor) c.store_image.ensures.size (g.met.N.Nor.obeys c.store_image.new.nor t) (g.met.N.Nor.rests c.store_image.new.nor t) (g.met.N.Nor.cells c.store_image.new.nor t) in
-    let d = g.N.Nor.flash c.prepare.new.nor in
-    let step : IsSteady (blocks_of size) phases.GivenUp b phases.GivenUp d = subst (λ (s : ℕ). IsSteady (blocks_of s) phases.GivenUp b phases.GivenUp d) c.store_image.ensures.size (c.prepare.ensures.steady t) in
-    let prepared : IsSteady (blocks_of size) phases.Settled a phases.GivenUp d =
-    steady_then (blocks_of size) (4096 * blocks_of size) phases.Settled phases.GivenUp phases.GivenUp a b d (calm_disk size phases.GivenUp b calm_b) stored step in
-    let size_d : g.N.Nor.extent c.prepare.new.nor ≡ size = c.prepare.ensures.size ∙ c.store_image.ensures.size in
-    let e = g.N.Nor.flash c.commit.new.nor in
-    let shown_d : with_block (blocks_of size) c.args.block d.reads ≡ with_block (blocks_of size) c.args.block b.reads =
-    subst (λ (s : ℕ). with_block (blocks_of s) c.args.block d.reads ≡ with_block (blocks_of s) c.args.block b.reads) c.store_image.ensures.size (c.prepare.ensures.shown t) in
-    let is : with_block (blocks_of size) c.args.block d.reads ≡ with =
-    shown_d ∙ stored_shows (blocks_of size) c.args.block b.reads (plain (blocks_of size) a.reads) c.args.bytes.now (c.store_image.ensures.front t ∙ fronts) (c.in-Done.ensures.stored t) in
-    let here : IsCommit (blocks_of size) c.args.block d phases.GivenUp e = subst (λ (s : ℕ). IsCommit (blocks_of s) c.args.block d phases.GivenUp e) size_d (c.commit.ensures.not_committed t) in
-    let puts : IsReplaced (nor_flash (blocks_of size) phases.GivenUp d) (nor_flash (blocks_of size) phases.GivenUp e) with =
-    subst (λ (l : List ℕ). IsReplaced (nor_flash (blocks_of size) phases.GivenUp d) (nor_flash (blocks_of size) phases.GivenUp e) l) is here in
-    let put : IsReplaced (nor_flash (blocks_of size) phases.Settled a) (nor_flash (blocks_of size) phases.GivenUp e) with =
-    then_replaced (nor_flash (blocks_of size) phases.Settled a) (nor_flash (blocks_of size) phases.GivenUp d) still prepared.same prepared.grows with (nor_flash (blocks_of size) phases.GivenUp e) puts in
-    put
+    let at = goal.at.returns-in-Failed-commit-clause-replaced g c in
+    let steady = prepared g at.After-prepare t (stored g at.After-store_image t) in
+    let is = shows g at.After-prepare t (stored g at.After-store_image t) (fronts g at.After-store_image t) in
+    then_replaced (calm_a g at.After-store_image t) steady _ phases.GivenUp (g.N.Nor.flash c.commit.new.nor)
+    (rw (c.prepare.ensures.size ∙ c.store_image.ensures.size, is) at (c.commit.ensures.not_committed t))
 
 pub returns-clause-replaced : goal.returns-clause-replaced
 returns-clause-replaced g c t =
-    let size = g.N.Nor.extent c.args.nor.now in
-    let a = g.N.Nor.flash c.args.nor.now in
-    let m = c.count-image.ensures.count in
-    let all : 4096 * (blocks_of size + 4) ≡ size = omega (arith, m, c.count-image.ensures.all) in
-    let few : blocks_of size ≤ blank_name = omega (arith, m, c.count-image.ensures.few) in
-    let calm_a : IsCalm size a = calm_at size a size refl (g.met.N.Nor.obeys c.args.nor.now t) (g.met.N.Nor.rests c.args.nor.now t) (g.met.N.Nor.cells c.args.nor.now t) in
-    let b = g.N.Nor.flash c.store_image.new.nor in
-    let fits : length a.reads ≡ 4096 * (blocks_of size + 4) = calm_a.law.fits ∙ sym all in
-    let fronts : front (blocks_of size) a.reads ≡ plain (blocks_of size) a.reads = sym (settled_front (blocks_of size) few a.reads fits (c.requires.erased t)) in
-    let still : IsSettled (nor_flash (blocks_of size) phases.Settled a) = settled_disk (blocks_of size) a calm_a.settled in
-    let with : List ℕ = written (plain (blocks_of size) a.reads) (4096 * c.args.block) c.args.bytes.now in
-    let stored : IsSteady (blocks_of size) phases.Settled a phases.GivenUp b =
-    steady_then (blocks_of size) (4096 * blocks_of size) phases.Settled phases.GivenUp phases.GivenUp a a b (calm_disk size phases.GivenUp a calm_a)
-    (phase_step (blocks_of size) phases.Settled phases.GivenUp a fronts) (c.store_image.ensures.steady t) in
-    let calm_b : IsCalm size b = calm_at size b (g.N.Nor.extent c.store_image.new.nor) c.store_image.ensures.size (g.met.N.Nor.obeys c.store_image.new.nor t) (g.met.N.Nor.rests c.store_image.new.nor t) (g.met.N.Nor.cells c.store_image.new.nor t) in
-    let d = g.N.Nor.flash c.prepare.new.nor in
-    let step : IsSteady (blocks_of size) phases.GivenUp b phases.GivenUp d = subst (λ (s : ℕ). IsSteady (blocks_of s) phases.GivenUp b phases.GivenUp d) c.store_image.ensures.size (c.prepare.ensures.steady t) in
-    let prepared : IsSteady (blocks_of size) phases.Settled a phases.GivenUp d =
-    steady_then (blocks_of size) (4096 * blocks_of size) phases.Settled phases.GivenUp phases.GivenUp a b d (calm_disk size phases.GivenUp b calm_b) stored step in
-    let size_d : g.N.Nor.extent c.prepare.new.nor ≡ size = c.prepare.ensures.size ∙ c.store_image.ensures.size in
-    let e = g.N.Nor.flash c.commit.new.nor in
-    let shown_d : with_block (blocks_of size) c.args.block d.reads ≡ with_block (blocks_of size) c.args.block b.reads =
-    subst (λ (s : ℕ). with_block (blocks_of s) c.args.block d.reads ≡ with_block (blocks_of s) c.args.block b.reads) c.store_image.ensures.size (c.prepare.ensures.shown t) in
-    let is : with_block (blocks_of size) c.args.block d.reads ≡ with =
-    shown_d ∙ stored_shows (blocks_of size) c.args.block b.reads (plain (blocks_of size) a.reads) c.args.bytes.now (c.store_image.ensures.front t ∙ fronts) (c.in-Done.ensures.stored t) in
-    let here : IsCommit (blocks_of size) c.args.block d (phases.Rewriting c.args.block) e = subst (λ (s : ℕ). IsCommit (blocks_of s) c.args.block d (phases.Rewriting c.args.block) e) size_d (c.commit.ensures.committed t) in
-    let puts : IsReplaced (nor_flash (blocks_of size) phases.GivenUp d) (nor_flash (blocks_of size) (phases.Rewriting c.args.block) e) with =
-    subst (λ (l : List ℕ). IsReplaced (nor_flash (blocks_of size) phases.GivenUp d) (nor_flash (blocks_of size) (phases.Rewriting c.args.block) e) l) is here in
-    let put : IsReplaced (nor_flash (blocks_of size) phases.Settled a) (nor_flash (blocks_of size) (phases.Rewriting c.args.block) e) with =
-    then_replaced (nor_flash (blocks_of size) phases.Settled a) (nor_flash (blocks_of size) phases.GivenUp d) still prepared.same prepared.grows with (nor_flash (blocks_of size) (phases.Rewriting c.args.block) e) puts in
-    let size_e : g.N.Nor.extent c.commit.new.nor ≡ size = c.commit.ensures.size ∙ size_d in
-    let calm_e : IsCalm size e = calm_at size e (g.N.Nor.extent c.commit.new.nor) size_e (g.met.N.Nor.obeys c.commit.new.nor t) (g.met.N.Nor.rests c.commit.new.nor t) (g.met.N.Nor.cells c.commit.new.nor t) in
-    let f = g.N.Nor.flash c.finish.new.nor in
-    let finished : IsSteady (blocks_of size) (phases.Rewriting c.args.block) e c.finish.new.phase f =
-    subst (λ (s : ℕ). IsSteady (blocks_of s) (phases.Rewriting c.args.block) e c.finish.new.phase f) size_e (c.finish.ensures.steady t) in
-    replaced_then (nor_flash (blocks_of size) phases.Settled a) (nor_flash (blocks_of size) (phases.Rewriting c.args.block) e) (nor_flash (blocks_of size) c.finish.new.phase f) (4096 * blocks_of size) with
-    (calm_disk size (phases.Rewriting c.args.block) e calm_e) put finished.same finished.grows
+    let at = goal.at.returns-clause-replaced g c in
+    let steady = prepared g at.After-prepare t (stored g at.After-store_image t) in
+    let is = shows g at.After-prepare t (stored g at.After-store_image t) (fronts g at.After-store_image t) in
+    let put = then_replaced (calm_a g at.After-store_image t) steady _ (phases.Rewriting c.args.block) (g.N.Nor.flash c.commit.new.nor) (rw (c.prepare.ensures.size ∙ c.store_image.ensures.size, is) at (c.commit.ensures.committed t)) in
+    replaced_then (nor_flash (blocks_of (g.N.Nor.extent c.args.nor.now)) phases.Settled (g.N.Nor.flash c.args.nor.now)) (calm_e g at.After-finish t) put (finished g at.After-finish t)
 
 pub returns-clause-written : goal.returns-clause-written
 returns-clause-written g c t =
-    let size = g.N.Nor.extent c.args.nor.now in
-    let a = g.N.Nor.flash c.args.nor.now in
-    let m = c.count-image.ensures.count in
-    let all : 4096 * (blocks_of size + 4) ≡ size = omega (arith, m, c.count-image.ensures.all) in
-    let few : blocks_of size ≤ blank_name = omega (arith, m, c.count-image.ensures.few) in
-    let calm_a : IsCalm size a = calm_at size a size refl (g.met.N.Nor.obeys c.args.nor.now t) (g.met.N.Nor.rests c.args.nor.now t) (g.met.N.Nor.cells c.args.nor.now t) in
-    let b = g.N.Nor.flash c.store_image.new.nor in
-    let fits : length a.reads ≡ 4096 * (blocks_of size + 4) = calm_a.law.fits ∙ sym all in
-    let fronts : front (blocks_of size) a.reads ≡ plain (blocks_of size) a.reads = sym (settled_front (blocks_of size) few a.reads fits (c.requires.erased t)) in
-    let still : IsSettled (nor_flash (blocks_of size) phases.Settled a) = settled_disk (blocks_of size) a calm_a.settled in
-    let with : List ℕ = written (plain (blocks_of size) a.reads) (4096 * c.args.block) c.args.bytes.now in
-    let stored : IsSteady (blocks_of size) phases.Settled a phases.GivenUp b =
-    steady_then (blocks_of size) (4096 * blocks_of size) phases.Settled phases.GivenUp phases.GivenUp a a b (calm_disk size phases.GivenUp a calm_a)
-    (phase_step (blocks_of size) phases.Settled phases.GivenUp a fronts) (c.store_image.ensures.steady t) in
-    let calm_b : IsCalm size b = calm_at size b (g.N.Nor.extent c.store_image.new.nor) c.store_image.ensures.size (g.met.N.Nor.obeys c.store_image.new.nor t) (g.met.N.Nor.rests c.store_image.new.nor t) (g.met.N.Nor.cells c.store_image.new.nor t) in
-    let d = g.N.Nor.flash c.prepare.new.nor in
-    let step : IsSteady (blocks_of size) phases.GivenUp b phases.GivenUp d = subst (λ (s : ℕ). IsSteady (blocks_of s) phases.GivenUp b phases.GivenUp d) c.store_image.ensures.size (c.prepare.ensures.steady t) in
-    let prepared : IsSteady (blocks_of size) phases.Settled a phases.GivenUp d =
-    steady_then (blocks_of size) (4096 * blocks_of size) phases.Settled phases.GivenUp phases.GivenUp a b d (calm_disk size phases.GivenUp b calm_b) stored step in
-    let size_d : g.N.Nor.extent c.prepare.new.nor ≡ size = c.prepare.ensures.size ∙ c.store_image.ensures.size in
-    let e = g.N.Nor.flash c.commit.new.nor in
-    let shown_d : with_block (blocks_of size) c.args.block d.reads ≡ with_block (blocks_of size) c.args.block b.reads =
-    subst (λ (s : ℕ). with_block (blocks_of s) c.args.block d.reads ≡ with_block (blocks_of s) c.args.block b.reads) c.store_image.ensures.size (c.prepare.ensures.shown t) in
-    let is : with_block (blocks_of size) c.args.block d.reads ≡ with =
-    shown_d ∙ stored_shows (blocks_of size) c.args.block b.reads (plain (blocks_of size) a.reads) c.args.bytes.now (c.store_image.ensures.front t ∙ fronts) (c.in-Done.ensures.stored t) in
-    let size_e : g.N.Nor.extent c.commit.new.nor ≡ size = c.commit.ensures.size ∙ size_d in
-    let calm_e : IsCalm size e = calm_at size e (g.N.Nor.extent c.commit.new.nor) size_e (g.met.N.Nor.obeys c.commit.new.nor t) (g.met.N.Nor.rests c.commit.new.nor t) (g.met.N.Nor.cells c.commit.new.nor t) in
-    let f = g.N.Nor.flash c.finish.new.nor in
-    let finished : IsSteady (blocks_of size) (phases.Rewriting c.args.block) e c.finish.new.phase f =
-    subst (λ (s : ℕ). IsSteady (blocks_of s) (phases.Rewriting c.args.block) e c.finish.new.phase f) size_e (c.finish.ensures.steady t) in
-    let there : plain (blocks_of size) e.reads ≡ with_block (blocks_of size) c.args.block d.reads =
-    subst (λ (s : ℕ). plain (blocks_of s) e.reads ≡ with_block (blocks_of s) c.args.block d.reads) size_d (c.in-Done-commit.ensures.shown t) in
-    always c.finish.result (seen (blocks_of size) c.finish.new.phase f.reads ≡ with) (finished.same.reads ∙ there ∙ is)
+    let at = goal.at.returns-clause-written g c in
+    let is = shows g at.After-prepare t (stored g at.After-store_image t) (fronts g at.After-store_image t) in
+    always c.finish.result (seen (blocks_of (g.N.Nor.extent c.args.nor.now)) c.finish.new.phase (g.N.Nor.flash c.finish.new.nor).reads ≡ written (plain (blocks_of (g.N.Nor.extent c.args.nor.now)) (g.N.Nor.flash c.args.nor.now).reads) (4096 * c.args.block) c.args.bytes.now)
+    ((finished g at.After-finish t).same.reads ∙ (rw (c.prepare.ensures.size ∙ c.store_image.ensures.size) at (c.in-Done-commit.ensures.shown t)) ∙ is)

@@ -1,66 +1,53 @@
-use Rattle.std.proofs.Common.{◌≡◌, ◌⊎◌, inl, inr, ⊎_elim, ◌+◌, ◌*◌, ◌≤◌, subst, sym, ◌∙◌, arith, ℕ, List, length}
-use Rattle.suit_edge.specs.Flash.{IsFlash}
-use Rattle.nor_flash.specs.declared.phase.Phase.TheVariants as phases
+use Rattle.std.proofs.Common.{◌≡◌, inl, inr, ⊎_elim, ◌+◌, ℕ, List, IsTrue, refl, subst, sym, ◌∙◌}
+use Rattle.suit_edge.specs.Flash.{Flash}
+use Rattle.nor_flash.specs.declared.phase.Phase.{Phase}
 use Rattle.nor_flash.specs.Blocks.{name_in}
 use Rattle.nor_flash.specs.NorDisks.{IsQuiet, IsSteady, blocks_of}
-use Rattle.nor_flash.proofs.BlockLemmas.{blank_name}
-use Rattle.nor_flash.proofs.NameSteps.{IsCalm, calm_disk}
+use Rattle.nor_flash.proofs.Calm.{IsCalm, IsSized, calm_by, calm_fits, sized_by}
 use Rattle.nor_flash.proofs.Quiet.{first_name_quiet, second_name_quiet}
 use Rattle.nor_flash.proofs.Steadiness.{read_step, steady_then}
+use Rattle.nor_flash.proofs.settling.clear_names.Given as given
 use Rattle.nor_flash.proofs.settling.clear_names.Goals as goal
+use Rattle.nor_flash.proofs.settling.clear_names.Goals.{In-Some-name}
+
+-- two names are read
+module _ (g : given.Over) (c : In-Some-name g) (t : IsTrue g.N.Nor.told) where
+  sized : IsSized (g.N.Nor.extent c.args.nor.now)
+  sized = sized_by (g.N.Nor.extent c.args.nor.now) c.count-image.result c.count-image.ensures.count c.count-image.ensures.few c.count-image.ensures.all
+
+  calm_a : IsCalm (g.N.Nor.extent c.args.nor.now) (g.N.Nor.flash c.args.nor.now)
+  calm_a = calm_by refl (g.met.N.Nor.obeys c.args.nor.now t) (g.met.N.Nor.rests c.args.nor.now t) (g.met.N.Nor.cells c.args.nor.now t)
+
+  same : (g.N.Nor.flash c.name-2.new.nor).reads ≡ (g.N.Nor.flash c.args.nor.now).reads
+  same = (c.name-2.ensures.same t).reads ∙ (c.name.ensures.same t).reads
+
+  second : c.in-Some.name ≡ name_in (blocks_of (g.N.Nor.extent c.args.nor.now) + 2) (g.N.Nor.flash c.args.nor.now).reads
+  second = rw c.count-image.ensures.count at (c.in-Some.ensures.exact t)
+
+  third : c.in-Some-name.name ≡ name_in (blocks_of (g.N.Nor.extent c.args.nor.now) + 3) (g.N.Nor.flash c.args.nor.now).reads
+  third = rw (c.count-image.ensures.count, (c.name.ensures.same t).reads) at (c.in-Some-name.ensures.exact t)
+
+  -- and the names erased
+  then_erased : {e : Flash} (phase : Phase) (name : ℕ) → (IsQuiet (blocks_of (g.N.Nor.extent c.args.nor.now)) phase (g.N.Nor.flash c.name-2.new.nor).reads (blocks_of (g.N.Nor.extent c.args.nor.now) + name) → IsSteady (blocks_of (g.N.Nor.extent c.args.nor.now)) phase (g.N.Nor.flash c.name-2.new.nor) phase e)
+      → IsQuiet (blocks_of (g.N.Nor.extent c.args.nor.now)) phase (g.N.Nor.flash c.args.nor.now).reads (blocks_of (g.N.Nor.extent c.args.nor.now) + name) → IsSteady (blocks_of (g.N.Nor.extent c.args.nor.now)) phase (g.N.Nor.flash c.args.nor.now) phase e
+  then_erased phase name erases quiet =
+      let calm_b : IsCalm (g.N.Nor.extent c.args.nor.now) (g.N.Nor.flash c.name.new.nor) = calm_by c.name.ensures.size (g.met.N.Nor.obeys c.name.new.nor t) (g.met.N.Nor.rests c.name.new.nor t) (g.met.N.Nor.cells c.name.new.nor t) in
+      let calm_d : IsCalm (g.N.Nor.extent c.args.nor.now) (g.N.Nor.flash c.name-2.new.nor) = calm_by (c.name-2.ensures.size ∙ c.name.ensures.size) (g.met.N.Nor.obeys c.name-2.new.nor t) (g.met.N.Nor.rests c.name-2.new.nor t) (g.met.N.Nor.cells c.name-2.new.nor t) in
+      steady_then calm_b (read_step (blocks_of (g.N.Nor.extent c.args.nor.now)) phase (c.name.ensures.same t) (c.name.ensures.grows t)) (steady_then calm_d (read_step (blocks_of (g.N.Nor.extent c.args.nor.now)) phase (c.name-2.ensures.same t) (c.name-2.ensures.grows t))
+      (erases (subst (λ (l : List ℕ). IsQuiet (blocks_of (g.N.Nor.extent c.args.nor.now)) phase l (blocks_of (g.N.Nor.extent c.args.nor.now) + name)) (sym same) quiet)))
 
 pub returns-then-second-third-clause-steady : goal.returns-then-second-third-clause-steady
 returns-then-second-third-clause-steady g c t phase can =
-    let size = g.N.Nor.extent c.args.nor.now in
-    let a = g.N.Nor.flash c.args.nor.now in
-    let b = g.N.Nor.flash c.name.new.nor in
-    let d = g.N.Nor.flash c.name-2.new.nor in
-    let e = g.N.Nor.flash c.erase_names.new.nor in
-    let m = c.count-image.ensures.count in
-    let all : 4096 * (blocks_of size + 4) ≡ size = omega (arith, m, c.count-image.ensures.all) in
-    let few : blocks_of size ≤ blank_name = omega (arith, m, c.count-image.ensures.few) in
-    let fits : length a.reads ≡ 4096 * (blocks_of size + 4) = (g.met.N.Nor.obeys c.args.nor.now t).fits ∙ sym all in
-    let size_d : g.N.Nor.extent c.name-2.new.nor ≡ size = c.name-2.ensures.size ∙ c.name.ensures.size in
-    let calm_b : IsCalm size b = record { law = subst (λ (s : ℕ). IsFlash b s) c.name.ensures.size (g.met.N.Nor.obeys c.name.new.nor t); settled = g.met.N.Nor.rests c.name.new.nor t; bytes = g.met.N.Nor.cells c.name.new.nor t } in
-    let calm_d : IsCalm size d = record { law = subst (λ (s : ℕ). IsFlash d s) size_d (g.met.N.Nor.obeys c.name-2.new.nor t); settled = g.met.N.Nor.rests c.name-2.new.nor t; bytes = g.met.N.Nor.cells c.name-2.new.nor t } in
-    let same_b : b.reads ≡ a.reads = (c.name.ensures.same t).reads in
-    let same_d : d.reads ≡ a.reads = (c.name-2.ensures.same t).reads ∙ same_b in
-    let second : c.in-Some.name ≡ name_in (blocks_of size + 2) a.reads = subst (λ (k : ℕ). c.in-Some.name ≡ name_in (k + 2) a.reads) m (c.in-Some.ensures.exact t) in
-    let third : c.in-Some-name.name ≡ name_in (blocks_of size + 3) a.reads =
-    subst (λ (l : List ℕ). c.in-Some-name.name ≡ name_in (blocks_of size + 3) l) same_b (subst (λ (k : ℕ). c.in-Some-name.name ≡ name_in (k + 3) b.reads) m (c.in-Some-name.ensures.exact t)) in
-    let quiet : IsQuiet (blocks_of size) phase a.reads (blocks_of size + 2) = second_name_quiet (blocks_of size) few a.reads fits phase can (sym second ∙ c.if-second-third.true ∙ third) in
-    let quiet_d : IsQuiet (blocks_of size) phase d.reads (blocks_of size + 2) = subst (λ (l : List ℕ). IsQuiet (blocks_of size) phase l (blocks_of size + 2)) (sym same_d) quiet in
-    let clears : (phase ≡ phases.GivenUp) ⊎ (phase ≡ phases.Unsettled) = ⊎_elim (λ h. inl h) (λ h. inr h.0) can in
-    let erases : IsSteady (blocks_of size) phase d phase e =
-    subst (λ (s : ℕ). IsQuiet (blocks_of s) phase d.reads (blocks_of s + 2) → IsSteady (blocks_of s) phase d phase e) size_d (c.erase_names.ensures.steady t phase clears) quiet_d in
-    let reads : IsSteady (blocks_of size) phase a phase d = steady_then (blocks_of size) (4096 * blocks_of size) phase phase phase a b d (calm_disk size phase b calm_b)
-    (read_step (blocks_of size) phase a b (c.name.ensures.same t) (c.name.ensures.grows t)) (read_step (blocks_of size) phase b d (c.name-2.ensures.same t) (c.name-2.ensures.grows t)) in
-    steady_then (blocks_of size) (4096 * blocks_of size) phase phase phase a d e (calm_disk size phase d calm_d) reads erases
+    let at = (goal.at.returns-then-second-third-clause-steady g c).In-Some-name in
+    let whole = sized g at t in
+    let fits = calm_fits whole (calm_a g at t) in
+    then_erased g at t phase 2 (rw (c.name-2.ensures.size ∙ c.name.ensures.size) at (c.erase_names.ensures.steady t phase (⊎_elim (λ h. inl h) (λ h. inr h.0) can)))
+    (second_name_quiet (blocks_of (g.N.Nor.extent c.args.nor.now)) whole.few _ fits phase can (sym (second g at t) ∙ c.if-second-third.true ∙ third g at t))
 
 pub returns-else-second-third-clause-steady : goal.returns-else-second-third-clause-steady
 returns-else-second-third-clause-steady g c t phase can =
-    let size = g.N.Nor.extent c.args.nor.now in
-    let a = g.N.Nor.flash c.args.nor.now in
-    let b = g.N.Nor.flash c.name.new.nor in
-    let d = g.N.Nor.flash c.name-2.new.nor in
-    let e = g.N.Nor.flash c.erase_names-else-second-third.new.nor in
-    let m = c.count-image.ensures.count in
-    let all : 4096 * (blocks_of size + 4) ≡ size = omega (arith, m, c.count-image.ensures.all) in
-    let few : blocks_of size ≤ blank_name = omega (arith, m, c.count-image.ensures.few) in
-    let fits : length a.reads ≡ 4096 * (blocks_of size + 4) = (g.met.N.Nor.obeys c.args.nor.now t).fits ∙ sym all in
-    let size_d : g.N.Nor.extent c.name-2.new.nor ≡ size = c.name-2.ensures.size ∙ c.name.ensures.size in
-    let calm_b : IsCalm size b = record { law = subst (λ (s : ℕ). IsFlash b s) c.name.ensures.size (g.met.N.Nor.obeys c.name.new.nor t); settled = g.met.N.Nor.rests c.name.new.nor t; bytes = g.met.N.Nor.cells c.name.new.nor t } in
-    let calm_d : IsCalm size d = record { law = subst (λ (s : ℕ). IsFlash d s) size_d (g.met.N.Nor.obeys c.name-2.new.nor t); settled = g.met.N.Nor.rests c.name-2.new.nor t; bytes = g.met.N.Nor.cells c.name-2.new.nor t } in
-    let same_b : b.reads ≡ a.reads = (c.name.ensures.same t).reads in
-    let same_d : d.reads ≡ a.reads = (c.name-2.ensures.same t).reads ∙ same_b in
-    let second : c.in-Some.name ≡ name_in (blocks_of size + 2) a.reads = subst (λ (k : ℕ). c.in-Some.name ≡ name_in (k + 2) a.reads) m (c.in-Some.ensures.exact t) in
-    let third : c.in-Some-name.name ≡ name_in (blocks_of size + 3) a.reads =
-    subst (λ (l : List ℕ). c.in-Some-name.name ≡ name_in (blocks_of size + 3) l) same_b (subst (λ (k : ℕ). c.in-Some-name.name ≡ name_in (k + 3) b.reads) m (c.in-Some-name.ensures.exact t)) in
-    let quiet : IsQuiet (blocks_of size) phase a.reads (blocks_of size + 1) = first_name_quiet (blocks_of size) few a.reads fits phase can (λ equal. c.if-second-third.false (second ∙ equal ∙ sym third)) in
-    let quiet_d : IsQuiet (blocks_of size) phase d.reads (blocks_of size + 1) = subst (λ (l : List ℕ). IsQuiet (blocks_of size) phase l (blocks_of size + 1)) (sym same_d) quiet in
-    let clears : (phase ≡ phases.GivenUp) ⊎ (phase ≡ phases.Unsettled) = ⊎_elim (λ h. inl h) (λ h. inr h.0) can in
-    let erases : IsSteady (blocks_of size) phase d phase e =
-    subst (λ (s : ℕ). IsQuiet (blocks_of s) phase d.reads (blocks_of s + 1) → IsSteady (blocks_of s) phase d phase e) size_d (c.erase_names-else-second-third.ensures.steady t phase clears) quiet_d in
-    let reads : IsSteady (blocks_of size) phase a phase d = steady_then (blocks_of size) (4096 * blocks_of size) phase phase phase a b d (calm_disk size phase b calm_b)
-    (read_step (blocks_of size) phase a b (c.name.ensures.same t) (c.name.ensures.grows t)) (read_step (blocks_of size) phase b d (c.name-2.ensures.same t) (c.name-2.ensures.grows t)) in
-    steady_then (blocks_of size) (4096 * blocks_of size) phase phase phase a d e (calm_disk size phase d calm_d) reads erases
+    let at = (goal.at.returns-else-second-third-clause-steady g c).In-Some-name in
+    let whole = sized g at t in
+    let fits = calm_fits whole (calm_a g at t) in
+    then_erased g at t phase 1 (rw (c.name-2.ensures.size ∙ c.name.ensures.size) at (c.erase_names-else-second-third.ensures.steady t phase (⊎_elim (λ h. inl h) (λ h. inr h.0) can)))
+    (first_name_quiet (blocks_of (g.N.Nor.extent c.args.nor.now)) whole.few _ fits phase can (λ equal. c.if-second-third.false (second g at t ∙ equal ∙ sym (third g at t))))
