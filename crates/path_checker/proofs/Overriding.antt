@@ -2,8 +2,6 @@
 use Rattle.std.proofs.Common.{◌≡◌, ℕ, ◌+◌, ◌-◌, ◌<◌, ◌≤◌, List, [], ◌∷◌, ◌++◌, length, get_or, take, drop, arith, refl, sym, ap, ◌∙◌, subst, append_assoc, inl, inr}
 use Rattle.std.proofs.lemmas.List.{append-nil, take-append-drop, drop-drop, take_more, get_or-drop, length-drop}
 use Rattle.suit_params.specs.declared.param.Param.{Param}
-use Rattle.suit_commands.specs.declared.command.Command.{Command}
-use Rattle.suit_commands.specs.declared.command.Command.TheVariants as commands
 use Rattle.suit_commands.specs.declared.command.Step.{Step}
 use Rattle.suit_commands.specs.Tree.{Test, Act, Index, Override, TryEach, RunSequence, SequenceTree, NoSteps, StepThen}
 use Rattle.suit_commands.specs.View.{sequence_tree, command_tree}

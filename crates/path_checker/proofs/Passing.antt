@@ -17,8 +17,7 @@ use Rattle.path_checker.specs.Unconditional.{IsUnconditional}
 use Rattle.path_checker.specs.Steps.{with_events, knowing}
 use Rattle.path_checker.specs.Wanting.{wanted_by, TestsOwn}
 use Rattle.path_checker.proofs.ConditionLeaves.{told, missed_by, tests_course, tests_own, Adds-has, Adds-has_not, Adds-either}
-use Rattle.path_checker.proofs.Exploring.{Explores-none}
-use Rattle.path_checker.proofs.Keeping.{after_none, all_kept-all}
+use Rattle.path_checker.proofs.Keeping.{all_kept-all}
 use Rattle.path_checker.proofs.Leaves.{Same, Explores-same}
 use Rattle.path_checker.proofs.OwnTests.{Adds-no_own}
 use Rattle.path_checker.proofs.Popping.{Pops, Pops-start, Pops-step, Pops-halt, Pops-moved, Pops-end}
@@ -40,14 +39,8 @@ Explores-added course from n adds = Explores-same_stops course from n (adds none
 pub Passes-added : (course : Course) (from n : List Kept) (f f' : Failures) → Adds course from [] n f f' → Passes course from n
 Passes-added course from n f f' a = (a.failed, subst (λ (m : List Kept). Explores course from m a.failed) (sym a.next_is) a.explores)
 
-pub Passes-none : (course : Course) → Passes course [] []
-Passes-none course = ([], Explores-none course)
-
 pub Passes-same : (k : Kept) (a b : Course) (n : List Kept) → Same k a b → Passes a (k ∷ []) n → Passes b (k ∷ []) n
 Passes-same k a b n same (f, x) = (f, Explores-same k a b n f same x)
-
-pub Adds-passed : (course : Course) (from n n' now : List Kept) (f : Failures) → Explores course from now [] → n' ≡ n ++ now → Adds course from n n' f f
-Adds-passed course from n n' now f x more = record { done = now; failed = []; next_is = more; failed_is = sym (after_none f); explores = x }
 
 pub Adds-passes : (course : Course) (from n n' now : List Kept) (f : Failures) (p : Passes course from now) → n' ≡ n ++ now → Adds course from n n' f (after_stops f p.0)
 Adds-passes course from n n' now f p more = record { done = now; failed = p.0; next_is = more; failed_is = refl; explores = p.1 }

@@ -7,7 +7,6 @@ use Rattle.std.proofs.lemmas.List.{append-nil}
 use Rattle.suit_commands.specs.declared.command.Command.{Command}
 use Rattle.suit_commands.specs.declared.command.Command.TheVariants as commands
 use Rattle.suit_commands.specs.declared.selection.Selection.{Selection}
-use Rattle.suit_commands.specs.Selections.{selected_by}
 use Rattle.suit_commands.specs.Tree.{CommandTree, Index}
 use Rattle.suit_commands.specs.View.{command_tree}
 use Rattle.path_model.specs.declared.identity.Identity.{Identity}
@@ -19,7 +18,7 @@ use Rattle.path_model.proofs.RunLaws.{at_sole, of_sole}
 use Rattle.path_checker.specs.declared.judge_plan.facts.Knowledge.{Knowledge}
 use Rattle.path_checker.specs.declared.judge_plan.halt.Halt.{Halt}
 use Rattle.path_checker.specs.Exploring.{Course, In, Kept, Stopped, Failures, after_stops, Found, Reaches, Explores, Uncovers, Uncovered, Adds}
-use Rattle.path_checker.specs.Steps.{At, with_selection}
+use Rattle.path_checker.specs.Steps.{At}
 use Rattle.path_checker.specs.Halting.{Halts}
 use Rattle.path_checker.proofs.Membership.{In-right}
 use Rattle.path_checker.proofs.Exploring.{then_course, Explores-none, Explores-one}
@@ -145,26 +144,6 @@ Explores-becomes course k s only does =
         | inr n ↦ absurd n
       ];
       stopped = λ y h. absurd h;
-    })
-
-pub Adds-index : (k to : Kept) (selection : Selection) (count p : ℕ) (cmd : Command) (n n' : List Kept) (f : Failures) → cmd ≡ commands.Index selection → to ≡ with_selection k (selected_by selection count) → n' ≡ n ++ to ∷ [] → Adds (does_course (command_tree cmd) count p) (k ∷ []) n n' f f
-Adds-index k to selection count p cmd n n' f is made pushed =
-    subst (λ (x : Command). Adds (does_course (command_tree x) count p) (k ∷ []) n n' f f) (sym is) (record {
-      done = with_selection k (selected_by selection count) ∷ [];
-      failed = [];
-      next_is = subst (λ (x : Kept). n' ≡ n ++ x ∷ []) made pushed;
-      failed_is = sym (after_none f);
-      explores = Explores-becomes (does_course (Index selection) count p) k (with_selection k (selected_by selection count)).state (λ ids es e r. r) (λ ids. (refl, refl));
-    })
-
-pub Adds-at_index : (k : Kept) (c : ℕ) (selection : Selection) (count p : ℕ) (cmd : Command) (n n' : List Kept) (f : Failures) → cmd ≡ commands.Index selection → n' ≡ n ++ k ∷ [] → Adds (At (command_tree cmd) count p c) (k ∷ []) n n' f f
-Adds-at_index k c selection count p cmd n n' f is pushed =
-    subst (λ (x : Command). Adds (At (command_tree x) count p c) (k ∷ []) n n' f f) (sym is) (record {
-      done = k ∷ [];
-      failed = [];
-      next_is = pushed;
-      failed_is = sym (after_none f);
-      explores = Explores-becomes (At (Index selection) count p c) k k.state (λ ids es e r. r) (λ ids. (refl, refl));
     })
 
 -- ---- a walk over the components that are selected

@@ -1,6 +1,6 @@
 -- One path, from where it is.
 use Rattle.std.proofs.Common.{◌≡◌, ℕ, ◌+◌, ◌<◌, Bool, true, false, List, [], ◌∷◌, ◌++◌, Option, Some, None, length, get_or, drop, refl, sym, ap, ◌∙◌, subst, inl, inr}
-use Rattle.std.proofs.lemmas.List.{append-nil, drop_more}
+use Rattle.std.proofs.lemmas.List.{drop_more}
 use Rattle.suit_params.specs.declared.digest.Digest.{Digest}
 use Rattle.suit_params.specs.declared.param.ParamKey.TheVariants as keys
 use Rattle.suit_params.specs.InForce.{Parameters, in_force, bytes_of, digest_in, size_in}
@@ -20,15 +20,14 @@ use Rattle.path_model.specs.Following.{CoveredFrom}
 use Rattle.path_model.proofs.Following.{joined, CoveredFrom-joined}
 use Rattle.path_checker.specs.declared.judge_plan.facts.Knowledge.{Knowledge}
 use Rattle.path_checker.specs.declared.judge_plan.facts.Own.{Own}
-use Rattle.path_checker.specs.declared.judge_plan.facts.Fork.{Fork}
 use Rattle.path_checker.specs.declared.judge_plan.facts.Fork.TheVariants as forks
 use Rattle.path_checker.specs.declared.judge_plan.halt.Halt.{Halt}
 use Rattle.path_checker.specs.declared.judge_plan.turn.Turn.{Turn}
 use Rattle.path_checker.specs.declared.judge_plan.turn.Turn.TheVariants as turns
-use Rattle.path_checker.specs.Exploring.{Course, In, Kept, Stopped, Failures, after_stops, Reaches, Leads, Explores, Adds, Uncovered, Uncovers}
+use Rattle.path_checker.specs.Exploring.{Course, In, Kept, Stopped, Failures, after_stops, Reaches, Leads, Adds, Uncovered, Uncovers}
 use Rattle.path_checker.specs.Forking.{Forks}
 use Rattle.path_checker.specs.Halting.{Halts}
-use Rattle.path_checker.specs.Inner.{entered, all_entered, left, resumed, hardened, exhausted_at, restarted}
+use Rattle.path_checker.specs.Inner.{entered, all_entered, left, resumed, exhausted_at, restarted}
 use Rattle.path_checker.specs.Rests.{Later, OfPart, RunsRest, RunsThen}
 use Rattle.path_checker.specs.Spelling.{Fails, Comes, IsAfter}
 use Rattle.path_checker.specs.Steps.{At, knowing, stopped_by}
@@ -79,9 +78,6 @@ uncovers-then first second from to facts events (m, i, l) (k, inl p, u) =
 pub record Follows (whole : Course) (from : List Kept) (rest : Course) (now : Kept) : Type 0 where
   pub leads : (facts : List Knowledge) (events : List Event) (e : Ending) → Leads rest (now ∷ []) facts events e → Leads whole from facts events e
   pub uncovers : (facts : List Knowledge) (events : List Event) → Uncovers rest (now ∷ []) facts events → Uncovers whole from facts events
-
-pub Follows-start : (whole : Course) (now : Kept) → Follows whole (now ∷ []) whole now
-Follows-start whole now = record { leads = λ facts events e l. l; uncovers = λ facts events u. u }
 
 pub Follows-end : (whole : Course) (from : List Kept) (now : Kept) → Follows whole from nothing_course now → Comes whole from (turns.On now)
 Follows-end whole from now f = f.leads now.facts now.events (Done now.state) ((Explores-nothing (now ∷ [])).reached now (inl refl))

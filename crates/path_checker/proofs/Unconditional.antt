@@ -231,9 +231,6 @@ pub record Compacts (none : Type 0) (course : Course) (from now : List Kept) (at
   pub rest : drop at now ≡ drop at from
   pub continues : Continues none course (take at from) (take kept now)
 
-pub Compacts-start : (none : Type 0) (course : Course) (from : List Kept) → Compacts none course from from 0 0
-Compacts-start none course from = record { behind = omega arith; count = refl; rest = refl; continues = ([], Explores-none course, λ n. refl) }
-
 -- after a swap, one more stands at the front
 swapped-front : {X : Type 0} → (xs : List X) (i j : ℕ) (d : X) → i ≤ j → j < length xs → take (i + 1) (swap xs i j) ≡ take i xs ++ get_or xs j d ∷ []
 swapped-front {X} xs i j d le lt =

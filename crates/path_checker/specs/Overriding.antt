@@ -1,5 +1,5 @@
 -- Several overrides in a row.
-use Rattle.std.specs.Prelude.{List, ◌++◌}
+use Rattle.std.specs.Prelude.{◌++◌}
 use Rattle.suit_commands.specs.Tree.{CommandTree, Override, SequenceTree, NoSteps, StepThen}
 use Rattle.path_model.specs.Behaviour.{State}
 use Rattle.path_checker.specs.Exploring.{Kept}

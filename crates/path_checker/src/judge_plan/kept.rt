@@ -14,7 +14,7 @@ use crate::judge_plan::history::History;
 use crate::judge_plan::in_force::InForce;
 use crate::judge_plan::memory::Memory;
 use crate::judge_plan::selected::Selected;
-use std::alloc::{AllocError, Global};
+use std::alloc::AllocError;
 use std::marker::Model;
 
 /// A state, what is known of the identities in it, and the history that led to it.

@@ -1,11 +1,11 @@
-use Rattle.std.proofs.Common.{rules, refl, sym, ap, subst, arith, true, false, Bool, List, [], ◌∷◌, ◌<◌, ◌≤◌, ◌+◌, ◌≡◌, ◌∙◌, length, drop}
+use Rattle.std.proofs.Common.{refl, sym, ap, subst, arith, true, false, [], ◌∷◌, ◌≡◌, ◌∙◌}
 use Rattle.std.specs.Prelude.{IfOk, IfErr}
 use Rattle.std.proofs.lemmas.Result.{err_from_is_err_and, IfOk-weaker, IfErr-weaker}
 use Rattle.suit_commands.specs.declared.command.Command.{Command}
 use Rattle.suit_commands.specs.Size.{sequence_size}
 use Rattle.suit_commands.specs.Tree.{SequenceTree}
-use Rattle.suit_commands.specs.View.{sequence_tree, command_tree, branches_tree}
-use Rattle.path_checker.specs.Exploring.{Course, Kept, Explores, Continues, kept_if, kept_of, state_of}
+use Rattle.suit_commands.specs.View.{sequence_tree, command_tree}
+use Rattle.path_checker.specs.Exploring.{Kept, Explores, Continues, kept_if, kept_of, state_of}
 use Rattle.path_checker.specs.Halting.{Halts}
 use Rattle.path_checker.specs.Inner.{RunsInside, entered}
 use Rattle.path_checker.specs.Small.{IsSmallSequence, AreStraight}

@@ -1,4 +1,4 @@
-use Rattle.std.proofs.Common.{◌≡◌, ◌≤◌, ◌-◌, ◌*◌, ◌+◌, [], ◌∷◌, drop, length}
+use Rattle.std.proofs.Common.{◌≤◌, ◌-◌, ◌*◌, ◌+◌, [], ◌∷◌, drop, length}
 use Rattle.suit_commands.specs.Size.{sequence_size, command_size, branches_size}
 use Rattle.suit_commands.specs.View.{sequence_tree, command_tree}
 use Rattle.path_checker.specs.Small.{IsSmallSequence, AreStraight}

@@ -1,28 +1,26 @@
-use Rattle.std.proofs.Common.{rules, ◌≡◌, ◌<◌, ◌≤◌, ◌+◌, ◌-◌, [], ◌∷◌, List, Option, Some, None, length, drop, refl, sym, ap, ◌∙◌, subst, arith}
-use Rattle.std.specs.Prelude.{IfOk, IfErr}
+use Rattle.std.proofs.Common.{◌≡◌, ◌≤◌, ◌+◌, ◌-◌, [], ◌∷◌, List, Option, Some, None, drop, refl, sym, ap, ◌∙◌, subst, arith}
+use Rattle.std.specs.Prelude.{IfErr}
 use Rattle.std.proofs.lemmas.List.{drop_all}
-use Rattle.std.proofs.lemmas.Result.{err_from_is_err_and, IfOk-weaker, IfErr-weaker}
+use Rattle.std.proofs.lemmas.Result.{err_from_is_err_and}
 use Rattle.suit_commands.specs.declared.command.Command.{Command}
 use Rattle.suit_commands.specs.declared.command.Step.{Step}
 use Rattle.suit_commands.specs.declared.command.Branches.TheDeep.{deep-Step}
 use Rattle.suit_commands.specs.Size.{sequence_size, branches_size}
 use Rattle.suit_commands.specs.Smaller.{step_smaller, branch_smaller}
-use Rattle.suit_commands.specs.Tree.{SequenceTree, BranchesTree}
 use Rattle.suit_commands.specs.View.{sequence_tree, command_tree, branches_tree}
 use Rattle.path_checker.specs.declared.judge_plan.turn.Turn.{Turn}
 use Rattle.path_checker.specs.declared.judge_plan.turn.Turn.TheVariants as turns
-use Rattle.path_checker.specs.Exploring.{Course, Kept, Stopped}
+use Rattle.path_checker.specs.Exploring.{Course, Kept}
 use Rattle.path_checker.specs.Halting.{Halts}
-use Rattle.path_checker.specs.Inner.{entered, left}
-use Rattle.path_checker.specs.Small.{IsSmallSequence, IsSmallCommand, AreSmallBranches}
-use Rattle.path_checker.specs.Spelling.{Comes, Fails, IsAfter}
+use Rattle.path_checker.specs.Inner.{left}
+use Rattle.path_checker.specs.Small.{IsSmallSequence, IsSmallCommand}
+use Rattle.path_checker.specs.Spelling.{Comes, IsAfter}
 use Rattle.path_checker.specs.Steps.{At}
 use Rattle.path_checker.proofs.Branching.{rest_course, at_some, at_none, Halts-run}
-use Rattle.path_checker.proofs.InnerSequences.{inner_course}
 use Rattle.path_checker.proofs.Popping.{each_course, does_each, Halts-same}
 use Rattle.path_checker.proofs.Smallness.{small_step, small_branch}
 use Rattle.path_checker.proofs.Spelling.{Follows, Follows-end, Step-on, Step-over, Step-halts, At-on, At-over, At-halts, Fails-same, Comes-same, Run-done, Run-after, Branch-done, Branch-over, Branch-on, Branch-halts, Fails-exhausted}
-use Rattle.path_checker.proofs.Unconditional.{conditional_each, conditional_holds}
+use Rattle.path_checker.proofs.Unconditional.{conditional_each}
 use Rattle.path_checker.proofs.Walking.{runs_course, does_course}
 use Rattle.path_checker.proofs.judge_plan.spelling.+spelling.Goals as goal
 
