@@ -3,23 +3,23 @@ use Rattle.std.proofs.Common.{◌≡◌, ℕ, ◌+◌, ◌<◌, suc, add-one, Bo
 use Rattle.std.specs.Prelude.{◌⊎◌}
 use Rattle.std.proofs.Math.Seq.{drop-cons}
 use Rattle.std.proofs.lemmas.List.{append-nil}
-use Rattle.suit_commands.specs.Tree.{SequenceTree, BranchesTree}
+use Rattle.suit_commands.specs.Tree.{SequenceTree}
 use Rattle.suit_commands.specs.View.{branches_tree}
 use Rattle.path_model.specs.declared.event.Event.{Event}
 use Rattle.path_model.specs.Behaviour.{State, Ending, Condition}
-use Rattle.path_model.specs.Runs.{Tries}
 use Rattle.path_model.specs.Following.{CoveredFrom, SameMatches}
 use Rattle.path_model.proofs.Following.{same_matches}
 use Rattle.path_checker.specs.declared.judge_plan.halt.Halt.{Halt}
 use Rattle.path_checker.specs.Exploring.{Course, In, Kept, Stopped, Failures, keeps, after_stops, Found, Leads, Explores, Uncovers, Adds}
 use Rattle.path_checker.specs.Inner.{AllAt, BranchAdds, InsideAdds, outside_of, entered, all_entered, all_left, softly, hardly, exhausted_at, exhausted, none_inside}
 use Rattle.path_checker.specs.Halting.{Halts}
+use Rattle.path_checker.specs.Steps.{RunsAll, TriesIn}
 use Rattle.path_checker.proofs.InnerStates.{softly-from}
 use Rattle.path_checker.proofs.Keeping.{after_none, after_both, softly-inside, hardly-inside, exhausted-inside}
 use Rattle.path_checker.proofs.InnerSequences.{inner_course, Explores-inner}
 use Rattle.path_checker.proofs.OneBranch.{branch_course}
 use Rattle.path_checker.proofs.Uncovering.{Uncovers-inner, Uncovers-branch}
-use Rattle.path_checker.proofs.Walking.{Halts-lift, runs_course}
+use Rattle.path_checker.proofs.Walking.{Halts-lift}
 use Rattle.path_checker.proofs.Carrying.{Carries, Carries-start, Carries-branch, Carries-end, nothing_course}
 
 pub at-one : (k : Kept) (s : State) → s ≡ k.state → AllAt s (k ∷ [])
@@ -169,21 +169,17 @@ Trying-halt whole body others k s c next0 next failed0 failed now inside Stays w
     let begin : inside ≡ all_entered s c true w.all = entered_is ∙ ap (all_entered s c true) (w.now_is (inl stays)) in
     Halts-lift body whole inside (k ∷ []) (λ facts events x. w.carries.uncovers facts events (Uncovers-branch body others s c w.all facts events w.at (subst (λ (y : List Kept). Uncovers body y facts events) begin x))) h u
 
--- the branches from a place on
-abbrev pub rest_course : BranchesTree → ℕ → ℕ → ℕ → Course
-rest_course branches count p c ids = Tries branches ids count p c
-
 pub at_some : (bs : List (Option SequenceTree)) (i count p c : ℕ) (d : Option SequenceTree) (inner : SequenceTree) → i < length bs → get_or bs i d ≡ Some inner
-    → rest_course (branches_tree (drop i bs)) count p c ≡ branch_course (runs_course inner count) (rest_course (branches_tree (drop (i + 1) bs)) count p) c
+    → TriesIn (branches_tree (drop i bs)) count p c ≡ branch_course (RunsAll inner count) (TriesIn (branches_tree (drop (i + 1) bs)) count p) c
 at_some bs i count p c d inner lt e =
-    ap (λ (xs : List (Option SequenceTree)). rest_course (branches_tree xs) count p c) (drop-cons bs i d lt)
-    ∙ ap (λ (o : Option SequenceTree). rest_course (branches_tree (o ∷ drop (suc i) bs)) count p c) e
-    ∙ ap (λ (n : ℕ). branch_course (runs_course inner count) (rest_course (branches_tree (drop n bs)) count p) c) (sym (add-one i))
+    ap (λ (xs : List (Option SequenceTree)). TriesIn (branches_tree xs) count p c) (drop-cons bs i d lt)
+    ∙ ap (λ (o : Option SequenceTree). TriesIn (branches_tree (o ∷ drop (suc i) bs)) count p c) e
+    ∙ ap (λ (n : ℕ). branch_course (RunsAll inner count) (TriesIn (branches_tree (drop n bs)) count p) c) (sym (add-one i))
 
-pub at_none : (bs : List (Option SequenceTree)) (i count p c : ℕ) (d : Option SequenceTree) → i < length bs → get_or bs i d ≡ None → rest_course (branches_tree (drop i bs)) count p c ≡ nothing_course
+pub at_none : (bs : List (Option SequenceTree)) (i count p c : ℕ) (d : Option SequenceTree) → i < length bs → get_or bs i d ≡ None → TriesIn (branches_tree (drop i bs)) count p c ≡ nothing_course
 at_none bs i count p c d lt e =
-    ap (λ (xs : List (Option SequenceTree)). rest_course (branches_tree xs) count p c) (drop-cons bs i d lt)
-    ∙ ap (λ (o : Option SequenceTree). rest_course (branches_tree (o ∷ drop (suc i) bs)) count p c) e
+    ap (λ (xs : List (Option SequenceTree)). TriesIn (branches_tree xs) count p c) (drop-cons bs i d lt)
+    ∙ ap (λ (o : Option SequenceTree). TriesIn (branches_tree (o ∷ drop (suc i) bs)) count p c) e
 
 pub Adds-appended : (course : Course) (from n n' now : List Kept) (f f' : Failures) → Adds course from [] now f f' → n' ≡ n ++ now → Adds course from n n' f f'
 Adds-appended course from n n' now f f' a more = record { done = a.done; failed = a.failed; next_is = more ∙ ap (λ (x : List Kept). n ++ x) a.next_is; failed_is = a.failed_is; explores = a.explores }

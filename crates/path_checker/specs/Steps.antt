@@ -2,11 +2,16 @@
 use Rattle.std.specs.Prelude.{ℕ, Bool, List, [], ◌∷◌, ◌++◌}
 use Rattle.suit_params.specs.declared.param.Param.{Param}
 use Rattle.suit_params.specs.InForce.{Parameters, overridden}
-use Rattle.suit_commands.specs.Tree.{CommandTree, Test, Act, Index, Override, TryEach, RunSequence}
+use Rattle.suit_commands.specs.declared.command.Step.{Step}
+use Rattle.suit_commands.specs.declared.kinds.ActKind.{ActKind}
+use Rattle.suit_commands.specs.declared.kinds.TestKind.{TestKind}
+use Rattle.suit_commands.specs.Tree.{CommandTree, Test, Act, Index, Override, TryEach, RunSequence, SequenceTree, BranchesTree}
+use Rattle.suit_commands.specs.View.{command_tree}
 use Rattle.path_model.specs.declared.event.Event.{Event}
 use Rattle.path_model.specs.Conditions.{Tests}
 use Rattle.path_model.specs.Directives.{Acts, Overrides, soft_after}
-use Rattle.path_model.specs.Runs.{Runs, RunsInner, Tries}
+use Rattle.path_model.specs.Behaviour.{Each}
+use Rattle.path_model.specs.Runs.{Runs, Does, RunsInner, Tries}
 use Rattle.path_checker.specs.declared.judge_plan.facts.Knowledge.{Knowledge}
 use Rattle.path_checker.specs.declared.judge_plan.happened.Ended.{Ended}
 use Rattle.path_checker.specs.Happening.{after_end}
@@ -52,3 +57,30 @@ At (Index selection) count place component identities = Overrides [] component
 At (Override list) count place component identities = Overrides list component
 At (TryEach branches) count place component identities = Tries branches identities count place component
 At (RunSequence inner) count place component identities = RunsInner (Runs inner identities count) component
+
+-- a command at each of some components, in order
+abbrev pub AtEach : CommandTree → ℕ → ℕ → List ℕ → Course
+AtEach command count place components identities = Each (λ component. At command count place component identities) components
+
+-- ---- what the steps of a procedure do
+
+abbrev pub TestsAt : TestKind → ℕ → ℕ → Course
+TestsAt kind place component identities = Tests kind identities place component
+
+abbrev pub ActsAt : ActKind → ℕ → ℕ → Course
+ActsAt kind place component identities = Acts kind place component
+
+-- a command where it stands in its sequence
+abbrev pub DoesStep : Step → ℕ → Course
+DoesStep step count identities = Does (command_tree step.command) identities count step.place
+
+abbrev pub RunsAll : SequenceTree → ℕ → Course
+RunsAll sequence count identities = Runs sequence identities count
+
+-- a run sequence at one component
+abbrev pub RunsInnerAt : SequenceTree → ℕ → ℕ → Course
+RunsInnerAt inner count component identities = RunsInner (Runs inner identities count) component
+
+-- the branches of a try each at one component
+abbrev pub TriesIn : BranchesTree → ℕ → ℕ → ℕ → Course
+TriesIn branches count place component identities = Tries branches identities count place component

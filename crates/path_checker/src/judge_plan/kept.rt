@@ -164,6 +164,22 @@ pub(crate) fn happens<'a>(
     k.history.add(memory, event)
 }
 
+/// Adds an event to the history of a state, if the procedure goes on. Returns whether it does.
+pub(crate) fn happens_if<'a>(
+    memory: Memory<'a>,
+    goes_on: bool,
+    k: &mut Kept<'a>,
+    event: Happened<'a>,
+) -> Result<bool, AllocError>
+    ensures { IfOk result
+        (λ on. kept_if on k.new ≡ kept_if goes_on (with_events k.old (event_of event.entry ∷ []))) }
+{
+    if goes_on {
+        happens(memory, k, event)?;
+    }
+    Ok(goes_on)
+}
+
 /// Adds an event to the history of a state, and the state to `next`.
 pub(crate) fn pass<'a>(
     memory: Memory<'a>,
