@@ -1,4 +1,5 @@
-//! Follows one path of a procedure, of which it is known which conditions fail.
+//! Follows one path of a procedure, of which it is known which conditions fail. If no path goes that way, this returns an
+//! error as if memory had run out, which claims nothing.
 
 ghost use Rattle.std.specs.Prelude.{◌≡◌, ◌<◌, [], ◌∷◌, IfOk, IfErr};
 ghost use Rattle.suit_commands.specs.Plans.{lent_tree};
@@ -33,7 +34,7 @@ pub(crate) struct Way<'a, 's> {
     pub misses: &'s Misses<'s>,
 }
 
-// Runs a sequence. An error without an uncovered invoke says that no path goes this way, or that memory ran out.
+// Runs a sequence.
 #[cycle(spelling)]
 fn sequence<'a>(
     way: Way<'a, '_>,
@@ -68,29 +69,15 @@ fn command<'a>(
     ensures ok { IfOk result (λ turn. Comes (DoesStep step.now count) (k.entry ∷ []) turn) }
     ensures err { IfErr result (λ h. Halts (DoesStep step.now count) (k.entry ∷ []) h) }
 {
-    if is_unconditional(&step.command) {
-        return plain(way, count, step, k);
+    if !is_unconditional(&step.command) {
+        return each(way, count, step, k);
     }
-    each(way, count, step, k)
-}
-
-// Runs a command that runs no condition.
-fn plain<'a>(
-    way: Way<'a, '_>,
-    count: u32,
-    step: &'a Step,
-    k: Kept<'a>,
-) -> Result<Turn<'a>, Halt<'a>>
-    requires small { IsSmallCommand count (command_tree step.now.command) }
-    requires unconditional { IsUnconditional (command_tree step.now.command) }
-    ensures ok { IfOk result (λ turn. Comes (DoesStep step.now count) (k.entry ∷ []) turn) }
-    ensures err { IfErr result (λ h. Halts (DoesStep step.now count) (k.entry ∷ []) h) }
-{
     let mut k = k;
     let goes_on = command_in(way.memory, count, step, &mut k)?;
     if goes_on {
         return Ok(Turn::On(k));
     }
+    // No path goes this way.
     Err(Halt::NoMemory)
 }
 
@@ -160,6 +147,7 @@ fn test<'a>(way: Way<'a, '_>, site: Site, kind: TestKind, k: Kept<'a>) -> Result
     if passes {
         return Ok(Turn::On(k));
     }
+    // No path goes this way.
     Err(Halt::NoMemory)
 }
 

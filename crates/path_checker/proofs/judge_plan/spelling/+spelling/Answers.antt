@@ -1,4 +1,4 @@
-use Rattle.std.proofs.Common.{◌≡◌, ◌≤◌, ◌+◌, ◌-◌, [], ◌∷◌, List, Option, Some, None, drop, refl, sym, ap, ◌∙◌, subst, arith}
+use Rattle.std.proofs.Common.{◌≡◌, ◌≤◌, ◌+◌, ◌-◌, [], ◌∷◌, List, Option, Some, None, drop, refl, sym, ap, ◌∙◌, subst, inl, arith}
 use Rattle.std.specs.Prelude.{IfErr}
 use Rattle.std.proofs.lemmas.List.{drop_all}
 use Rattle.std.proofs.lemmas.Result.{err_from_is_err_and}
@@ -10,17 +10,18 @@ use Rattle.suit_commands.specs.Smaller.{step_smaller, branch_smaller}
 use Rattle.suit_commands.specs.View.{sequence_tree, command_tree, branches_tree}
 use Rattle.path_checker.specs.declared.judge_plan.turn.Turn.{Turn}
 use Rattle.path_checker.specs.declared.judge_plan.turn.Turn.TheVariants as turns
-use Rattle.path_checker.specs.Exploring.{Course, Kept}
+use Rattle.path_checker.specs.Exploring.{Course, Kept, Continues, kept_if}
 use Rattle.path_checker.specs.Halting.{Halts}
 use Rattle.path_checker.specs.Inner.{left}
 use Rattle.path_checker.specs.Small.{IsSmallSequence, IsSmallCommand}
 use Rattle.path_checker.specs.Spelling.{Comes, IsAfter}
 use Rattle.path_checker.specs.Steps.{At, AtEach, RunsAll, TriesIn}
+use Rattle.path_checker.specs.Unconditional.{IsUnconditional}
 use Rattle.path_checker.proofs.Branching.{at_some, at_none, Halts-run}
 use Rattle.path_checker.proofs.Popping.{does_each, Halts-same}
 use Rattle.path_checker.proofs.Smallness.{small_step, small_branch}
 use Rattle.path_checker.proofs.Spelling.{Follows, Follows-end, Step-on, Step-over, Step-halts, At-on, At-over, At-halts, Fails-same, Comes-same, Run-done, Run-after, Branch-done, Branch-over, Branch-on, Branch-halts, Fails-exhausted}
-use Rattle.path_checker.proofs.Unconditional.{conditional_each}
+use Rattle.path_checker.proofs.Unconditional.{conditional_each, unconditional_straight}
 use Rattle.path_checker.proofs.Walking.{does_course}
 use Rattle.path_checker.proofs.judge_plan.spelling.+spelling.Goals as goal
 
@@ -56,6 +57,17 @@ pub sequence-returns-clause-ok : goal.sequence-returns-clause-ok
 sequence-returns-clause-ok t c =
     let none : drop c.loop-step.step-index c.as_slice-steps.result.now ≡ [] = drop_all c.loop-step.step-index c.as_slice-steps.result.now c.loop-step-test.false in
     Follows-end (RunsAll c.args.sequence.now c.args.count) (c.args.from ∷ []) c.loop-step.now (subst (λ (xs : List Step). Follows (RunsAll c.args.sequence.now c.args.count) (c.args.from ∷ []) (RunsAll (sequence_tree xs) c.args.count) c.loop-step.now) none c.loop-step.invariant.follows)
+
+pub command-command_in-requires : goal.command-command_in-requires
+command-command_in-requires t c = record {
+  small = c.requires.small;
+  straight = unconditional_straight (command_tree c.args.step.now.command) (c.is_unconditional.ensures.0 c.if-not-is_unconditional.false);
+}
+
+pub command-returns-then-goes_on-clause-ok : goal.command-returns-then-goes_on-clause-ok
+command-returns-then-goes_on-clause-ok t c =
+    let on = subst (λ b. Continues (IsUnconditional (command_tree c.args.step.now.command)) (does_course (command_tree c.args.step.now.command) c.args.count c.args.step.now.place) (c.args.k ∷ []) (kept_if b c.command_in.new.k)) c.if-goes_on.true c.in_ok-goes_on.ensures.ok in
+    on.1.reached c.command_in.new.k (inl refl)
 
 pub each-returns-in_err-k-clause-err : goal.each-returns-in_err-k-clause-err
 each-returns-in_err-k-clause-err t c =
