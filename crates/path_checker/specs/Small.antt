@@ -19,7 +19,8 @@ SelectsSmall count (Listed components) = AreSmall components
 abbrev mutual
   pub IsSmallSequence : ℕ → SequenceTree → Type 0
   IsSmallSequence count NoSteps = Unit {0}
-  IsSmallSequence count (StepThen place command rest) = IsSmallCommand count command × IsSmallSequence count rest
+  IsSmallSequence count (StepThen place command rest) =
+      IsSmallCommand count command × IsSmallSequence count rest
 
   pub IsSmallCommand : ℕ → CommandTree → Type 0
   IsSmallCommand count (Index selection) = SelectsSmall count selection
@@ -30,7 +31,8 @@ abbrev mutual
   pub AreSmallBranches : ℕ → BranchesTree → Type 0
   AreSmallBranches count NoBranches = Unit {0}
   AreSmallBranches count (NullThen rest) = AreSmallBranches count rest
-  AreSmallBranches count (BranchThen inner rest) = IsSmallSequence count inner × AreSmallBranches count rest
+  AreSmallBranches count (BranchThen inner rest) =
+      IsSmallSequence count inner × AreSmallBranches count rest
 
 -- a straight command: it is a condition, or it runs none
 abbrev pub IsStraight : CommandTree → Type 0

@@ -25,7 +25,8 @@ fn fail_own<'a>(
     k: Kept<'a>,
 ) -> Result<Stopped<'a>, AllocError>
     ensures { IfOk result
-        (λ stop. Fails (TestsOwn kind site.place site.component (Some own.now)) (k.entry ∷ []) stop) }
+        (λ stop. Fails (TestsOwn kind site.place site.component (Some own.now)) (k.entry ∷ [])
+        stop) }
 {
     let (place, component) = (site.place, site.component);
     let missed = Ended::Tried { component, kind };

@@ -1,7 +1,6 @@
 //! Events of a path, which borrow from the procedure.
 
 ghost use Rattle.std.specs.Prelude.{◌≡◌};
-ghost use Rattle.std.specs.Option.{option_copied};
 ghost use Rattle.path_checker.specs.Happening.{event_of};
 ghost use Rattle.path_checker.specs.Trails.{is_miss};
 

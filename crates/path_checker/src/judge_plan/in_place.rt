@@ -7,7 +7,7 @@ ghost use Rattle.path_checker.specs.Exploring.{Explores, Continues, kept_if};
 ghost use Rattle.path_checker.specs.Halting.{Halts};
 ghost use Rattle.path_checker.specs.Inner.{RunsInside, entered};
 ghost use Rattle.path_checker.specs.Small.{IsSmallSequence, IsSmallCommand, AreSmallBranches, IsStraight, AreStraight};
-ghost use Rattle.path_checker.specs.Steps.{At, AtEach, DoesStep, RunsAll, TriesIn};
+ghost use Rattle.path_checker.specs.Steps.{DoesStep, StepAt, StepAtEach, RunsAll, TriesIn};
 ghost use Rattle.path_checker.specs.Unconditional.{IsUnconditional, AreUnconditional, FirstIsUnconditional};
 
 use crate::judge_plan::conditions::pass_test;
@@ -89,12 +89,9 @@ fn each_in<'a>(
     requires straight { IsStraight (command_tree step.now.command) }
     ensures ok { IfOk result
         (λ goes_on. Continues (IsUnconditional (command_tree step.now.command))
-        (AtEach (command_tree step.now.command) count step.now.place k.old.state.selection)
-        (k.old ∷ []) (kept_if goes_on k.new)) }
+        (StepAtEach step.now count k.old.state.selection) (k.old ∷ []) (kept_if goes_on k.new)) }
     ensures err { IfErr result
-        (λ h. Halts
-        (AtEach (command_tree step.now.command) count step.now.place k.old.state.selection)
-        (k.old ∷ []) h) }
+        (λ h. Halts (StepAtEach step.now count k.old.state.selection) (k.old ∷ []) h) }
 {
     if let Some(component) = k.selection.sole() {
         return one_in(memory, count, step, component, k);
@@ -127,11 +124,8 @@ fn one_in<'a>(
     requires straight { IsStraight (command_tree step.now.command) }
     ensures ok { IfOk result
         (λ goes_on. Continues (IsUnconditional (command_tree step.now.command))
-        (At (command_tree step.now.command) count step.now.place component)
-        (k.old ∷ []) (kept_if goes_on k.new)) }
-    ensures err { IfErr result
-        (λ h. Halts (At (command_tree step.now.command) count step.now.place component)
-        (k.old ∷ []) h) }
+        (StepAt step.now count component) (k.old ∷ []) (kept_if goes_on k.new)) }
+    ensures err { IfErr result (λ h. Halts (StepAt step.now count component) (k.old ∷ []) h) }
 {
     match &step.command {
         Command::Test { kind, .. } => Ok(pass_test(memory, step.place, *kind, component, k)?),

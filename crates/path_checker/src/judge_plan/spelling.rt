@@ -9,7 +9,7 @@ ghost use Rattle.path_checker.specs.Inner.{left};
 ghost use Rattle.path_checker.specs.Rests.{RunsRest, IsSmallRest, of_parts};
 ghost use Rattle.path_checker.specs.Small.{IsSmallSequence, IsSmallCommand, AreSmallBranches};
 ghost use Rattle.path_checker.specs.Spelling.{Comes};
-ghost use Rattle.path_checker.specs.Steps.{At, TestsAt, DoesStep, RunsAll, RunsInnerAt, TriesIn};
+ghost use Rattle.path_checker.specs.Steps.{TestsAt, DoesStep, StepAt, RunsAll, RunsInnerAt, TriesIn};
 ghost use Rattle.path_checker.specs.Unconditional.{IsUnconditional};
 
 use crate::judge_plan::conditions::pass_test;
@@ -112,12 +112,8 @@ fn one<'a>(
     requires room { component < 8 }
     requires small { IsSmallCommand count (command_tree step.now.command) }
     requires conditional { IsUnconditional (command_tree step.now.command) → ⊥ }
-    ensures ok { IfOk result
-        (λ turn. Comes (At (command_tree step.now.command) count step.now.place component)
-        (k.entry ∷ []) turn) }
-    ensures err { IfErr result
-        (λ h. Halts (At (command_tree step.now.command) count step.now.place component)
-        (k.entry ∷ []) h) }
+    ensures ok { IfOk result (λ turn. Comes (StepAt step.now count component) (k.entry ∷ []) turn) }
+    ensures err { IfErr result (λ h. Halts (StepAt step.now count component) (k.entry ∷ []) h) }
 {
     let site = Site {
         place: step.place,

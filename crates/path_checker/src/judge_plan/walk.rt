@@ -5,7 +5,7 @@ ghost use Rattle.suit_commands.specs.View.{command_tree};
 ghost use Rattle.path_checker.specs.Exploring.{Adds};
 ghost use Rattle.path_checker.specs.Inner.{BranchAdds, InsideAdds, outside_of};
 ghost use Rattle.path_checker.specs.Small.{IsSmallSequence, IsSmallCommand, AreSmallBranches};
-ghost use Rattle.path_checker.specs.Steps.{At, AtEach, DoesStep, RunsAll, RunsInnerAt, TriesIn};
+ghost use Rattle.path_checker.specs.Steps.{DoesStep, StepAt, StepAtEach, RunsAll, RunsInnerAt, TriesIn};
 ghost use Rattle.path_checker.specs.Unconditional.{IsUnconditional};
 ghost use Rattle.path_checker.specs.Halting.{Halts};
 
@@ -99,13 +99,10 @@ fn each<'a>(
     requires small { IsSmallCommand count (command_tree step.now.command) }
     requires conditional { IsUnconditional (command_tree step.now.command) → ⊥ }
     ensures ok { OnOk result
-        (Adds
-        (AtEach (command_tree step.now.command) count step.now.place k.entry.state.selection)
-        (k.entry ∷ []) next.old.items next.new.items failed.old failed.new) }
+        (Adds (StepAtEach step.now count k.entry.state.selection) (k.entry ∷ []) next.old.items
+        next.new.items failed.old failed.new) }
     ensures err { IfErr result
-        (λ h. Halts
-        (AtEach (command_tree step.now.command) count step.now.place k.entry.state.selection)
-        (k.entry ∷ []) h) }
+        (λ h. Halts (StepAtEach step.now count k.entry.state.selection) (k.entry ∷ []) h) }
 {
     if let Some(component) = k.selection.sole() {
         return one(memory, count, step, component, k, next, failed);
@@ -133,11 +130,9 @@ fn all_at<'a>(
     requires small { IsSmallCommand count (command_tree step.now.command) }
     requires conditional { IsUnconditional (command_tree step.now.command) → ⊥ }
     ensures ok { IfOk result
-        (λ v. Adds (At (command_tree step.now.command) count step.now.place component)
-        from.entry.items [] v.items failed.old failed.new) }
-    ensures err { IfErr result
-        (λ h. Halts (At (command_tree step.now.command) count step.now.place component)
-        from.entry.items h) }
+        (λ v. Adds (StepAt step.now count component) from.entry.items [] v.items failed.old
+        failed.new) }
+    ensures err { IfErr result (λ h. Halts (StepAt step.now count component) from.entry.items h) }
 {
     let mut now = from;
     let mut next = Vec::new(memory.alloc);
@@ -162,11 +157,9 @@ fn one<'a>(
     requires small { IsSmallCommand count (command_tree step.now.command) }
     requires conditional { IsUnconditional (command_tree step.now.command) → ⊥ }
     ensures ok { OnOk result
-        (Adds (At (command_tree step.now.command) count step.now.place component) (k.entry ∷ [])
-        next.old.items next.new.items failed.old failed.new) }
-    ensures err { IfErr result
-        (λ h. Halts (At (command_tree step.now.command) count step.now.place component)
-        (k.entry ∷ []) h) }
+        (Adds (StepAt step.now count component) (k.entry ∷ []) next.old.items next.new.items
+        failed.old failed.new) }
+    ensures err { IfErr result (λ h. Halts (StepAt step.now count component) (k.entry ∷ []) h) }
 {
     match &step.command {
         Command::Test { kind, .. } => {
