@@ -11,7 +11,7 @@ use Rattle.path_model.specs.Following.{CoveredFrom, SameMatches}
 use Rattle.path_model.proofs.Following.{same_matches}
 use Rattle.path_checker.specs.declared.judge_plan.halt.Halt.{Halt}
 use Rattle.path_checker.specs.Exploring.{Course, In, Kept, Stopped, Failures, keeps, after_stops, Found, Leads, Explores, Uncovers, Adds}
-use Rattle.path_checker.specs.Inner.{AllAt, BranchAdds, InsideAdds, outside_of, entered, all_entered, all_left, softly, hardly, exhausted_at, exhausted, none_inside}
+use Rattle.path_checker.specs.Inner.{AllAt, BranchAdds, outside_of, entered, all_entered, all_left, softly, hardly, exhausted_at, exhausted, none_inside}
 use Rattle.path_checker.specs.Halting.{Halts}
 use Rattle.path_checker.specs.Steps.{RunsAll, TriesIn}
 use Rattle.path_checker.proofs.InnerStates.{softly-from}
@@ -31,25 +31,18 @@ at-one k s e k' (inr n) = absurd n
 start-is : (s : State) (c : ℕ) (k inside : Kept) (from : List Kept) → s ≡ k.state → inside ≡ entered k.state c false k → from ≡ inside ∷ [] → from ≡ all_entered s c false (k ∷ [])
 start-is s c k inside from same is one = one ∙ ap (λ (x : Kept). x ∷ []) is ∙ ap (λ (t : State). entered t c false k ∷ []) (sym same)
 
-pub Adds-inside : (body : Course) (s : State) (from d n n' : List Kept) (st0 st f f' : Failures) → Adds body from [] d st0 st → st0 ≡ none_inside true f s → n' ≡ (n ++ all_left s d) ++ softly s st.items → f' ≡ after_stops f (hardly s st.items) → InsideAdds body s from n n' f f'
-Adds-inside body s from d n n' st0 st f f' a none next fail =
+pub Adds-run : (body : Course) (s : State) (c : ℕ) (k inside : Kept) (from d n n' : List Kept) (st0 st f f' : Failures) → s ≡ k.state → inside ≡ entered k.state c false k → from ≡ inside ∷ [] → Adds body from [] d st0 st → st0 ≡ none_inside true f s
+    → n' ≡ (n ++ all_left s d) ++ softly s st.items → f' ≡ after_stops f (hardly s st.items) → Adds (inner_course body c) (k ∷ []) n n' f f'
+Adds-run body s c k inside from d n n' st0 st f f' same is one a none next fail =
     let st-is : st ≡ after_stops (none_inside true f s) a.failed = a.failed_is ∙ ap (λ (x : Failures). after_stops x a.failed) none in
+    let explores = subst (λ (y : List Kept). Explores body from y a.failed) (sym a.next_is) a.explores in
     record {
-      done = d;
-      stops = a.failed;
-      next_is = next ∙ ap (λ (x : Failures). (n ++ all_left s d) ++ softly s x.items) st-is;
-      failed_is = fail ∙ ap (λ (x : Failures). after_stops f (hardly s x.items)) st-is;
-      explores = subst (λ (y : List Kept). Explores body from y a.failed) (sym a.next_is) a.explores;
+      done = all_left s d ++ softly s a.failed;
+      failed = hardly s a.failed;
+      next_is = next ∙ ap (λ (x : Failures). (n ++ all_left s d) ++ softly s x.items) st-is ∙ ap (λ (y : List Kept). (n ++ all_left s d) ++ y) (softly-inside true f s a.failed (inl refl)) ∙ append_assoc n (all_left s d) (softly s a.failed);
+      failed_is = fail ∙ ap (λ (x : Failures). after_stops f (hardly s x.items)) st-is ∙ hardly-inside true f s a.failed;
+      explores = Explores-inner body s c (k ∷ []) d a.failed (at-one k s same) (subst (λ (y : List Kept). Explores body y d a.failed) (start-is s c k inside from same is one) explores);
     }
-
-pub Adds-run : (body : Course) (s : State) (c : ℕ) (k inside : Kept) (from n n' : List Kept) (f f' : Failures) → s ≡ k.state → inside ≡ entered k.state c false k → from ≡ inside ∷ [] → InsideAdds body s from n n' f f' → Adds (inner_course body c) (k ∷ []) n n' f f'
-Adds-run body s c k inside from n n' f f' same is one a = record {
-  done = all_left s a.done ++ softly s a.stops;
-  failed = hardly s a.stops;
-  next_is = a.next_is ∙ ap (λ (y : List Kept). (n ++ all_left s a.done) ++ y) (softly-inside true f s a.stops (inl refl)) ∙ append_assoc n (all_left s a.done) (softly s a.stops);
-  failed_is = a.failed_is ∙ hardly-inside true f s a.stops;
-  explores = Explores-inner body s c (k ∷ []) a.done a.stops (at-one k s same) (subst (λ (y : List Kept). Explores body y a.done a.stops) (start-is s c k inside from same is one) a.explores);
-}
 
 pub Halts-run : (body : Course) (s : State) (c : ℕ) (k inside : Kept) (from : List Kept) → s ≡ k.state → inside ≡ entered k.state c false k → from ≡ inside ∷ [] → (h : Halt) → Halts body from h → Halts (inner_course body c) (k ∷ []) h
 Halts-run body s c k inside from same is one h u =

@@ -98,19 +98,6 @@ pub record BranchAdds (course : Course) (state : State) (inside rest : List Kept
   pub rest_is : rest ≡ softly state (after_stops old_stops stops).items
   pub explores : Explores course inside done stops
 
--- an inner sequence was run and left, and its soft failures go on
-pub record InsideAdds (course : Course) (state : State) (from old_next new_next : List Kept)
-    (old_failed new_failed : Failures) : Type 0 where
-  pub done : List Kept
-  pub stops : List Stopped
-  pub next_is : new_next
-      ≡ (old_next ++ all_left state done)
-      ++ softly state (after_stops (none_inside true old_failed state) stops).items
-  pub failed_is : new_failed
-      ≡ after_stops old_failed
-      (hardly state (after_stops (none_inside true old_failed state) stops).items)
-  pub explores : Explores course from done stops
-
 -- an inner sequence was run on a state in place, and none of its failures is kept
 pub record RunsInside (course : Course) (component : ℕ) (soft_failure : Bool) (from : Kept)
     (goes_on : Bool) (to : Kept) : Type 0 where

@@ -3,7 +3,7 @@
 ghost use Rattle.std.specs.Prelude.{◌≡◌, ◌<◌, [], ◌∷◌, OnOk, IfOk, IfErr};
 ghost use Rattle.suit_commands.specs.View.{command_tree};
 ghost use Rattle.path_checker.specs.Exploring.{Adds};
-ghost use Rattle.path_checker.specs.Inner.{BranchAdds, InsideAdds, outside_of};
+ghost use Rattle.path_checker.specs.Inner.{BranchAdds, outside_of};
 ghost use Rattle.path_checker.specs.Small.{IsSmallSequence, IsSmallCommand, AreSmallBranches};
 ghost use Rattle.path_checker.specs.Steps.{DoesStep, StepAt, StepAtEach, RunsAll, RunsInnerAt, TriesIn};
 ghost use Rattle.path_checker.specs.Unconditional.{IsUnconditional};
@@ -198,29 +198,9 @@ fn run<'a>(
 {
     let outer = outer_of(&k)?;
     let from = only(memory.alloc, enter(component, false, k))?;
-    run_inside(memory, count, inner, &outer, from, next, failed)
-}
-
-// Runs an inner sequence from the states in which it begins, and leaves it.
-#[cycle(walk)]
-fn run_inside<'a>(
-    memory: Memory<'a>,
-    count: u32,
-    inner: &'a Sequence,
-    outer: &Outer<'a>,
-    from: Vec<Kept<'a>>,
-    next: &mut Vec<Kept<'a>>,
-    failed: &mut Failures<'a>,
-) -> Result<(), Halt<'a>>
-    requires small { IsSmallSequence count inner.now }
-    ensures ok { OnOk result
-        (InsideAdds (RunsAll inner.now count) outer.now from.entry.items next.old.items
-        next.new.items failed.old failed.new) }
-    ensures err { IfErr result (λ h. Halts (RunsAll inner.now count) from.entry.items h) }
-{
-    let mut stops = none_inside(memory.alloc, true, failed, outer);
+    let mut stops = none_inside(memory.alloc, true, failed, &outer);
     let done = sequence(memory, count, inner, from, &mut stops)?;
-    Ok(leave(memory, outer, done, stops, next, failed)?)
+    Ok(leave(memory, &outer, done, stops, next, failed)?)
 }
 
 // Runs a try each: tries its branches in order.

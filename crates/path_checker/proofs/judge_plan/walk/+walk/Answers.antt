@@ -16,13 +16,12 @@ use Rattle.path_checker.specs.Steps.{At, AtEach, RunsAll, TriesIn}
 use Rattle.path_checker.specs.Halting.{Halts}
 use Rattle.path_checker.specs.Small.{IsSmallSequence, IsSmallCommand, AreSmallBranches, AreInPlace}
 use Rattle.path_checker.proofs.DirectiveLeaves.{never_true}
-use Rattle.path_checker.proofs.InnerSequences.{inner_course}
 use Rattle.path_checker.proofs.Overriding.{Walks-steps, Walks-halted, small_part, small_steps}
 use Rattle.path_checker.proofs.Unconditional.{in_place_straight, in_place_unconditional, conditional_each, conditional_holds, conditional_next}
 use Rattle.path_checker.proofs.Smallness.{small_step, small_branch}
 use Rattle.path_checker.proofs.Walking.{Walks, Walks-start, Walks-step, Walks-stops, Walks-end, does_course}
 use Rattle.path_checker.proofs.Popping.{Pops-start, Pops-step, Pops-halt, Pops-moved, Pops-end, none_left, each_sole, does_each, Adds-same, Halts-same, Each-step, Each-stops}
-use Rattle.path_checker.proofs.Branching.{Trying, Trying-start, Trying-branch, Trying-halt, Trying-null, Trying-end, at_some, at_none, Adds-inside, Adds-run, Halts-run, Adds-branch, Adds-appended}
+use Rattle.path_checker.proofs.Branching.{Trying, Trying-start, Trying-branch, Trying-halt, Trying-null, Trying-end, at_some, at_none, Adds-run, Halts-run, Adds-branch, Adds-appended}
 use Rattle.path_checker.proofs.Merging.{Adds-states, Adds-behind, Walks-settled}
 use Rattle.path_checker.proofs.Keeping.{none_of, after_unkept}
 use Rattle.path_checker.proofs.judge_plan.walk.+walk.Goals as goal
@@ -99,19 +98,12 @@ pub one-returns-in-Run-clause-err : goal.one-returns-in-Run-clause-err
 one-returns-in-Run-clause-err t c = subst (λ (m : Command). IfErr c.run.result (λ h. Halts (At (command_tree m) c.args.count c.args.step.now.place c.args.component) (c.args.k ∷ []) h)) (sym c.in-Run.is) c.run.ensures.err
 
 pub run-returns-clause-ok : goal.run-returns-clause-ok
-run-returns-clause-ok t c = on_ok_weaker c.run_inside.result (λ a. Adds-run (RunsAll c.args.inner.now c.args.count) c.in_ok-outer.outer c.args.component c.args.k c.enter.result c.in_ok-from.from.items c.args.next.now.items c.run_inside.new.next.items c.args.failed.now c.run_inside.new.failed c.in_ok-outer.ensures c.enter.ensures c.in_ok-from.ensures a) c.run_inside.ensures.ok
+run-returns-clause-ok t c = Adds-run (RunsAll c.args.inner.now c.args.count) c.in_ok-outer.outer c.args.component c.args.k c.enter.result c.in_ok-from.from.items c.in_ok-done.done.items c.args.next.now.items c.leave.new.next.items c.none_inside-stops.result c.sequence.new.failed c.args.failed.now c.leave.new.failed c.in_ok-outer.ensures c.enter.ensures c.in_ok-from.ensures c.in_ok-done.ensures.ok c.none_inside-stops.ensures c.in_ok-leave.ensures.on c.in_ok-leave.ensures.hard
 
-pub run-returns-clause-err : goal.run-returns-clause-err
-run-returns-clause-err t c =
-    let body = RunsAll c.args.inner.now c.args.count in
-    IfErr-weaker c.run_inside.result (λ h. Halts body c.in_ok-from.from.items h) (λ h. Halts (inner_course body c.args.component) (c.args.k ∷ []) h) (λ h u. Halts-run body c.in_ok-outer.outer c.args.component c.args.k c.enter.result c.in_ok-from.from.items c.in_ok-outer.ensures c.enter.ensures c.in_ok-from.ensures h u) c.run_inside.ensures.err
-
-pub run_inside-returns-clause-ok : goal.run_inside-returns-clause-ok
-run_inside-returns-clause-ok t c = Adds-inside (RunsAll c.args.inner.now c.args.count) c.args.outer.now c.args.from.items c.in_ok-done.done.items c.args.next.now.items c.leave.new.next.items c.none_inside-stops.result c.sequence.new.failed c.args.failed.now c.leave.new.failed c.in_ok-done.ensures.ok c.none_inside-stops.ensures c.in_ok-leave.ensures.on c.in_ok-leave.ensures.hard
-
-pub run_inside-returns-in_err-done-clause-err : goal.run_inside-returns-in_err-done-clause-err
-run_inside-returns-in_err-done-clause-err t c =
-    let p = err_from_is_err_and c.from_residual.result c.from_residual.ensures.1 in rw (p.1, p.2) c.in_err-done.ensures.err
+pub run-returns-in_err-done-clause-err : goal.run-returns-in_err-done-clause-err
+run-returns-in_err-done-clause-err t c =
+    let p = err_from_is_err_and c.from_residual-in_err-done.result c.from_residual-in_err-done.ensures.1 in
+    rw (p.1, p.2) (Halts-run (RunsAll c.args.inner.now c.args.count) c.in_ok-outer.outer c.args.component c.args.k c.enter.result c.in_ok-from.from.items c.in_ok-outer.ensures c.enter.ensures c.in_ok-from.ensures c.in_err-done.field-0.0 c.in_err-done.ensures.err)
 
 pub sequence-loop-at-init : goal.sequence-loop-at-init
 sequence-loop-at-init t c = record {
