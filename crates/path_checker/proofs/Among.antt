@@ -21,9 +21,6 @@ pub record AllBelow (numbers : List ℕ) (number : ℕ) : Type 0 where
   pub all : (other : ℕ) → other < number → In other numbers
   pub bound : number ≤ length numbers
 
-pub none_below : (xs : List ℕ) → AllBelow xs 0
-none_below xs = record { all = λ m lt. absurd (omega (arith, lt)); bound = omega arith }
-
 pub one_more : (n : ℕ) (xs : List ℕ) → AllBelow xs n → In n xs → AllBelow xs (n + 1)
 one_more n xs below here =
     record { all = more; bound = room_for (n + 1) xs more }

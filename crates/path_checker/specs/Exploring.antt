@@ -1,5 +1,5 @@
 -- When the states that are kept stand for all runs from others.
-use Rattle.std.specs.Prelude.{◌≡◌, ◌⊎◌, ℕ, Bool, true, false, List, [], ◌∷◌, ◌++◌, Option, Some, None, length}
+use Rattle.std.specs.Prelude.{◌≡◌, ◌⊎◌, ℕ, Bool, true, false, List, [], ◌∷◌, ◌++◌, length}
 use Rattle.suit_params.specs.InForce.{Parameters}
 use Rattle.path_model.specs.declared.identity.Identity.{Identity}
 use Rattle.path_model.specs.declared.event.Event.{Event}
@@ -31,11 +31,6 @@ state_of parameters selection soft_failure =
 
 abbrev pub kept_of : List Knowledge → List Event → State → Kept
 kept_of facts events state = record { facts = facts; events = events; state = state }
-
--- a list of the state, if there is one
-abbrev pub at_most_one : Option Kept → List Kept
-at_most_one None = []
-at_most_one (Some k) = k ∷ []
 
 -- a list of the state, if the procedure goes on
 abbrev pub kept_if : Bool → Kept → List Kept
