@@ -1,10 +1,9 @@
 -- Values that stand in a list.
-use Rattle.std.proofs.Common.{◌≢◌, ◌+◌, ◌<◌, ◌≤◌, ℕ, zero, suc, List, [], ◌∷◌, length, get_or, take, refl, sym, subst, arith, inl, inr, ⊎_elim}
-use Rattle.std.proofs.lemmas.List.{take_more}
+use Rattle.std.proofs.Common.{◌+◌, ◌<◌, ◌≤◌, ℕ, zero, suc, List, [], ◌∷◌, length, get_or, refl, sym, subst, arith, inl, inr, ⊎_elim}
 use Rattle.std.proofs.Math.Nat.{eq-or-lt_of_le}
 use Rattle.path_checker.specs.Exploring.{In}
 use Rattle.path_checker.specs.Choosing.{IsLeastOutside}
-use Rattle.path_checker.proofs.Outside.{IsApart, apart_after, room_for}
+use Rattle.path_checker.proofs.Outside.{IsApart, room_for}
 
 pub in_at : {A : Type 0} (xs : List A) (i : ℕ) (d : A) → i < length xs → In (get_or xs i d) xs
 in_at [] i d lt = absurd (omega arith)
@@ -16,17 +15,11 @@ apart_out value [] all h = h
 apart_out value (x ∷ xs) all (inl e) = all.0 e
 apart_out value (x ∷ xs) all (inr h) = apart_out value xs all.1 h
 
-pub apart_next : {A : Type 0} (xs : List A) (i : ℕ) (d value : A) → i < length xs → IsApart value (take i xs) → get_or xs i d ≢ value → IsApart value (take (i + 1) xs)
-apart_next xs i d value lt all here = subst (λ ys. IsApart value ys) (sym (take_more xs i d lt)) (apart_after value (get_or xs i d) (take i xs) all here)
-
 -- ---- all numbers below one stand there, and so it is not larger than their count
 
 pub record AllBelow (numbers : List ℕ) (number : ℕ) : Type 0 where
   pub all : (other : ℕ) → other < number → In other numbers
   pub bound : number ≤ length numbers
-
-pub none_below : (xs : List ℕ) → AllBelow xs 0
-none_below xs = record { all = λ m lt. absurd (omega (arith, lt)); bound = omega arith }
 
 pub one_more : (n : ℕ) (xs : List ℕ) → AllBelow xs n → In n xs → AllBelow xs (n + 1)
 one_more n xs below here =

@@ -22,7 +22,8 @@ use Rattle.path_checker.specs.Inner.{AllAt, BranchAdds, outside_of, entered, all
 use Rattle.path_checker.specs.Invoking.{Covers}
 use Rattle.path_checker.specs.Rests.{Leaves}
 use Rattle.path_checker.specs.Small.{IsSmallSequence, AreSmallBranches}
-use Rattle.path_checker.proofs.Branching.{rest_course, failing_course, softly-at}
+use Rattle.path_checker.specs.Steps.{RunsAll, TriesIn}
+use Rattle.path_checker.proofs.Branching.{failing_course, softly-at}
 use Rattle.path_checker.proofs.Carrying.{nothing_course, Explores-nothing}
 use Rattle.path_checker.proofs.Exploring.{then_course}
 use Rattle.path_checker.proofs.InnerSequences.{Leads-outer}
@@ -32,7 +33,7 @@ use Rattle.path_checker.proofs.Membership.{In-left, In-right, In-cases}
 use Rattle.path_checker.proofs.OneBranch.{branch_course}
 use Rattle.path_checker.proofs.Starting.{Covers-then}
 use Rattle.path_checker.proofs.Uncovering.{Uncovered-lift, Uncovered-then, Uncovers-outer, Uncovers-others, Uncovers-second}
-use Rattle.path_checker.proofs.Walking.{Halts-lift, runs_course}
+use Rattle.path_checker.proofs.Walking.{Halts-lift}
 
 -- a branch is left, and something follows
 abbrev pub leaving_course : State → Course → Course
@@ -230,15 +231,15 @@ module _ (bs tail : List (Option SequenceTree)) (i : ℕ) (d : Option SequenceTr
   next_is = ap (λ (xs : List (Option SequenceTree)). xs ++ tail) (drop-cons bs i d lt) ∙ ap (λ (n : ℕ). get_or bs i d ∷ (drop n bs ++ tail)) (sym (add-one i))
 
   pub before_some : (inner : SequenceTree) (count p c : ℕ) → get_or bs i d ≡ Some inner
-      → rest_course (branches_tree (drop i bs ++ tail)) count p c ≡ branch_course (runs_course inner count) (rest_course (branches_tree (drop (i + 1) bs ++ tail)) count p) c
+      → TriesIn (branches_tree (drop i bs ++ tail)) count p c ≡ branch_course (RunsAll inner count) (TriesIn (branches_tree (drop (i + 1) bs ++ tail)) count p) c
   before_some inner count p c is =
-      ap (λ (xs : List (Option SequenceTree)). rest_course (branches_tree xs) count p c) next_is
-      ∙ ap (λ (o : Option SequenceTree). rest_course (branches_tree (o ∷ (drop (i + 1) bs ++ tail))) count p c) is
+      ap (λ (xs : List (Option SequenceTree)). TriesIn (branches_tree xs) count p c) next_is
+      ∙ ap (λ (o : Option SequenceTree). TriesIn (branches_tree (o ∷ (drop (i + 1) bs ++ tail))) count p c) is
 
-  pub before_none : (count p c : ℕ) → get_or bs i d ≡ None → rest_course (branches_tree (drop i bs ++ tail)) count p c ≡ nothing_course
+  pub before_none : (count p c : ℕ) → get_or bs i d ≡ None → TriesIn (branches_tree (drop i bs ++ tail)) count p c ≡ nothing_course
   before_none count p c is =
-      ap (λ (xs : List (Option SequenceTree)). rest_course (branches_tree xs) count p c) next_is
-      ∙ ap (λ (o : Option SequenceTree). rest_course (branches_tree (o ∷ (drop (i + 1) bs ++ tail))) count p c) is
+      ap (λ (xs : List (Option SequenceTree)). TriesIn (branches_tree xs) count p c) next_is
+      ∙ ap (λ (o : Option SequenceTree). TriesIn (branches_tree (o ∷ (drop (i + 1) bs ++ tail))) count p c) is
 
   pub small_before : (inner : SequenceTree) (count : ℕ) → get_or bs i d ≡ Some inner → AreSmallBranches count (branches_tree (drop i bs ++ tail))
       → IsSmallSequence count inner × AreSmallBranches count (branches_tree (drop (i + 1) bs ++ tail))

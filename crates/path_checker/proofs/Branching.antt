@@ -3,23 +3,23 @@ use Rattle.std.proofs.Common.{◌≡◌, ℕ, ◌+◌, ◌<◌, suc, add-one, Bo
 use Rattle.std.specs.Prelude.{◌⊎◌}
 use Rattle.std.proofs.Math.Seq.{drop-cons}
 use Rattle.std.proofs.lemmas.List.{append-nil}
-use Rattle.suit_commands.specs.Tree.{SequenceTree, BranchesTree}
+use Rattle.suit_commands.specs.Tree.{SequenceTree}
 use Rattle.suit_commands.specs.View.{branches_tree}
 use Rattle.path_model.specs.declared.event.Event.{Event}
 use Rattle.path_model.specs.Behaviour.{State, Ending, Condition}
-use Rattle.path_model.specs.Runs.{Tries}
 use Rattle.path_model.specs.Following.{CoveredFrom, SameMatches}
 use Rattle.path_model.proofs.Following.{same_matches}
 use Rattle.path_checker.specs.declared.judge_plan.halt.Halt.{Halt}
 use Rattle.path_checker.specs.Exploring.{Course, In, Kept, Stopped, Failures, keeps, after_stops, Found, Leads, Explores, Uncovers, Adds}
-use Rattle.path_checker.specs.Inner.{AllAt, BranchAdds, InsideAdds, outside_of, entered, all_entered, all_left, softly, hardly, exhausted_at, exhausted, none_inside}
+use Rattle.path_checker.specs.Inner.{AllAt, BranchAdds, outside_of, entered, all_entered, all_left, softly, hardly, exhausted_at, exhausted, none_inside}
 use Rattle.path_checker.specs.Halting.{Halts}
+use Rattle.path_checker.specs.Steps.{RunsAll, TriesIn}
 use Rattle.path_checker.proofs.InnerStates.{softly-from}
 use Rattle.path_checker.proofs.Keeping.{after_none, after_both, softly-inside, hardly-inside, exhausted-inside}
 use Rattle.path_checker.proofs.InnerSequences.{inner_course, Explores-inner}
 use Rattle.path_checker.proofs.OneBranch.{branch_course}
 use Rattle.path_checker.proofs.Uncovering.{Uncovers-inner, Uncovers-branch}
-use Rattle.path_checker.proofs.Walking.{Halts-lift, runs_course}
+use Rattle.path_checker.proofs.Walking.{Halts-lift}
 use Rattle.path_checker.proofs.Carrying.{Carries, Carries-start, Carries-branch, Carries-end, nothing_course}
 
 pub at-one : (k : Kept) (s : State) → s ≡ k.state → AllAt s (k ∷ [])
@@ -31,25 +31,18 @@ at-one k s e k' (inr n) = absurd n
 start-is : (s : State) (c : ℕ) (k inside : Kept) (from : List Kept) → s ≡ k.state → inside ≡ entered k.state c false k → from ≡ inside ∷ [] → from ≡ all_entered s c false (k ∷ [])
 start-is s c k inside from same is one = one ∙ ap (λ (x : Kept). x ∷ []) is ∙ ap (λ (t : State). entered t c false k ∷ []) (sym same)
 
-pub Adds-inside : (body : Course) (s : State) (from d n n' : List Kept) (st0 st f f' : Failures) → Adds body from [] d st0 st → st0 ≡ none_inside true f s → n' ≡ (n ++ all_left s d) ++ softly s st.items → f' ≡ after_stops f (hardly s st.items) → InsideAdds body s from n n' f f'
-Adds-inside body s from d n n' st0 st f f' a none next fail =
+pub Adds-run : (body : Course) (s : State) (c : ℕ) (k inside : Kept) (from d n n' : List Kept) (st0 st f f' : Failures) → s ≡ k.state → inside ≡ entered k.state c false k → from ≡ inside ∷ [] → Adds body from [] d st0 st → st0 ≡ none_inside true f s
+    → n' ≡ (n ++ all_left s d) ++ softly s st.items → f' ≡ after_stops f (hardly s st.items) → Adds (inner_course body c) (k ∷ []) n n' f f'
+Adds-run body s c k inside from d n n' st0 st f f' same is one a none next fail =
     let st-is : st ≡ after_stops (none_inside true f s) a.failed = a.failed_is ∙ ap (λ (x : Failures). after_stops x a.failed) none in
+    let explores = subst (λ (y : List Kept). Explores body from y a.failed) (sym a.next_is) a.explores in
     record {
-      done = d;
-      stops = a.failed;
-      next_is = next ∙ ap (λ (x : Failures). (n ++ all_left s d) ++ softly s x.items) st-is;
-      failed_is = fail ∙ ap (λ (x : Failures). after_stops f (hardly s x.items)) st-is;
-      explores = subst (λ (y : List Kept). Explores body from y a.failed) (sym a.next_is) a.explores;
+      done = all_left s d ++ softly s a.failed;
+      failed = hardly s a.failed;
+      next_is = next ∙ ap (λ (x : Failures). (n ++ all_left s d) ++ softly s x.items) st-is ∙ ap (λ (y : List Kept). (n ++ all_left s d) ++ y) (softly-inside true f s a.failed (inl refl)) ∙ append_assoc n (all_left s d) (softly s a.failed);
+      failed_is = fail ∙ ap (λ (x : Failures). after_stops f (hardly s x.items)) st-is ∙ hardly-inside true f s a.failed;
+      explores = Explores-inner body s c (k ∷ []) d a.failed (at-one k s same) (subst (λ (y : List Kept). Explores body y d a.failed) (start-is s c k inside from same is one) explores);
     }
-
-pub Adds-run : (body : Course) (s : State) (c : ℕ) (k inside : Kept) (from n n' : List Kept) (f f' : Failures) → s ≡ k.state → inside ≡ entered k.state c false k → from ≡ inside ∷ [] → InsideAdds body s from n n' f f' → Adds (inner_course body c) (k ∷ []) n n' f f'
-Adds-run body s c k inside from n n' f f' same is one a = record {
-  done = all_left s a.done ++ softly s a.stops;
-  failed = hardly s a.stops;
-  next_is = a.next_is ∙ ap (λ (y : List Kept). (n ++ all_left s a.done) ++ y) (softly-inside true f s a.stops (inl refl)) ∙ append_assoc n (all_left s a.done) (softly s a.stops);
-  failed_is = a.failed_is ∙ hardly-inside true f s a.stops;
-  explores = Explores-inner body s c (k ∷ []) a.done a.stops (at-one k s same) (subst (λ (y : List Kept). Explores body y a.done a.stops) (start-is s c k inside from same is one) a.explores);
-}
 
 pub Halts-run : (body : Course) (s : State) (c : ℕ) (k inside : Kept) (from : List Kept) → s ≡ k.state → inside ≡ entered k.state c false k → from ≡ inside ∷ [] → (h : Halt) → Halts body from h → Halts (inner_course body c) (k ∷ []) h
 Halts-run body s c k inside from same is one h u =
@@ -169,21 +162,17 @@ Trying-halt whole body others k s c next0 next failed0 failed now inside Stays w
     let begin : inside ≡ all_entered s c true w.all = entered_is ∙ ap (all_entered s c true) (w.now_is (inl stays)) in
     Halts-lift body whole inside (k ∷ []) (λ facts events x. w.carries.uncovers facts events (Uncovers-branch body others s c w.all facts events w.at (subst (λ (y : List Kept). Uncovers body y facts events) begin x))) h u
 
--- the branches from a place on
-abbrev pub rest_course : BranchesTree → ℕ → ℕ → ℕ → Course
-rest_course branches count p c ids = Tries branches ids count p c
-
 pub at_some : (bs : List (Option SequenceTree)) (i count p c : ℕ) (d : Option SequenceTree) (inner : SequenceTree) → i < length bs → get_or bs i d ≡ Some inner
-    → rest_course (branches_tree (drop i bs)) count p c ≡ branch_course (runs_course inner count) (rest_course (branches_tree (drop (i + 1) bs)) count p) c
+    → TriesIn (branches_tree (drop i bs)) count p c ≡ branch_course (RunsAll inner count) (TriesIn (branches_tree (drop (i + 1) bs)) count p) c
 at_some bs i count p c d inner lt e =
-    ap (λ (xs : List (Option SequenceTree)). rest_course (branches_tree xs) count p c) (drop-cons bs i d lt)
-    ∙ ap (λ (o : Option SequenceTree). rest_course (branches_tree (o ∷ drop (suc i) bs)) count p c) e
-    ∙ ap (λ (n : ℕ). branch_course (runs_course inner count) (rest_course (branches_tree (drop n bs)) count p) c) (sym (add-one i))
+    ap (λ (xs : List (Option SequenceTree)). TriesIn (branches_tree xs) count p c) (drop-cons bs i d lt)
+    ∙ ap (λ (o : Option SequenceTree). TriesIn (branches_tree (o ∷ drop (suc i) bs)) count p c) e
+    ∙ ap (λ (n : ℕ). branch_course (RunsAll inner count) (TriesIn (branches_tree (drop n bs)) count p) c) (sym (add-one i))
 
-pub at_none : (bs : List (Option SequenceTree)) (i count p c : ℕ) (d : Option SequenceTree) → i < length bs → get_or bs i d ≡ None → rest_course (branches_tree (drop i bs)) count p c ≡ nothing_course
+pub at_none : (bs : List (Option SequenceTree)) (i count p c : ℕ) (d : Option SequenceTree) → i < length bs → get_or bs i d ≡ None → TriesIn (branches_tree (drop i bs)) count p c ≡ nothing_course
 at_none bs i count p c d lt e =
-    ap (λ (xs : List (Option SequenceTree)). rest_course (branches_tree xs) count p c) (drop-cons bs i d lt)
-    ∙ ap (λ (o : Option SequenceTree). rest_course (branches_tree (o ∷ drop (suc i) bs)) count p c) e
+    ap (λ (xs : List (Option SequenceTree)). TriesIn (branches_tree xs) count p c) (drop-cons bs i d lt)
+    ∙ ap (λ (o : Option SequenceTree). TriesIn (branches_tree (o ∷ drop (suc i) bs)) count p c) e
 
 pub Adds-appended : (course : Course) (from n n' now : List Kept) (f f' : Failures) → Adds course from [] now f f' → n' ≡ n ++ now → Adds course from n n' f f'
 Adds-appended course from n n' now f f' a more = record { done = a.done; failed = a.failed; next_is = more ∙ ap (λ (x : List Kept). n ++ x) a.next_is; failed_is = a.failed_is; explores = a.explores }

@@ -22,9 +22,6 @@ pub all_bytes : (bytes : List ℕ) → ((i : ℕ) → get_or bytes i 0 < 256) �
 all_bytes [] below = tt
 all_bytes (b ∷ bytes) below = (below 0, all_bytes bytes (λ i. below (suc i)))
 
-pub chosen_none : IsChosen [] []
-chosen_none = record { allowed = tt; bounds = tt }
-
 pub chosen_step : (facts : List Knowledge) (i : ℕ) (d : Knowledge) (ids made : List Identity) (one : Identity) → i < length facts → IsChosen (take i facts) ids → made ≡ ids ++ one ∷ [] → AllowsOne (get_or facts i d) one → IsIdentity one → IsChosen (take (i + 1) facts) made
 chosen_step facts i d ids made one lt so_far pushed allowed bounds =
     subst (λ (fs : List Knowledge). IsChosen fs made) (sym (take_more facts i d lt)) (subst (λ (x : List Identity). IsChosen (take i facts ++ get_or facts i d ∷ []) x) (sym pushed) (record {

@@ -12,7 +12,7 @@ use Rattle.path_model.specs.declared.event.Event.{Event}
 use Rattle.path_model.specs.declared.event.Event.TheVariants.{Tried, Matched, Missed, Failed}
 use Rattle.path_model.specs.Behaviour.{Done, Condition}
 use Rattle.path_model.specs.CommandLaws.{IsOnIdentity}
-use Rattle.path_model.specs.Conditions.{Tests, Compares, Matches, ChecksContent, vendor_of, class_of, device_of, slot_of}
+use Rattle.path_model.specs.Conditions.{Compares, Matches, ChecksContent, vendor_of, class_of, device_of, slot_of}
 use Rattle.path_checker.specs.declared.judge_plan.facts.Own.{Own}
 use Rattle.path_checker.specs.declared.judge_plan.facts.Own.TheVariants as owns
 use Rattle.path_checker.specs.declared.judge_plan.facts.Knowledge.{Knowledge}
@@ -20,16 +20,13 @@ use Rattle.path_checker.specs.Knowing.{Allows, Learns}
 use Rattle.path_checker.specs.Forking.{Has, HasNo}
 use Rattle.path_checker.specs.Wanting.{wanted_by, TestsOwn}
 use Rattle.path_checker.specs.Exploring.{Course, Kept, Stopped, Failures, after_stops, Adds}
-use Rattle.path_checker.specs.Steps.{with_events, knowing, stopped_by}
+use Rattle.path_checker.specs.Steps.{with_events, knowing, stopped_by, TestsAt}
 use Rattle.path_checker.proofs.Keeping.{after_none}
 use Rattle.path_checker.proofs.Leaves.{Only, Either, Same, Where, Explores-same, Explores-fails, Explores-done, Explores-either, Explores-where}
 
-abbrev pub tests_course : TestKind → ℕ → ℕ → Course
-tests_course kind p c ids = Tests kind ids p c
-
 -- ---- image match
 
-pub Adds-missed : (p c : ℕ) (k : Kept) (ps : Parameters) (n : List Kept) (f f' : Failures) → ps ≡ k.state.parameters → None ≡ digest_in ps c → f' ≡ after_stops f (stopped_by k (Missed c ∷ Failed p ∷ []) p ∷ []) → Adds (tests_course tests.ImageMatch p c) (k ∷ []) n n f f'
+pub Adds-missed : (p c : ℕ) (k : Kept) (ps : Parameters) (n : List Kept) (f f' : Failures) → ps ≡ k.state.parameters → None ≡ digest_in ps c → f' ≡ after_stops f (stopped_by k (Missed c ∷ Failed p ∷ []) p ∷ []) → Adds (TestsAt tests.ImageMatch p c) (k ∷ []) n n f f'
 Adds-missed p c k ps n f f' same none pushed =
     let none' : None ≡ digest_in k.state.parameters c = subst (λ (q : Parameters). None ≡ digest_in q c) same none in
     record {
@@ -37,7 +34,7 @@ Adds-missed p c k ps n f f' same none pushed =
       failed = stopped_by k (Missed c ∷ Failed p ∷ []) p ∷ [];
       next_is = sym (append-nil n);
       failed_is = pushed;
-      explores = Explores-same k (Only (Missed c ∷ Failed p ∷ []) (Condition p k.state.soft_failure)) (tests_course tests.ImageMatch p c) [] (stopped_by k (Missed c ∷ Failed p ∷ []) p ∷ [])
+      explores = Explores-same k (Only (Missed c ∷ Failed p ∷ []) (Condition p k.state.soft_failure)) (TestsAt tests.ImageMatch p c) [] (stopped_by k (Missed c ∷ Failed p ∷ []) p ∷ [])
           (record {
             there = λ ids al es e r. subst (λ (o : Option Digest). Matches p c o (size_in k.state.parameters c) k.state es e) none' r;
             back = λ ids al es e r. subst (λ (o : Option Digest). Matches p c o (size_in k.state.parameters c) k.state es e) (sym none') r;
@@ -46,7 +43,7 @@ Adds-missed p c k ps n f f' same none pushed =
     }
 
 pub Adds-matched : (p c : ℕ) (k copied : Kept) (ps : Parameters) (d : Digest) (s : Option ℕ) (n n' : List Kept) (f f' : Failures) → ps ≡ k.state.parameters → Some d ≡ digest_in ps c → s ≡ size_in ps c → copied ≡ k → n' ≡ n ++ with_events copied (Matched c d s ∷ []) ∷ []
-    → f' ≡ after_stops f (stopped_by k (Missed c ∷ Failed p ∷ []) p ∷ []) → Adds (tests_course tests.ImageMatch p c) (k ∷ []) n n' f f'
+    → f' ≡ after_stops f (stopped_by k (Missed c ∷ Failed p ∷ []) p ∷ []) → Adds (TestsAt tests.ImageMatch p c) (k ∷ []) n n' f f'
 Adds-matched p c k copied ps d s n n' f f' same some size copy pushed pushed_stop =
     let some' : Some d ≡ digest_in k.state.parameters c = subst (λ (q : Parameters). Some d ≡ digest_in q c) same some in
     let size' : s ≡ size_in k.state.parameters c = subst (λ (q : Parameters). s ≡ size_in q c) same size in
@@ -58,7 +55,7 @@ Adds-matched p c k copied ps d s n n' f f' same some size copy pushed pushed_sto
       failed = stopped_by k (Missed c ∷ Failed p ∷ []) p ∷ [];
       next_is = subst (λ (x : Kept). n' ≡ n ++ x ∷ []) to-is pushed;
       failed_is = pushed_stop;
-      explores = Explores-same k (Either match miss) (tests_course tests.ImageMatch p c) (with_events k (Matched c d (size_in k.state.parameters c) ∷ []) ∷ []) (stopped_by k (Missed c ∷ Failed p ∷ []) p ∷ [])
+      explores = Explores-same k (Either match miss) (TestsAt tests.ImageMatch p c) (with_events k (Matched c d (size_in k.state.parameters c) ∷ []) ∷ []) (stopped_by k (Missed c ∷ Failed p ∷ []) p ∷ [])
           (record {
             there = λ ids al es e r. subst (λ (o : Option Digest). Matches p c o (size_in k.state.parameters c) k.state es e) some' r;
             back = λ ids al es e r. subst (λ (o : Option Digest). Matches p c o (size_in k.state.parameters c) k.state es e) (sym some') r;
@@ -99,8 +96,8 @@ Adds-only_passed course kind c k n n' f same pushed = record {
   explores = Explores-same k (passing kind c k) course (with_events k (told kind c true ∷ []) ∷ []) [] same (Explores-done k (told kind c true ∷ []) k.state (tt, tt));
 }
 
-pub Adds-abort : (p c : ℕ) (k : Kept) (f f' : Failures) → f' ≡ after_stops f (missed_by tests.Abort c p k ∷ []) → (n : List Kept) → Adds (tests_course tests.Abort p c) (k ∷ []) n n f f'
-Adds-abort p c k f f' pushed n = Adds-only_missed (tests_course tests.Abort p c) tests.Abort p c k n f f' (record { there = λ ids al es e r. r; back = λ ids al es e r. r }) pushed
+pub Adds-abort : (p c : ℕ) (k : Kept) (f f' : Failures) → f' ≡ after_stops f (missed_by tests.Abort c p k ∷ []) → (n : List Kept) → Adds (TestsAt tests.Abort p c) (k ∷ []) n n f f'
+Adds-abort p c k f f' pushed n = Adds-only_missed (TestsAt tests.Abort p c) tests.Abort p c k n f f' (record { there = λ ids al es e r. r; back = λ ids al es e r. r }) pushed
 
 -- ---- check content
 
@@ -108,10 +105,10 @@ none_is : {A : Type 0} (o : Option A) → is_some o ≡ false → None ≡ o
 none_is None e = refl
 none_is (Some x) e = absurd cc
 
-pub Adds-no_content : (p c : ℕ) (k : Kept) (ps : Parameters) (n : List Kept) (f f' : Failures) → ps ≡ k.state.parameters → is_some (bytes_of (in_force ps c keys.Content)) ≡ false → f' ≡ after_stops f (missed_by tests.CheckContent c p k ∷ []) → Adds (tests_course tests.CheckContent p c) (k ∷ []) n n f f'
+pub Adds-no_content : (p c : ℕ) (k : Kept) (ps : Parameters) (n : List Kept) (f f' : Failures) → ps ≡ k.state.parameters → is_some (bytes_of (in_force ps c keys.Content)) ≡ false → f' ≡ after_stops f (missed_by tests.CheckContent c p k ∷ []) → Adds (TestsAt tests.CheckContent p c) (k ∷ []) n n f f'
 Adds-no_content p c k ps n f f' same none pushed =
     let none' : None ≡ bytes_of (in_force k.state.parameters c keys.Content) = none_is _ (subst (λ (q : Parameters). is_some (bytes_of (in_force q c keys.Content)) ≡ false) same none) in
-    Adds-only_missed (tests_course tests.CheckContent p c) tests.CheckContent p c k n f f'
+    Adds-only_missed (TestsAt tests.CheckContent p c) tests.CheckContent p c k n f f'
     (record {
       there = λ ids al es e r. subst (λ (o : Option (List ℕ)). ChecksContent p c o k.state es e) none' r;
       back = λ ids al es e r. subst (λ (o : Option (List ℕ)). ChecksContent p c o k.state es e) (sym none') r;
@@ -123,7 +120,7 @@ content_at p c k None e = absurd cc
 content_at p c k (Some x) e = record { there = λ ids al es ending r. r; back = λ ids al es ending r. r }
 
 pub Adds-content : (p c : ℕ) (k copied : Kept) (ps : Parameters) (n n' : List Kept) (f f' : Failures) → ps ≡ k.state.parameters → is_some (bytes_of (in_force ps c keys.Content)) ≡ true → copied ≡ k → n' ≡ n ++ with_events copied (told tests.CheckContent c true ∷ []) ∷ []
-    → f' ≡ after_stops f (missed_by tests.CheckContent c p k ∷ []) → Adds (tests_course tests.CheckContent p c) (k ∷ []) n n' f f'
+    → f' ≡ after_stops f (missed_by tests.CheckContent c p k ∷ []) → Adds (TestsAt tests.CheckContent p c) (k ∷ []) n n' f f'
 Adds-content p c k copied ps n n' f f' same some copy pushed pushed_stop =
     let kind : TestKind = tests.CheckContent in
     let at = content_at p c k (bytes_of (in_force k.state.parameters c keys.Content)) (subst (λ (q : Parameters). is_some (bytes_of (in_force q c keys.Content)) ≡ true) same some) in
@@ -132,7 +129,7 @@ Adds-content p c k copied ps n n' f f' same some copy pushed pushed_stop =
       failed = missed_by kind c p k ∷ [];
       next_is = subst (λ (x : Kept). n' ≡ n ++ with_events x (told kind c true ∷ []) ∷ []) copy pushed;
       failed_is = pushed_stop;
-      explores = Explores-same k (Either (passing kind c k) (missing kind c p k)) (tests_course kind p c) (with_events k (told kind c true ∷ []) ∷ []) (missed_by kind c p k ∷ [])
+      explores = Explores-same k (Either (passing kind c k) (missing kind c p k)) (TestsAt kind p c) (with_events k (told kind c true ∷ []) ∷ []) (missed_by kind c p k ∷ [])
           (record { there = λ ids al es e r. at.there ids al es e r; back = λ ids al es e r. at.back ids al es e r })
           (Explores-either (passing kind c k) (missing kind c p k) k (with_events k (told kind c true ∷ []) ∷ []) [] [] (missed_by kind c p k ∷ [])
           (Explores-done k (told kind c true ∷ []) k.state (tt, tt)) (Explores-fails k (told kind c false ∷ Failed p ∷ []) p (tt, (tt, tt))));
@@ -185,7 +182,7 @@ compares kind p c k (Some a) make own_of ties = record {
   back = λ ids al es e r. elim r [ inl x ↦ inl ((ties a ids).1 x.0, x.1) | inr x ↦ inr ((λ h. x.0 ((ties a ids).0 h)), x.1) ];
 }
 
-pub tests_own : (kind : TestKind) (p c : ℕ) (k : Kept) → IsOnIdentity kind → Same k (TestsOwn kind p c (wanted_by kind k.state.parameters c)) (tests_course kind p c)
+pub tests_own : (kind : TestKind) (p c : ℕ) (k : Kept) → IsOnIdentity kind → Same k (TestsOwn kind p c (wanted_by kind k.state.parameters c)) (TestsAt kind p c)
 tests_own tests.Vendor p c k on = let s = compares tests.Vendor p c k (identifier_of (in_force k.state.parameters c keys.Vendor)) owns.Vendor (λ ids. vendor_of (slice_get ids c)) (λ a ids. (λ h. h, λ h. h)) in record { there = s.there; back = s.back }
 tests_own tests.Class p c k on = let s = compares tests.Class p c k (identifier_of (in_force k.state.parameters c keys.Class)) owns.Class (λ ids. class_of (slice_get ids c)) (λ a ids. (λ h. h, λ h. h)) in record { there = s.there; back = s.back }
 tests_own tests.Device p c k on = let s = compares tests.Device p c k (identifier_of (in_force k.state.parameters c keys.Device)) owns.Device (λ ids. device_of (slice_get ids c)) (λ a ids. (λ h. h, λ h. h)) in record { there = s.there; back = s.back }

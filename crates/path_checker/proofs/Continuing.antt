@@ -10,15 +10,15 @@ use Rattle.suit_commands.specs.View.{sequence_tree, command_tree}
 use Rattle.path_checker.specs.declared.judge_plan.halt.Halt.{Halt}
 use Rattle.path_checker.specs.Exploring.{Course, Kept, Stopped, Explores, Passes, Continues}
 use Rattle.path_checker.specs.Halting.{Halts}
-use Rattle.path_checker.specs.Steps.{At}
+use Rattle.path_checker.specs.Steps.{At, AtEach, RunsAll}
 use Rattle.path_checker.specs.Unconditional.{IsUnconditional}
 use Rattle.path_checker.proofs.Carrying.{Carries, Carries-start, Carries-then, Carries-end, nothing_course}
 use Rattle.path_checker.proofs.Exploring.{then_course, Explores-none}
 use Rattle.path_checker.proofs.Leaves.{Same, Explores-same}
 use Rattle.path_checker.proofs.Overriding.{Carries-steps}
-use Rattle.path_checker.proofs.Popping.{each_course, Explores-becomes}
+use Rattle.path_checker.proofs.Popping.{Explores-becomes}
 use Rattle.path_checker.proofs.Uncovering.{Uncovers-first}
-use Rattle.path_checker.proofs.Walking.{Halts-lift, runs_course, does_course, rest-is}
+use Rattle.path_checker.proofs.Walking.{Halts-lift, does_course, rest-is}
 
 pub no_more : {A : Type 0} (xs ys : List A) → xs ≡ [] → ys ≡ [] → xs ++ ys ≡ []
 no_more {A} xs ys first second = ap (λ (zs : List A). zs ++ ys) first ∙ second
@@ -78,12 +78,12 @@ module _ (none : Type 0) (whole first second : Course) (from now : List Kept) (w
 
 -- ---- one step after another
 
-module _ (none : Type 0) (steps : List Step) (i count : ℕ) (step : Step) (lt : i < length steps) (is : step ≡ get_or steps i step) (whole : Course) (from now : List Kept) (w : Goes none whole from (runs_course (sequence_tree (drop i steps)) count) now) where
+module _ (none : Type 0) (steps : List Step) (i count : ℕ) (step : Step) (lt : i < length steps) (is : step ≡ get_or steps i step) (whole : Course) (from now : List Kept) (w : Goes none whole from (RunsAll (sequence_tree (drop i steps)) count) now) where
   abbrev step_first : Course
   step_first = does_course (command_tree step.command) count step.place
 
   abbrev step_rest : Course
-  step_rest = runs_course (sequence_tree (drop (i + 1) steps)) count
+  step_rest = RunsAll (sequence_tree (drop (i + 1) steps)) count
 
   parted : Goes none whole from (then_course step_first step_rest) now
   parted =
@@ -96,29 +96,29 @@ module _ (none : Type 0) (steps : List Step) (i count : ℕ) (step : Step) (lt :
   Goes-stops = Goes-halts none whole step_first step_rest from now parted
 
 -- several at once, none of which is a condition
-pub Goes-steps : (none : Type 0) (steps xs : List Step) (i count : ℕ) (whole : Course) (from now mid : List Kept) → Goes none whole from (runs_course (sequence_tree (drop i steps)) count) now → xs ≡ take (length xs) (drop i steps) → Explores (runs_course (sequence_tree xs) count) now mid [] → Goes none whole from (runs_course (sequence_tree (drop (i + length xs) steps)) count) mid
+pub Goes-steps : (none : Type 0) (steps xs : List Step) (i count : ℕ) (whole : Course) (from now mid : List Kept) → Goes none whole from (RunsAll (sequence_tree (drop i steps)) count) now → xs ≡ take (length xs) (drop i steps) → Explores (RunsAll (sequence_tree xs) count) now mid [] → Goes none whole from (RunsAll (sequence_tree (drop (i + length xs) steps)) count) mid
 Goes-steps none steps xs i count whole from now mid w part x = record {
   failed = w.failed;
-  carries = subst (λ (f : List Stopped). Carries whole from (runs_course (sequence_tree (drop (i + length xs) steps)) count) mid [] f) (append-nil w.failed) (Carries-steps steps xs i count whole from now mid w.failed [] w.carries part x);
+  carries = subst (λ (f : List Stopped). Carries whole from (RunsAll (sequence_tree (drop (i + length xs) steps)) count) mid [] f) (append-nil w.failed) (Carries-steps steps xs i count whole from now mid w.failed [] w.carries part x);
   quiet = w.quiet;
 }
 
 -- no step is left
-pub Goes-over : (none : Type 0) (steps : List Step) (i count : ℕ) (whole : Course) (from now : List Kept) → length steps ≤ i → Goes none whole from (runs_course (sequence_tree (drop i steps)) count) now → Continues none whole from now
-Goes-over none steps i count whole from now past w = Goes-end none whole from now (subst (λ (xs : List Step). Goes none whole from (runs_course (sequence_tree xs) count) now) (drop_all i steps past) w)
+pub Goes-over : (none : Type 0) (steps : List Step) (i count : ℕ) (whole : Course) (from now : List Kept) → length steps ≤ i → Goes none whole from (RunsAll (sequence_tree (drop i steps)) count) now → Continues none whole from now
+Goes-over none steps i count whole from now past w = Goes-end none whole from now (subst (λ (xs : List Step). Goes none whole from (RunsAll (sequence_tree xs) count) now) (drop_all i steps past) w)
 
 -- ---- one component after another
 
-module _ (none : Type 0) (cmd : CommandTree) (count p : ℕ) (cs : List ℕ) (i c : ℕ) (lt : i < length cs) (is : c ≡ get_or cs i c) (whole : Course) (from now : List Kept) (w : Goes none whole from (each_course cmd count p (drop i cs)) now) where
+module _ (none : Type 0) (cmd : CommandTree) (count p : ℕ) (cs : List ℕ) (i c : ℕ) (lt : i < length cs) (is : c ≡ get_or cs i c) (whole : Course) (from now : List Kept) (w : Goes none whole from (AtEach cmd count p (drop i cs)) now) where
   abbrev at_first : Course
   at_first = At cmd count p c
 
   abbrev at_rest : Course
-  at_rest = each_course cmd count p (drop (i + 1) cs)
+  at_rest = AtEach cmd count p (drop (i + 1) cs)
 
   parted_at : Goes none whole from (then_course at_first at_rest) now
   parted_at =
-      subst (λ (d : ℕ). Goes none whole from (then_course (At cmd count p d) at_rest) now) (sym is) (subst (λ (xs : List ℕ). Goes none whole from (each_course cmd count p xs) now) (drop_more cs i c lt) w)
+      subst (λ (d : ℕ). Goes none whole from (then_course (At cmd count p d) at_rest) now) (sym is) (subst (λ (xs : List ℕ). Goes none whole from (AtEach cmd count p xs) now) (drop_more cs i c lt) w)
 
   pub Goes-at : (mid : List Kept) → Continues none at_first now mid → Goes none whole from at_rest mid
   Goes-at mid x = Goes-then none whole at_first at_rest from now parted_at none mid (λ n. n) x
@@ -127,5 +127,5 @@ module _ (none : Type 0) (cmd : CommandTree) (count p : ℕ) (cs : List ℕ) (i 
   Goes-at_stops = Goes-halts none whole at_first at_rest from now parted_at
 
 -- no component is left
-pub Goes-at_over : (none : Type 0) (cmd : CommandTree) (count p : ℕ) (cs : List ℕ) (i : ℕ) (whole : Course) (from now : List Kept) → length cs ≤ i → Goes none whole from (each_course cmd count p (drop i cs)) now → Continues none whole from now
-Goes-at_over none cmd count p cs i whole from now past w = Goes-end none whole from now (subst (λ (xs : List ℕ). Goes none whole from (each_course cmd count p xs) now) (drop_all i cs past) w)
+pub Goes-at_over : (none : Type 0) (cmd : CommandTree) (count p : ℕ) (cs : List ℕ) (i : ℕ) (whole : Course) (from now : List Kept) → length cs ≤ i → Goes none whole from (AtEach cmd count p (drop i cs)) now → Continues none whole from now
+Goes-at_over none cmd count p cs i whole from now past w = Goes-end none whole from now (subst (λ (xs : List ℕ). Goes none whole from (AtEach cmd count p xs) now) (drop_all i cs past) w)

@@ -1,27 +1,22 @@
 -- The states each directive adds.
-use Rattle.std.proofs.Common.{◌≡◌, ℕ, true, false, List, [], ◌∷◌, ◌++◌, Option, Some, None, refl, sym, ap, ◌∙◌, subst, append_assoc, inl, inr, rules}
+use Rattle.std.proofs.Common.{◌≡◌, ℕ, Bool, true, false, List, [], ◌∷◌, ◌++◌, Option, Some, None, refl, sym, ap, ◌∙◌, subst, inl, inr, rules}
 use Rattle.std.specs.Prelude.{◌⊎◌, is_some, IsTrue}
 use Rattle.std.proofs.lemmas.List.{append-nil}
 use Rattle.suit_params.specs.declared.digest.Digest.{Digest}
 use Rattle.suit_params.specs.declared.param.Param.{Param}
-use Rattle.suit_params.specs.declared.param.ParamKey.{ParamKey}
 use Rattle.suit_params.specs.declared.param.ParamKey.TheVariants as keys
 use Rattle.suit_params.specs.InForce.{Parameters, in_force, with_param, overridden, number_of, bytes_of, digest_in, size_in}
-use Rattle.suit_commands.specs.declared.kinds.ActKind.{ActKind}
 use Rattle.suit_commands.specs.declared.kinds.ActKind.TheVariants as acts
 use Rattle.path_model.specs.declared.event.Event.{Event}
 use Rattle.path_model.specs.declared.event.Event.TheVariants.{Set, Wrote, Invoked, Failed}
 use Rattle.path_model.specs.Behaviour.{State, Ending, Done, Directive}
-use Rattle.path_model.specs.Directives.{Writes, Acts, Overrides, set_events, soft_after, after_override}
+use Rattle.path_model.specs.Directives.{Writes, Overrides, set_events, soft_after, after_override}
 use Rattle.path_model.specs.Safe.{IsCovered, HasMatched}
 use Rattle.path_model.specs.Following.{CoveredFrom}
-use Rattle.path_checker.specs.Exploring.{Course, Kept, Failures, Uncovers, Adds}
-use Rattle.path_checker.specs.Steps.{with_events, soft_after_all}
+use Rattle.path_checker.specs.Exploring.{Course, Kept, Failures, Explores, Uncovers, Adds, kept_if}
+use Rattle.path_checker.specs.Steps.{with_events, soft_after_all, ActsAt}
 use Rattle.path_checker.proofs.Keeping.{after_none}
 use Rattle.path_checker.proofs.Leaves.{Only, Either, Same, Explores-same, Explores-done, Explores-ends, Explores-either}
-
-abbrev pub acts_course : ActKind → ℕ → ℕ → Course
-acts_course kind p c ids = Acts kind p c
 
 -- ---- directives that write
 
@@ -41,81 +36,48 @@ no_writes_at : {A : Type 0} (p : ℕ) (k : Kept) (o : Option A) (written : A →
 no_writes_at p k (Some a) written none = absurd cc
 no_writes_at p k None written none = record { there = λ ids al es e r. r; back = λ ids al es e r. r }
 
-Adds-writing : (course : Course) (p : ℕ) (k : Kept) (events : List Event) (n n' : List Kept) → Same k (writing p k events) course → CoveredFrom k.events events → CoveredFrom k.events (events ++ Failed p ∷ []) → n' ≡ n ++ with_events k events ∷ [] → (f : Failures) → Adds course (k ∷ []) n n' f f
-Adds-writing course p k events n n' same fine fine_failed pushed f = record {
-  done = with_events k events ∷ [];
-  failed = [];
-  next_is = pushed;
-  failed_is = sym (after_none f);
-  explores = Explores-same k (writing p k events) course (with_events k events ∷ []) [] same
-      (Explores-either (Only events (Done k.state)) (Only (events ++ Failed p ∷ []) (Directive p)) k (with_events k events ∷ []) [] [] [] (Explores-done k events k.state fine) (Explores-ends k (events ++ Failed p ∷ []) p fine_failed));
-}
+-- a directive that writes, with its parameter or without
+Explores-writes : {A : Type 0} (course : Course) (p : ℕ) (k : Kept) (o : Option A) (written : A → List Event) (events : List Event) (has : Bool) → Same k (λ ids s. Writes p o written k.state) course → has ≡ is_some o → ((a : A) → o ≡ Some a → written a ≡ events)
+    → CoveredFrom k.events events → CoveredFrom k.events (events ++ Failed p ∷ []) → Explores course (k ∷ []) (kept_if has (with_events k events)) []
+Explores-writes course p k o written events true same some is fine fine_failed =
+    Explores-same k (λ ids s. Writes p o written k.state) course (with_events k events ∷ []) [] same
+    (Explores-same k (writing p k events) (λ ids s. Writes p o written k.state) (with_events k events ∷ []) [] (writes_at p k o written events (sym some) is)
+    (Explores-either (Only events (Done k.state)) (Only (events ++ Failed p ∷ []) (Directive p)) k (with_events k events ∷ []) [] [] [] (Explores-done k events k.state fine) (Explores-ends k (events ++ Failed p ∷ []) p fine_failed)))
+Explores-writes course p k o written events false same none is fine fine_failed =
+    Explores-same k (λ ids s. Writes p o written k.state) course [] [] same
+    (Explores-same k (Only (Failed p ∷ []) (Directive p)) (λ ids s. Writes p o written k.state) [] [] (no_writes_at p k o written (sym none)) (Explores-ends k (Failed p ∷ []) p (tt, tt)))
 
-Adds-ended : (course : Course) (p : ℕ) (k : Kept) (n : List Kept) → Same k (Only (Failed p ∷ []) (Directive p)) course → (f : Failures) → Adds course (k ∷ []) n n f f
-Adds-ended course p k n same f = record {
-  done = [];
-  failed = [];
-  next_is = sym (append-nil n);
-  failed_is = sym (after_none f);
-  explores = Explores-same k (Only (Failed p ∷ []) (Directive p)) course [] [] same (Explores-ends k (Failed p ∷ []) p (tt, tt));
-}
+-- one that writes the component alone
+Explores-written : {A : Type 0} (course : Course) (p c : ℕ) (k to : Kept) (parameter : Parameters → Option A) (ps : Parameters) (has on : Bool) → Same k (λ ids s. Writes p (parameter k.state.parameters) (λ a. Wrote c ∷ []) k.state) course
+    → ps ≡ k.state.parameters → has ≡ is_some (parameter ps) → kept_if on to ≡ kept_if has (with_events k (Wrote c ∷ [])) → Explores course (k ∷ []) (kept_if on to) []
+Explores-written course p c k to parameter ps has on is same some made =
+    subst (λ (ks : List Kept). Explores course (k ∷ []) ks []) (sym made)
+    (Explores-writes course p k (parameter k.state.parameters) (λ a. Wrote c ∷ []) (Wrote c ∷ []) has is (subst (λ (q : Parameters). has ≡ is_some (parameter q)) same some) (λ a e. refl) (tt, tt) (tt, (tt, tt)))
 
--- one that writes where bytes are in force under a key
-abbrev writes_bytes : ParamKey → ℕ → ℕ → Kept → Course
-writes_bytes key p c k ids s = Writes p (bytes_of (in_force k.state.parameters c key)) (λ bytes. Wrote c ∷ []) k.state
+pub Explores-write : (p c : ℕ) (k to : Kept) (ps : Parameters) (has on : Bool) → ps ≡ k.state.parameters → has ≡ is_some (bytes_of (in_force ps c keys.Content)) → kept_if on to ≡ kept_if has (with_events k (Wrote c ∷ [])) → Explores (ActsAt acts.Write p c) (k ∷ []) (kept_if on to) []
+Explores-write p c k to ps has on = Explores-written (ActsAt acts.Write p c) p c k to (λ q. bytes_of (in_force q c keys.Content)) ps has on (record { there = λ ids al es e r. r; back = λ ids al es e r. r })
 
-Adds-bytes : (course : Course) (key : ParamKey) (p c : ℕ) (k : Kept) (ps : Parameters) (n n' : List Kept) → Same k (writes_bytes key p c k) course → ps ≡ k.state.parameters → is_some (bytes_of (in_force ps c key)) ≡ true → n' ≡ n ++ with_events k (Wrote c ∷ []) ∷ [] → (f : Failures) → Adds course (k ∷ []) n n' f f
-Adds-bytes course key p c k ps n n' is same some pushed =
-    let s = writes_at p k (bytes_of (in_force k.state.parameters c key)) (λ bytes. Wrote c ∷ []) (Wrote c ∷ []) (subst (λ (q : Parameters). is_some (bytes_of (in_force q c key)) ≡ true) same some) (λ a e. refl) in
-    Adds-writing course p k (Wrote c ∷ []) n n' (record { there = λ ids al es e r. is.there ids al es e (s.there ids al es e r); back = λ ids al es e r. s.back ids al es e (is.back ids al es e r) }) (tt, tt) (tt, (tt, tt)) pushed
+pub Explores-fetch : (p c : ℕ) (k to : Kept) (ps : Parameters) (has on : Bool) → ps ≡ k.state.parameters → has ≡ is_some (bytes_of (in_force ps c keys.Uri)) → kept_if on to ≡ kept_if has (with_events k (Wrote c ∷ [])) → Explores (ActsAt acts.Fetch p c) (k ∷ []) (kept_if on to) []
+Explores-fetch p c k to ps has on = Explores-written (ActsAt acts.Fetch p c) p c k to (λ q. bytes_of (in_force q c keys.Uri)) ps has on (record { there = λ ids al es e r. r; back = λ ids al es e r. r })
 
-Adds-no_bytes : (course : Course) (key : ParamKey) (p c : ℕ) (k : Kept) (ps : Parameters) (n : List Kept) → Same k (writes_bytes key p c k) course → ps ≡ k.state.parameters → is_some (bytes_of (in_force ps c key)) ≡ false → (f : Failures) → Adds course (k ∷ []) n n f f
-Adds-no_bytes course key p c k ps n is same none =
-    let s = no_writes_at p k (bytes_of (in_force k.state.parameters c key)) (λ bytes. Wrote c ∷ []) (subst (λ (q : Parameters). is_some (bytes_of (in_force q c key)) ≡ false) same none) in
-    Adds-ended course p k n (record { there = λ ids al es e r. is.there ids al es e (s.there ids al es e r); back = λ ids al es e r. s.back ids al es e (is.back ids al es e r) })
-
-pub Adds-write : (p c : ℕ) (k : Kept) (ps : Parameters) (n n' : List Kept) → ps ≡ k.state.parameters → is_some (bytes_of (in_force ps c keys.Content)) ≡ true → n' ≡ n ++ with_events k (Wrote c ∷ []) ∷ [] → (f : Failures) → Adds (acts_course acts.Write p c) (k ∷ []) n n' f f
-Adds-write p c k ps n n' = Adds-bytes (acts_course acts.Write p c) keys.Content p c k ps n n' (record { there = λ ids al es e r. r; back = λ ids al es e r. r })
-
-pub Adds-no_write : (p c : ℕ) (k : Kept) (ps : Parameters) (n : List Kept) → ps ≡ k.state.parameters → is_some (bytes_of (in_force ps c keys.Content)) ≡ false → (f : Failures) → Adds (acts_course acts.Write p c) (k ∷ []) n n f f
-Adds-no_write p c k ps n = Adds-no_bytes (acts_course acts.Write p c) keys.Content p c k ps n (record { there = λ ids al es e r. r; back = λ ids al es e r. r })
-
-pub Adds-fetch : (p c : ℕ) (k : Kept) (ps : Parameters) (n n' : List Kept) → ps ≡ k.state.parameters → is_some (bytes_of (in_force ps c keys.Uri)) ≡ true → n' ≡ n ++ with_events k (Wrote c ∷ []) ∷ [] → (f : Failures) → Adds (acts_course acts.Fetch p c) (k ∷ []) n n' f f
-Adds-fetch p c k ps n n' = Adds-bytes (acts_course acts.Fetch p c) keys.Uri p c k ps n n' (record { there = λ ids al es e r. r; back = λ ids al es e r. r })
-
-pub Adds-no_fetch : (p c : ℕ) (k : Kept) (ps : Parameters) (n : List Kept) → ps ≡ k.state.parameters → is_some (bytes_of (in_force ps c keys.Uri)) ≡ false → (f : Failures) → Adds (acts_course acts.Fetch p c) (k ∷ []) n n f f
-Adds-no_fetch p c k ps n = Adds-no_bytes (acts_course acts.Fetch p c) keys.Uri p c k ps n (record { there = λ ids al es e r. r; back = λ ids al es e r. r })
-
-pub Adds-copy : (p c source : ℕ) (k : Kept) (ps : Parameters) (n n' : List Kept) → ps ≡ k.state.parameters → Some source ≡ number_of (in_force ps c keys.Source) → n' ≡ n ++ with_events k (Wrote c ∷ []) ∷ [] → (f : Failures) → Adds (acts_course acts.Copy p c) (k ∷ []) n n' f f
-Adds-copy p c source k ps n n' same some pushed =
-    let some' : Some source ≡ number_of (in_force k.state.parameters c keys.Source) = subst (λ (q : Parameters). Some source ≡ number_of (in_force q c keys.Source)) same some in
-    let s = writes_at p k (number_of (in_force k.state.parameters c keys.Source)) (λ source. Wrote c ∷ []) (Wrote c ∷ []) (subst (λ (o : Option ℕ). is_some o ≡ true) some' refl) (λ a e. refl) in
-    Adds-writing (acts_course acts.Copy p c) p k (Wrote c ∷ []) n n' (record { there = s.there; back = s.back }) (tt, tt) (tt, (tt, tt)) pushed
-
-pub Adds-no_copy : (p c : ℕ) (k : Kept) (ps : Parameters) (n : List Kept) → ps ≡ k.state.parameters → None ≡ number_of (in_force ps c keys.Source) → (f : Failures) → Adds (acts_course acts.Copy p c) (k ∷ []) n n f f
-Adds-no_copy p c k ps n same none =
-    let none' : None ≡ number_of (in_force k.state.parameters c keys.Source) = subst (λ (q : Parameters). None ≡ number_of (in_force q c keys.Source)) same none in
-    let s = no_writes_at p k (number_of (in_force k.state.parameters c keys.Source)) (λ source. Wrote c ∷ []) (subst (λ (o : Option ℕ). is_some o ≡ false) none' refl) in
-    Adds-ended (acts_course acts.Copy p c) p k n (record { there = s.there; back = s.back })
+pub Explores-copy : (p c : ℕ) (k to : Kept) (ps : Parameters) (has on : Bool) → ps ≡ k.state.parameters → has ≡ is_some (number_of (in_force ps c keys.Source)) → kept_if on to ≡ kept_if has (with_events k (Wrote c ∷ [])) → Explores (ActsAt acts.Copy p c) (k ∷ []) (kept_if on to) []
+Explores-copy p c k to ps has on = Explores-written (ActsAt acts.Copy p c) p c k to (λ q. number_of (in_force q c keys.Source)) ps has on (record { there = λ ids al es e r. r; back = λ ids al es e r. r })
 
 same_number : (a b : ℕ) → ◌≡◌ {A = Option ℕ} (Some a) (Some b) → a ≡ b
 same_number a b e = cc
 
-pub Adds-swap : (p c source : ℕ) (k : Kept) (ps : Parameters) (n n' : List Kept) → ps ≡ k.state.parameters → Some source ≡ number_of (in_force ps c keys.Source) → n' ≡ n ++ with_events k (Wrote c ∷ Wrote source ∷ []) ∷ []
-    → (f : Failures) → Adds (acts_course acts.Swap p c) (k ∷ []) n n' f f
-Adds-swap p c source k ps n n' same some pushed =
-    let both : List Event = Wrote c ∷ Wrote source ∷ [] in
+pub Explores-swap : (p c source : ℕ) (k to : Kept) (ps : Parameters) → ps ≡ k.state.parameters → Some source ≡ number_of (in_force ps c keys.Source) → to ≡ with_events k (Wrote c ∷ Wrote source ∷ []) → Explores (ActsAt acts.Swap p c) (k ∷ []) (to ∷ []) []
+Explores-swap p c source k to ps same some made =
     let some' : Some source ≡ number_of (in_force k.state.parameters c keys.Source) = subst (λ (q : Parameters). Some source ≡ number_of (in_force q c keys.Source)) same some in
-    let s = writes_at p k (number_of (in_force k.state.parameters c keys.Source)) (λ source. Wrote c ∷ Wrote source ∷ []) both (subst (λ (o : Option ℕ). is_some o ≡ true) some' refl)
-    (λ a e. ap (λ (x : ℕ). Wrote c ∷ Wrote x ∷ []) (same_number a source (sym e ∙ sym some')))
-    in
-    Adds-writing (acts_course acts.Swap p c) p k both n n' (record { there = s.there; back = s.back }) (tt, (tt, tt)) (tt, (tt, (tt, tt))) pushed
+    subst (λ (x : Kept). Explores (ActsAt acts.Swap p c) (k ∷ []) (x ∷ []) []) (sym made)
+    (Explores-writes (ActsAt acts.Swap p c) p k (number_of (in_force k.state.parameters c keys.Source)) (λ source. Wrote c ∷ Wrote source ∷ []) (Wrote c ∷ Wrote source ∷ []) true (record { there = λ ids al es e r. r; back = λ ids al es e r. r }) (ap (λ (o : Option ℕ). is_some o) some')
+    (λ a e. ap (λ (x : ℕ). Wrote c ∷ Wrote x ∷ []) (same_number a source (sym e ∙ sym some'))) (tt, (tt, tt)) (tt, (tt, (tt, tt))))
 
-pub Adds-no_swap : (p c : ℕ) (k : Kept) (ps : Parameters) (n : List Kept) → ps ≡ k.state.parameters → None ≡ number_of (in_force ps c keys.Source) → (f : Failures) → Adds (acts_course acts.Swap p c) (k ∷ []) n n f f
-Adds-no_swap p c k ps n same none =
+pub Explores-no_swap : (p c : ℕ) (k : Kept) (ps : Parameters) → ps ≡ k.state.parameters → None ≡ number_of (in_force ps c keys.Source) → Explores (ActsAt acts.Swap p c) (k ∷ []) [] []
+Explores-no_swap p c k ps same none =
     let none' : None ≡ number_of (in_force k.state.parameters c keys.Source) = subst (λ (q : Parameters). None ≡ number_of (in_force q c keys.Source)) same none in
     let s = no_writes_at p k (number_of (in_force k.state.parameters c keys.Source)) (λ source. Wrote c ∷ Wrote source ∷ []) (subst (λ (o : Option ℕ). is_some o ≡ false) none' refl) in
-    Adds-ended (acts_course acts.Swap p c) p k n (record { there = s.there; back = s.back })
+    Explores-same k (Only (Failed p ∷ []) (Directive p)) (ActsAt acts.Swap p c) [] [] (record { there = s.there; back = s.back }) (Explores-ends k (Failed p ∷ []) p (tt, tt))
 
 -- ---- invoke
 
@@ -123,7 +85,7 @@ abbrev InvokesAs : ℕ → ℕ → Option Digest → Option ℕ → State → Li
 InvokesAs p c o z s es e = ((es ≡ Invoked c o z true ∷ []) × (e ≡ Done s)) ⊎ ((es ≡ Invoked c o z false ∷ Failed p ∷ []) × (e ≡ Directive p))
 
 pub Adds-invoke : (p c : ℕ) (k to : Kept) (ps : Parameters) (d : Digest) (s : Option ℕ) (n n' : List Kept) → ps ≡ k.state.parameters → Some d ≡ digest_in ps c → s ≡ size_in ps c → HasMatched k.events c d s → to ≡ with_events k (Invoked c (Some d) s true ∷ []) → n' ≡ n ++ to ∷ []
-    → (f : Failures) → Adds (acts_course acts.Invoke p c) (k ∷ []) n n' f f
+    → (f : Failures) → Adds (ActsAt acts.Invoke p c) (k ∷ []) n n' f f
 Adds-invoke p c k to ps d s n n' same some size matched is pushed f =
     let d-is : Some d ≡ digest_in k.state.parameters c = subst (λ (q : Parameters). Some d ≡ digest_in q c) same some in
     let s-is : s ≡ size_in k.state.parameters c = subst (λ (q : Parameters). s ≡ size_in q c) same size in
@@ -134,7 +96,7 @@ Adds-invoke p c k to ps d s n n' same some size matched is pushed f =
       failed = [];
       next_is = subst (λ (x : Kept). n' ≡ n ++ x ∷ []) is pushed;
       failed_is = sym (after_none f);
-      explores = Explores-same k (Either (Only ok (Done k.state)) (Only bad (Directive p))) (acts_course acts.Invoke p c) (with_events k ok ∷ []) []
+      explores = Explores-same k (Either (Only ok (Done k.state)) (Only bad (Directive p))) (ActsAt acts.Invoke p c) (with_events k ok ∷ []) []
           (record {
             there = λ ids al es e r. subst (λ (o : Option Digest). InvokesAs p c o (size_in k.state.parameters c) k.state es e) d-is (subst (λ (z : Option ℕ). InvokesAs p c (Some d) z k.state es e) s-is r);
             back = λ ids al es e r. subst (λ (z : Option ℕ). InvokesAs p c (Some d) z k.state es e) (sym s-is) (subst (λ (o : Option Digest). InvokesAs p c o (size_in k.state.parameters c) k.state es e) (sym d-is) r);
@@ -142,11 +104,11 @@ Adds-invoke p c k to ps d s n n' same some size matched is pushed f =
           (Explores-either (Only ok (Done k.state)) (Only bad (Directive p)) k (with_events k ok ∷ []) [] [] [] (Explores-done k ok k.state (matched, tt)) (Explores-ends k bad p (matched, (tt, tt))));
     }
 
-pub Uncovers-invoke : (p c : ℕ) (k to : Kept) (ps : Parameters) (o : Option Digest) (s : Option ℕ) → ps ≡ k.state.parameters → o ≡ digest_in ps c → s ≡ size_in ps c → (IsCovered k.events (Invoked c o s false) → ⊥) → to ≡ with_events k (Invoked c o s false ∷ []) → Uncovers (acts_course acts.Invoke p c) (k ∷ []) to.facts to.events
+pub Uncovers-invoke : (p c : ℕ) (k to : Kept) (ps : Parameters) (o : Option Digest) (s : Option ℕ) → ps ≡ k.state.parameters → o ≡ digest_in ps c → s ≡ size_in ps c → (IsCovered k.events (Invoked c o s false) → ⊥) → to ≡ with_events k (Invoked c o s false ∷ []) → Uncovers (ActsAt acts.Invoke p c) (k ∷ []) to.facts to.events
 Uncovers-invoke p c k to ps o s same is_o size bad is =
     let o-is : o ≡ digest_in k.state.parameters c = subst (λ (q : Parameters). o ≡ digest_in q c) same is_o in
     let s-is : s ≡ size_in k.state.parameters c = subst (λ (q : Parameters). s ≡ size_in q c) same size in
-    subst (λ (x : Kept). Uncovers (acts_course acts.Invoke p c) (k ∷ []) x.facts x.events) (sym is) (
+    subst (λ (x : Kept). Uncovers (ActsAt acts.Invoke p c) (k ∷ []) x.facts x.events) (sym is) (
       k,
       inl refl,
       record {

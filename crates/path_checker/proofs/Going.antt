@@ -19,13 +19,14 @@ use Rattle.path_checker.specs.Halting.{Halts}
 use Rattle.path_checker.specs.Invoking.{AreQuiet, Covers}
 use Rattle.path_checker.specs.Procedures.{FromStart, FromThird, FromSecond, ThirdInvokes, SecondInvokes}
 use Rattle.path_checker.specs.Rests.{RunsRest}
+use Rattle.path_checker.specs.Steps.{RunsAll}
 use Rattle.path_checker.proofs.Carrying.{nothing_course, Explores-nothing}
 use Rattle.path_checker.proofs.Exploring.{then_course}
 use Rattle.path_checker.proofs.Membership.{In-left, In-right, In-cases}
 use Rattle.path_checker.proofs.Quiet.{IsSilent, quiet_covered}
 use Rattle.path_checker.proofs.Starting.{Covers-then, third_silent, second_silent}
 use Rattle.path_checker.proofs.Uncovering.{Uncovered-lift, Uncovers-first, Uncovers-second}
-use Rattle.path_checker.proofs.Walking.{Halts-lift, runs_course, does_course, rest-is}
+use Rattle.path_checker.proofs.Walking.{Halts-lift, does_course, rest-is}
 
 -- ---- one after another, grouped either way
 
@@ -61,12 +62,12 @@ Covers-none course k i = absurd i
 -- ---- one command after another
 
 module _ (steps : List Step) (i count : ℕ) (step : Step) (lt : i < length steps) (is : step ≡ get_or steps i step) (after whole : Course) (from now : List Kept)
-    (g : GoesOn whole from (then_course (runs_course (sequence_tree (drop i steps)) count) after) now) where
+    (g : GoesOn whole from (then_course (RunsAll (sequence_tree (drop i steps)) count) after) now) where
   abbrev does : Course
   does = does_course (command_tree step.command) count step.place
 
   abbrev rest : Course
-  rest = runs_course (sequence_tree (drop (i + 1) steps)) count
+  rest = RunsAll (sequence_tree (drop (i + 1) steps)) count
 
   parted : GoesOn whole from (then_course (then_course does rest) after) now
   parted =
@@ -89,9 +90,9 @@ module _ (steps : List Step) (i count : ℕ) (step : Step) (lt : i < length step
     uncovers = λ facts events u. parted.uncovers facts events (Uncovers-left does rest after now facts events u);
   }
 
-pub GoesOn-end : (steps : List Step) (i count : ℕ) (after whole : Course) (from now : List Kept) → drop i steps ≡ [] → GoesOn whole from (then_course (runs_course (sequence_tree (drop i steps)) count) after) now → GoesOn whole from after now
+pub GoesOn-end : (steps : List Step) (i count : ℕ) (after whole : Course) (from now : List Kept) → drop i steps ≡ [] → GoesOn whole from (then_course (RunsAll (sequence_tree (drop i steps)) count) after) now → GoesOn whole from after now
 GoesOn-end steps i count after whole from now none g =
-    let at : GoesOn whole from (then_course nothing_course after) now = subst (λ (xs : List Step). GoesOn whole from (then_course (runs_course (sequence_tree xs) count) after) now) none g in
+    let at : GoesOn whole from (then_course nothing_course after) now = subst (λ (xs : List Step). GoesOn whole from (then_course (RunsAll (sequence_tree xs) count) after) now) none g in
     record {
       covers = λ h. at.covers (Covers-then nothing_course after now now ([], Explores-nothing now) h);
       uncovers = λ facts events u. at.uncovers facts events (Uncovers-second nothing_course after now now [] facts events (Explores-nothing now) u);

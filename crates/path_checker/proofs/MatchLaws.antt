@@ -8,15 +8,6 @@ use Rattle.path_checker.proofs.Membership.{In-left, In-right, In-cases}
 
 -- ---- one match more
 
-pub same_again : (m : Match) (xs : List Match) → In m xs → SameMembers xs (m ∷ xs)
-same_again m xs there any = (
-  λ h. inr h,
-  λ h. elim h [
-    | inl e ↦ subst (λ (x : Match). In x xs) e there
-    | inr i ↦ i
-  ],
-)
-
 same_pushed : (m : Match) (xs : List Match) → SameMembers (xs ++ m ∷ []) (m ∷ xs)
 same_pushed m xs any = (
   λ h. elim (In-cases any xs (m ∷ []) h) [

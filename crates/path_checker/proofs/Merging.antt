@@ -14,11 +14,6 @@ use Rattle.path_checker.proofs.Keeping.{none_of, all_kept-append, all_kept-those
 use Rattle.path_checker.proofs.Membership.{In-left, In-right, In-cases}
 use Rattle.path_checker.proofs.Walking.{Walks}
 
--- ---- one after another
-
-pub Merges-all : {A : Type 0} (S : A → A → Type 0) (xs : List A) → ((x : A) → S x x) → Merges S xs xs
-Merges-all S xs self = record { part = λ x i. i; each = λ x i. (x, i, self x) }
-
 -- ---- one after another, from the last one on
 
 -- some are left, and those that are kept stand for the others

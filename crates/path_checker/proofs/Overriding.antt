@@ -2,8 +2,6 @@
 use Rattle.std.proofs.Common.{◌≡◌, ℕ, ◌+◌, ◌-◌, ◌<◌, ◌≤◌, List, [], ◌∷◌, ◌++◌, length, get_or, take, drop, arith, refl, sym, ap, ◌∙◌, subst, append_assoc, inl, inr}
 use Rattle.std.proofs.lemmas.List.{append-nil, take-append-drop, drop-drop, take_more, get_or-drop, length-drop}
 use Rattle.suit_params.specs.declared.param.Param.{Param}
-use Rattle.suit_commands.specs.declared.command.Command.{Command}
-use Rattle.suit_commands.specs.declared.command.Command.TheVariants as commands
 use Rattle.suit_commands.specs.declared.command.Step.{Step}
 use Rattle.suit_commands.specs.Tree.{Test, Act, Index, Override, TryEach, RunSequence, SequenceTree, NoSteps, StepThen}
 use Rattle.suit_commands.specs.View.{sequence_tree, command_tree}
@@ -19,13 +17,14 @@ use Rattle.path_checker.specs.Halting.{Halts}
 use Rattle.path_checker.specs.Happening.{sets_at, sequence_sets}
 use Rattle.path_checker.specs.Overriding.{IsOverride, AreOverrides, overridden_by}
 use Rattle.path_checker.specs.Small.{IsSmallSequence}
+use Rattle.path_checker.specs.Steps.{RunsAll}
 use Rattle.path_checker.proofs.Carrying.{Carries, Carries-then, Explores-nothing}
 use Rattle.path_checker.proofs.Exploring.{then_course, Explores-then}
 use Rattle.path_checker.proofs.Going.{then-left, then-right}
 use Rattle.path_checker.proofs.Leaves.{Same, Explores-same}
 use Rattle.path_checker.proofs.OverridesEach.{set_at, each_override, Explores-set}
 use Rattle.path_checker.proofs.Uncovering.{Uncovered-lift}
-use Rattle.path_checker.proofs.Walking.{Walks, Walks-then, Walks-halt, runs_course, does_course}
+use Rattle.path_checker.proofs.Walking.{Walks, Walks-then, Walks-halt, does_course}
 
 -- one more override at the end
 pub overrides-last : (xs : List Step) (x : Step) → AreOverrides (sequence_tree xs) → IsOverride (command_tree x.command) → AreOverrides (sequence_tree (xs ++ x ∷ []))
@@ -51,18 +50,18 @@ overrides_more steps at end d behind lt all one =
 same_override : (list : List Param) (count p : ℕ) (k : Kept) → Same k (each_override k.state.selection list) (does_course (Override list) count p)
 same_override list count p k = record { there = λ ids al es e r. r; back = λ ids al es e r. r }
 
-pub Explores-overrides : (s : SequenceTree) → AreOverrides s → (count : ℕ) (k : Kept) → Explores (runs_course s count) (k ∷ []) (overridden_by k s ∷ []) []
+pub Explores-overrides : (s : SequenceTree) → AreOverrides s → (count : ℕ) (k : Kept) → Explores (RunsAll s count) (k ∷ []) (overridden_by k s ∷ []) []
 Explores-overrides NoSteps all count k =
-    subst (λ (es : List Event). Explores (runs_course NoSteps count) (k ∷ []) (record { facts = k.facts; events = es; state = k.state } ∷ []) []) (sym (append-nil k.events)) (Explores-nothing (k ∷ []))
+    subst (λ (es : List Event). Explores (RunsAll NoSteps count) (k ∷ []) (record { facts = k.facts; events = es; state = k.state } ∷ []) []) (sym (append-nil k.events)) (Explores-nothing (k ∷ []))
 Explores-overrides (StepThen p (Override list) rest) all count k =
     let one : Kept = set_at k k.state.selection list in
     let first : Explores (does_course (Override list) count p) (k ∷ []) (one ∷ []) [] =
     Explores-same k (each_override k.state.selection list) (does_course (Override list) count p) (one ∷ []) [] (same_override list count p k) (Explores-set list k.state.selection k)
     in
-    let whole : Explores (then_course (does_course (Override list) count p) (runs_course rest count)) (k ∷ []) (overridden_by one rest ∷ []) [] =
-    Explores-then (does_course (Override list) count p) (runs_course rest count) (k ∷ []) (one ∷ []) (overridden_by one rest ∷ []) [] [] first (Explores-overrides rest all.1 count one)
+    let whole : Explores (then_course (does_course (Override list) count p) (RunsAll rest count)) (k ∷ []) (overridden_by one rest ∷ []) [] =
+    Explores-then (does_course (Override list) count p) (RunsAll rest count) (k ∷ []) (one ∷ []) (overridden_by one rest ∷ []) [] [] first (Explores-overrides rest all.1 count one)
     in
-    subst (λ (es : List Event). Explores (runs_course (StepThen p (Override list) rest) count) (k ∷ []) (record { facts = k.facts; events = es; state = (overridden_by one rest).state } ∷ []) []) (append_assoc k.events (sets_at k.state.selection list) (sequence_sets rest k.state.selection)) whole
+    subst (λ (es : List Event). Explores (RunsAll (StepThen p (Override list) rest) count) (k ∷ []) (record { facts = k.facts; events = es; state = (overridden_by one rest).state } ∷ []) []) (append_assoc k.events (sets_at k.state.selection list) (sequence_sets rest k.state.selection)) whole
 Explores-overrides (StepThen p (Test kind report) rest) all count k = absurd all.0
 Explores-overrides (StepThen p (Act kind report) rest) all count k = absurd all.0
 Explores-overrides (StepThen p (Index selection) rest) all count k = absurd all.0
@@ -109,10 +108,10 @@ module _ (a b : Course) (there : (ids : List Identity) (s : State) (es : List Ev
 
 module _ (xs ys : List Step) (count : ℕ) where
   abbrev parts : Course
-  parts = then_course (runs_course (sequence_tree xs) count) (runs_course (sequence_tree ys) count)
+  parts = then_course (RunsAll (sequence_tree xs) count) (RunsAll (sequence_tree ys) count)
 
   abbrev all_steps : Course
-  all_steps = runs_course (sequence_tree (xs ++ ys)) count
+  all_steps = RunsAll (sequence_tree (xs ++ ys)) count
 
   pub Carries-parted : (whole : Course) (from now done : List Kept) (failed : List Stopped) → Carries whole from all_steps now done failed → Carries whole from parts now done failed
   Carries-parted whole from now done failed w =
@@ -131,28 +130,28 @@ both_parts steps xs i part =
     sym (take-append-drop (length xs) (drop i steps)) ∙ ap (λ (t : List Step). t ++ drop (length xs) (drop i steps)) (sym part) ∙ ap (λ (t : List Step). xs ++ t) (drop-drop (length xs) i steps)
 
 -- the next steps of a walk at once, where none of their failed conditions is kept
-pub Walks-steps : (steps xs : List Step) (i count : ℕ) (whole : Course) (from now mid : List Kept) (failed0 failed : Failures) (f : List Stopped) → Walks whole from failed0 (runs_course (sequence_tree (drop i steps)) count) now failed → xs ≡ take (length xs) (drop i steps) → Explores (runs_course (sequence_tree xs) count) now mid f → failed ≡ after_stops failed f → Walks whole from failed0 (runs_course (sequence_tree (drop (i + length xs) steps)) count) mid failed
+pub Walks-steps : (steps xs : List Step) (i count : ℕ) (whole : Course) (from now mid : List Kept) (failed0 failed : Failures) (f : List Stopped) → Walks whole from failed0 (RunsAll (sequence_tree (drop i steps)) count) now failed → xs ≡ take (length xs) (drop i steps) → Explores (RunsAll (sequence_tree xs) count) now mid f → failed ≡ after_stops failed f → Walks whole from failed0 (RunsAll (sequence_tree (drop (i + length xs) steps)) count) mid failed
 Walks-steps steps xs i count whole from now mid failed0 failed f w part x same =
     let ys : List Step = drop (i + length xs) steps in
     let both : drop i steps ≡ xs ++ ys = both_parts steps xs i part in
-    let w' = Walks-parted xs ys count whole from now failed0 failed (subst (λ (t : List Step). Walks whole from failed0 (runs_course (sequence_tree t) count) now failed) both w) in
-    Walks-then whole (runs_course (sequence_tree xs) count) (runs_course (sequence_tree ys) count) from now mid failed0 failed failed w' (record { done = mid; failed = f; next_is = refl; failed_is = same; explores = x })
+    let w' = Walks-parted xs ys count whole from now failed0 failed (subst (λ (t : List Step). Walks whole from failed0 (RunsAll (sequence_tree t) count) now failed) both w) in
+    Walks-then whole (RunsAll (sequence_tree xs) count) (RunsAll (sequence_tree ys) count) from now mid failed0 failed failed w' (record { done = mid; failed = f; next_is = refl; failed_is = same; explores = x })
 
 -- the next steps of a walk halt
-pub Walks-halted : (steps xs : List Step) (i count : ℕ) (whole : Course) (from now : List Kept) (failed0 failed : Failures) → Walks whole from failed0 (runs_course (sequence_tree (drop i steps)) count) now failed → xs ≡ take (length xs) (drop i steps) → (h : Halt) → Halts (runs_course (sequence_tree xs) count) now h → Halts whole from h
+pub Walks-halted : (steps xs : List Step) (i count : ℕ) (whole : Course) (from now : List Kept) (failed0 failed : Failures) → Walks whole from failed0 (RunsAll (sequence_tree (drop i steps)) count) now failed → xs ≡ take (length xs) (drop i steps) → (h : Halt) → Halts (RunsAll (sequence_tree xs) count) now h → Halts whole from h
 Walks-halted steps xs i count whole from now failed0 failed w part h u =
     let ys : List Step = drop (i + length xs) steps in
     let both : drop i steps ≡ xs ++ ys = both_parts steps xs i part in
-    let w' = Walks-parted xs ys count whole from now failed0 failed (subst (λ (t : List Step). Walks whole from failed0 (runs_course (sequence_tree t) count) now failed) both w) in
-    Walks-halt whole (runs_course (sequence_tree xs) count) (runs_course (sequence_tree ys) count) from now failed0 failed w' h u
+    let w' = Walks-parted xs ys count whole from now failed0 failed (subst (λ (t : List Step). Walks whole from failed0 (RunsAll (sequence_tree t) count) now failed) both w) in
+    Walks-halt whole (RunsAll (sequence_tree xs) count) (RunsAll (sequence_tree ys) count) from now failed0 failed w' h u
 
 -- the next steps of a state at once
-pub Carries-steps : (steps xs : List Step) (i count : ℕ) (whole : Course) (from now mid : List Kept) (failed f : List Stopped) → Carries whole from (runs_course (sequence_tree (drop i steps)) count) now [] failed → xs ≡ take (length xs) (drop i steps) → Explores (runs_course (sequence_tree xs) count) now mid f → Carries whole from (runs_course (sequence_tree (drop (i + length xs) steps)) count) mid [] (failed ++ f)
+pub Carries-steps : (steps xs : List Step) (i count : ℕ) (whole : Course) (from now mid : List Kept) (failed f : List Stopped) → Carries whole from (RunsAll (sequence_tree (drop i steps)) count) now [] failed → xs ≡ take (length xs) (drop i steps) → Explores (RunsAll (sequence_tree xs) count) now mid f → Carries whole from (RunsAll (sequence_tree (drop (i + length xs) steps)) count) mid [] (failed ++ f)
 Carries-steps steps xs i count whole from now mid failed f w part x =
     let ys : List Step = drop (i + length xs) steps in
     let both : drop i steps ≡ xs ++ ys = both_parts steps xs i part in
-    let w' = Carries-parted xs ys count whole from now [] failed (subst (λ (t : List Step). Carries whole from (runs_course (sequence_tree t) count) now [] failed) both w) in
-    Carries-then whole (runs_course (sequence_tree xs) count) (runs_course (sequence_tree ys) count) from now mid [] failed f w' x
+    let w' = Carries-parted xs ys count whole from now [] failed (subst (λ (t : List Step). Carries whole from (RunsAll (sequence_tree t) count) now [] failed) both w) in
+    Carries-then whole (RunsAll (sequence_tree xs) count) (RunsAll (sequence_tree ys) count) from now mid [] failed f w' x
 
 -- the rest of a small sequence
 pub small_rest : (count : ℕ) (xs ys : List Step) → IsSmallSequence count (sequence_tree (xs ++ ys)) → IsSmallSequence count (sequence_tree ys)

@@ -7,19 +7,18 @@ use Rattle.std.proofs.lemmas.List.{append-nil}
 use Rattle.suit_commands.specs.declared.command.Command.{Command}
 use Rattle.suit_commands.specs.declared.command.Command.TheVariants as commands
 use Rattle.suit_commands.specs.declared.selection.Selection.{Selection}
-use Rattle.suit_commands.specs.Selections.{selected_by}
 use Rattle.suit_commands.specs.Tree.{CommandTree, Index}
 use Rattle.suit_commands.specs.View.{command_tree}
 use Rattle.path_model.specs.declared.identity.Identity.{Identity}
 use Rattle.path_model.specs.declared.event.Event.{Event}
-use Rattle.path_model.specs.Behaviour.{State, Ending, Done, Directive, Each}
+use Rattle.path_model.specs.Behaviour.{State, Ending, Done, Directive}
 use Rattle.path_model.specs.Following.{CoveredFrom, SameMatches}
 use Rattle.path_model.proofs.Following.{same_matches}
 use Rattle.path_model.proofs.RunLaws.{at_sole, of_sole}
 use Rattle.path_checker.specs.declared.judge_plan.facts.Knowledge.{Knowledge}
 use Rattle.path_checker.specs.declared.judge_plan.halt.Halt.{Halt}
 use Rattle.path_checker.specs.Exploring.{Course, In, Kept, Stopped, Failures, after_stops, Found, Reaches, Explores, Uncovers, Uncovered, Adds}
-use Rattle.path_checker.specs.Steps.{At, with_selection}
+use Rattle.path_checker.specs.Steps.{At, AtEach}
 use Rattle.path_checker.specs.Halting.{Halts}
 use Rattle.path_checker.proofs.Membership.{In-right}
 use Rattle.path_checker.proofs.Exploring.{then_course, Explores-none, Explores-one}
@@ -98,17 +97,14 @@ none_left (x ∷ xs) h = absurd (h (omega arith))
 
 -- ---- a command is its parts at each component that is selected
 
-abbrev pub each_course : CommandTree → ℕ → ℕ → List ℕ → Course
-each_course cmd count p cs ids = Each (λ c. At cmd count p c ids) cs
-
 -- with one component selected, the command is done at that one
-pub each_sole : (cmd : CommandTree) (count p c : ℕ) (k : Kept) → k.state.selection ≡ c ∷ [] → Same k (At cmd count p c) (each_course cmd count p k.state.selection)
+pub each_sole : (cmd : CommandTree) (count p c : ℕ) (k : Kept) → k.state.selection ≡ c ∷ [] → Same k (At cmd count p c) (AtEach cmd count p k.state.selection)
 each_sole cmd count p c k sole = record {
   there = λ ids al es e r. at_sole (λ d. At cmd count p d ids) c k.state es e sole r;
   back = λ ids al es e r. of_sole (λ d. At cmd count p d ids) c k.state es e sole r;
 }
 
-pub does_each : (cmd : Command) → ((s : Selection) → cmd ≡ commands.Index s → ⊥) → (count p : ℕ) (k : Kept) → Same k (each_course (command_tree cmd) count p k.state.selection) (does_course (command_tree cmd) count p)
+pub does_each : (cmd : Command) → ((s : Selection) → cmd ≡ commands.Index s → ⊥) → (count p : ℕ) (k : Kept) → Same k (AtEach (command_tree cmd) count p k.state.selection) (does_course (command_tree cmd) count p)
 does_each (commands.Test kind report) other count p k = record { there = λ ids al es e r. r; back = λ ids al es e r. r }
 does_each (commands.Act kind report) other count p k = record { there = λ ids al es e r. r; back = λ ids al es e r. r }
 does_each (commands.Index s) other count p k = absurd (other s refl)
@@ -147,40 +143,20 @@ Explores-becomes course k s only does =
       stopped = λ y h. absurd h;
     })
 
-pub Adds-index : (k to : Kept) (selection : Selection) (count p : ℕ) (cmd : Command) (n n' : List Kept) (f : Failures) → cmd ≡ commands.Index selection → to ≡ with_selection k (selected_by selection count) → n' ≡ n ++ to ∷ [] → Adds (does_course (command_tree cmd) count p) (k ∷ []) n n' f f
-Adds-index k to selection count p cmd n n' f is made pushed =
-    subst (λ (x : Command). Adds (does_course (command_tree x) count p) (k ∷ []) n n' f f) (sym is) (record {
-      done = with_selection k (selected_by selection count) ∷ [];
-      failed = [];
-      next_is = subst (λ (x : Kept). n' ≡ n ++ x ∷ []) made pushed;
-      failed_is = sym (after_none f);
-      explores = Explores-becomes (does_course (Index selection) count p) k (with_selection k (selected_by selection count)).state (λ ids es e r. r) (λ ids. (refl, refl));
-    })
-
-pub Adds-at_index : (k : Kept) (c : ℕ) (selection : Selection) (count p : ℕ) (cmd : Command) (n n' : List Kept) (f : Failures) → cmd ≡ commands.Index selection → n' ≡ n ++ k ∷ [] → Adds (At (command_tree cmd) count p c) (k ∷ []) n n' f f
-Adds-at_index k c selection count p cmd n n' f is pushed =
-    subst (λ (x : Command). Adds (At (command_tree x) count p c) (k ∷ []) n n' f f) (sym is) (record {
-      done = k ∷ [];
-      failed = [];
-      next_is = pushed;
-      failed_is = sym (after_none f);
-      explores = Explores-becomes (At (Index selection) count p c) k k.state (λ ids es e r. r) (λ ids. (refl, refl));
-    })
-
 -- ---- a walk over the components that are selected
 
-module _ (cmd : CommandTree) (count p : ℕ) (cs : List ℕ) (i : ℕ) (c : ℕ) (lt : i < length cs) (is : c ≡ get_or cs i c) (whole : Course) (from now : List Kept) (failed0 failed : Failures) (w : Walks whole from failed0 (each_course cmd count p (drop i cs)) now failed) where
-  at_each : Walks whole from failed0 (then_course (At cmd count p c) (each_course cmd count p (drop (i + 1) cs))) now failed
+module _ (cmd : CommandTree) (count p : ℕ) (cs : List ℕ) (i : ℕ) (c : ℕ) (lt : i < length cs) (is : c ≡ get_or cs i c) (whole : Course) (from now : List Kept) (failed0 failed : Failures) (w : Walks whole from failed0 (AtEach cmd count p (drop i cs)) now failed) where
+  at_each : Walks whole from failed0 (then_course (At cmd count p c) (AtEach cmd count p (drop (i + 1) cs))) now failed
   at_each =
-      let e : each_course cmd count p (drop i cs) ≡ then_course (At cmd count p c) (each_course cmd count p (drop (i + 1) cs)) =
-      ap (each_course cmd count p) (drop-cons cs i c lt)
-      ∙ ap (λ (m : ℕ). then_course (At cmd count p (get_or cs i c)) (each_course cmd count p (drop m cs))) (sym (add-one i))
-      ∙ ap (λ (d : ℕ). then_course (At cmd count p d) (each_course cmd count p (drop (i + 1) cs))) (sym is)
+      let e : AtEach cmd count p (drop i cs) ≡ then_course (At cmd count p c) (AtEach cmd count p (drop (i + 1) cs)) =
+      ap (AtEach cmd count p) (drop-cons cs i c lt)
+      ∙ ap (λ (m : ℕ). then_course (At cmd count p (get_or cs i c)) (AtEach cmd count p (drop m cs))) (sym (add-one i))
+      ∙ ap (λ (d : ℕ). then_course (At cmd count p d) (AtEach cmd count p (drop (i + 1) cs))) (sym is)
       in
       subst (λ (r : Course). Walks whole from failed0 r now failed) e w
 
-  pub Each-step : (mid : List Kept) (failed' : Failures) → Adds (At cmd count p c) now [] mid failed failed' → Walks whole from failed0 (each_course cmd count p (drop (i + 1) cs)) mid failed'
-  Each-step mid failed' a = Walks-then whole (At cmd count p c) (each_course cmd count p (drop (i + 1) cs)) from now mid failed0 failed failed' at_each a
+  pub Each-step : (mid : List Kept) (failed' : Failures) → Adds (At cmd count p c) now [] mid failed failed' → Walks whole from failed0 (AtEach cmd count p (drop (i + 1) cs)) mid failed'
+  Each-step mid failed' a = Walks-then whole (At cmd count p c) (AtEach cmd count p (drop (i + 1) cs)) from now mid failed0 failed failed' at_each a
 
   pub Each-stops : (h : Halt) → Halts (At cmd count p c) now h → Halts whole from h
-  Each-stops h u = Walks-halt whole (At cmd count p c) (each_course cmd count p (drop (i + 1) cs)) from now failed0 failed at_each h u
+  Each-stops h u = Walks-halt whole (At cmd count p c) (AtEach cmd count p (drop (i + 1) cs)) from now failed0 failed at_each h u

@@ -1,15 +1,14 @@
 -- Rows of parameters, one after another, and an override of one of them.
-use Rattle.std.proofs.Common.{◌≡◌, ◌<◌, ◌≤◌, ℕ, zero, suc, ◌+◌, ◌-◌, ◌*◌, List, [], ◌∷◌, ◌++◌, length, get_or, take, map, Option, Some, None, Result, Ok, Err, OnOk, OnErr, refl, sym, ap, ◌∙◌, subst, arith, length-set, get_or-set_same}
+use Rattle.std.proofs.Common.{◌≡◌, ◌<◌, ℕ, zero, suc, ◌+◌, ◌-◌, ◌*◌, List, [], ◌∷◌, ◌++◌, length, get_or, take, map, Option, Some, None, Result, Ok, Err, OnOk, OnErr, refl, sym, ap, ◌∙◌, subst, arith, length-set, get_or-set_same}
 use Rattle.std.specs.Prelude.{slice_get, slice_set, replicate}
 use Rattle.std.specs.Option.{option_copied}
 use Rattle.std.specs.Borrow.{Bor}
-use Rattle.std.proofs.lemmas.List.{set-append_left, set-append_right, set-get_or, set-set, length-map, get_or-map, get_or_default, take_all}
+use Rattle.std.proofs.lemmas.List.{set-append_left, set-append_right, set-get_or, set-set, length-map, get_or-map, get_or_default}
 use Rattle.suit_params.specs.declared.param.Param.{Param}
 use Rattle.suit_params.specs.declared.param.ParamKey.{ParamKey}
 use Rattle.suit_params.specs.ParamKeys.{key_of}
 use Rattle.suit_params.specs.InForce.{Parameters, rank, held_at, in_force, none_in_force, overridden, IsOverridden}
 use Rattle.suit_params.proofs.Overriding.{rank_small, is_overridden}
-use Rattle.suit_params.specs.Lent.{lent_params}
 use Rattle.path_model.specs.ParameterLaws.{StaysWhole, StartsEmpty}
 use Rattle.path_checker.specs.Rows.{Row, together, AreWide, overridden_row, AreKeyed}
 use Rattle.path_checker.proofs.KeyedLaws.{keyed_overridden}
@@ -139,12 +138,6 @@ cells_next xs ys i x y full_x full_y lt at_x at_y same so_far =
     let other : length (map option_copied ys) ≡ 12 = length-map ys option_copied ∙ full_y in
     take_next (map option_copied xs) (map option_copied ys) i (option_copied x) (omega (arith, lt, one)) (other ∙ sym one)
     (get_or-map option_copied xs i x (option_copied x) (omega (arith, lt, full_x)) ∙ sym (ap option_copied at_x) ∙ same ∙ ap option_copied at_y ∙ sym (get_or-map option_copied ys i y (option_copied x) (omega (arith, lt, full_y)))) so_far
-
-pub cells_all : (xs ys : List (Option (Bor Param))) (i : ℕ) → length xs ≡ 12 → length ys ≡ 12 → 12 ≤ i → take i (map option_copied xs) ≡ take i (map option_copied ys) → lent_params xs ≡ lent_params ys
-cells_all xs ys i full_x full_y le so_far =
-    let one : length (map option_copied xs) ≡ 12 = length-map xs option_copied ∙ full_x in
-    let other : length (map option_copied ys) ≡ 12 = length-map ys option_copied ∙ full_y in
-    sym (take_all i (map option_copied xs) (omega (arith, le, one))) ∙ so_far ∙ take_all i (map option_copied ys) (omega (arith, le, other))
 
 -- after `Ok` the rows are overridden
 pub row_exact_ok : {A E : Type 0} (rows after : List Row) (ps : Parameters) (c : ℕ) (list : List Param) (result : Result A E) → AreKeyed rows → c < 8 → together rows ≡ ps

@@ -1,6 +1,6 @@
 -- One path, from where it is.
 use Rattle.std.proofs.Common.{◌≡◌, ℕ, ◌+◌, ◌<◌, Bool, true, false, List, [], ◌∷◌, ◌++◌, Option, Some, None, length, get_or, drop, refl, sym, ap, ◌∙◌, subst, inl, inr}
-use Rattle.std.proofs.lemmas.List.{append-nil, drop_more}
+use Rattle.std.proofs.lemmas.List.{drop_more}
 use Rattle.suit_params.specs.declared.digest.Digest.{Digest}
 use Rattle.suit_params.specs.declared.param.ParamKey.TheVariants as keys
 use Rattle.suit_params.specs.InForce.{Parameters, in_force, bytes_of, digest_in, size_in}
@@ -20,22 +20,21 @@ use Rattle.path_model.specs.Following.{CoveredFrom}
 use Rattle.path_model.proofs.Following.{joined, CoveredFrom-joined}
 use Rattle.path_checker.specs.declared.judge_plan.facts.Knowledge.{Knowledge}
 use Rattle.path_checker.specs.declared.judge_plan.facts.Own.{Own}
-use Rattle.path_checker.specs.declared.judge_plan.facts.Fork.{Fork}
 use Rattle.path_checker.specs.declared.judge_plan.facts.Fork.TheVariants as forks
 use Rattle.path_checker.specs.declared.judge_plan.halt.Halt.{Halt}
 use Rattle.path_checker.specs.declared.judge_plan.turn.Turn.{Turn}
 use Rattle.path_checker.specs.declared.judge_plan.turn.Turn.TheVariants as turns
-use Rattle.path_checker.specs.Exploring.{Course, In, Kept, Stopped, Failures, after_stops, Reaches, Leads, Explores, Adds, Uncovered, Uncovers}
+use Rattle.path_checker.specs.Exploring.{Course, In, Kept, Stopped, Failures, after_stops, Reaches, Leads, Adds, Uncovered, Uncovers}
 use Rattle.path_checker.specs.Forking.{Forks}
 use Rattle.path_checker.specs.Halting.{Halts}
-use Rattle.path_checker.specs.Inner.{entered, all_entered, left, resumed, hardened, exhausted_at, restarted}
+use Rattle.path_checker.specs.Inner.{entered, all_entered, left, resumed, exhausted_at, restarted}
 use Rattle.path_checker.specs.Rests.{Later, OfPart, RunsRest, RunsThen}
 use Rattle.path_checker.specs.Spelling.{Fails, Comes, IsAfter}
-use Rattle.path_checker.specs.Steps.{At, knowing, stopped_by}
+use Rattle.path_checker.specs.Steps.{At, knowing, stopped_by, AtEach, TestsAt, RunsAll}
 use Rattle.path_checker.specs.Wanting.{wanted_by, TestsOwn}
 use Rattle.path_checker.proofs.Branching.{at-one, failing_course, Explores-exhausted}
 use Rattle.path_checker.proofs.Carrying.{nothing_course, Explores-nothing}
-use Rattle.path_checker.proofs.ConditionLeaves.{tests_course, missed_by, tests_own, Adds-has_not, Adds-either}
+use Rattle.path_checker.proofs.ConditionLeaves.{missed_by, tests_own, Adds-has_not, Adds-either}
 use Rattle.path_checker.proofs.Exploring.{then_course}
 use Rattle.path_checker.proofs.Going.{GoesOn-halts}
 use Rattle.path_checker.proofs.InnerSequences.{inner_course, Leads-outer}
@@ -43,10 +42,9 @@ use Rattle.path_checker.proofs.Keeping.{all_kept-all}
 use Rattle.path_checker.proofs.Leaves.{Same}
 use Rattle.path_checker.proofs.OneBranch.{branch_course}
 use Rattle.path_checker.proofs.Passing.{none_yet}
-use Rattle.path_checker.proofs.Popping.{each_course}
 use Rattle.path_checker.proofs.Trying.{GoesOn-part}
 use Rattle.path_checker.proofs.Uncovering.{Uncovered-then, Uncovers-first, Uncovers-branch}
-use Rattle.path_checker.proofs.Walking.{Halts-lift, runs_course, does_course, rest-is}
+use Rattle.path_checker.proofs.Walking.{Halts-lift, does_course, rest-is}
 
 -- ---- one behaviour, and then another
 
@@ -80,9 +78,6 @@ pub record Follows (whole : Course) (from : List Kept) (rest : Course) (now : Ke
   pub leads : (facts : List Knowledge) (events : List Event) (e : Ending) → Leads rest (now ∷ []) facts events e → Leads whole from facts events e
   pub uncovers : (facts : List Knowledge) (events : List Event) → Uncovers rest (now ∷ []) facts events → Uncovers whole from facts events
 
-pub Follows-start : (whole : Course) (now : Kept) → Follows whole (now ∷ []) whole now
-Follows-start whole now = record { leads = λ facts events e l. l; uncovers = λ facts events u. u }
-
 pub Follows-end : (whole : Course) (from : List Kept) (now : Kept) → Follows whole from nothing_course now → Comes whole from (turns.On now)
 Follows-end whole from now f = f.leads now.facts now.events (Done now.state) ((Explores-nothing (now ∷ [])).reached now (inl refl))
 
@@ -101,12 +96,12 @@ module _ (whole first second : Course) (from : List Kept) (now : Kept) (f : Foll
 
 -- ---- one step after another
 
-module _ (steps : List Step) (i count : ℕ) (step : Step) (lt : i < length steps) (is : step ≡ get_or steps i step) (whole : Course) (from : List Kept) (now : Kept) (f : Follows whole from (runs_course (sequence_tree (drop i steps)) count) now) where
+module _ (steps : List Step) (i count : ℕ) (step : Step) (lt : i < length steps) (is : step ≡ get_or steps i step) (whole : Course) (from : List Kept) (now : Kept) (f : Follows whole from (RunsAll (sequence_tree (drop i steps)) count) now) where
   abbrev step_first : Course
   step_first = does_course (command_tree step.command) count step.place
 
   abbrev step_rest : Course
-  step_rest = runs_course (sequence_tree (drop (i + 1) steps)) count
+  step_rest = RunsAll (sequence_tree (drop (i + 1) steps)) count
 
   parted : Follows whole from (then_course step_first step_rest) now
   parted =
@@ -123,16 +118,16 @@ module _ (steps : List Step) (i count : ℕ) (step : Step) (lt : i < length step
 
 -- ---- one component after another
 
-module _ (cmd : CommandTree) (count p : ℕ) (cs : List ℕ) (i c : ℕ) (lt : i < length cs) (is : c ≡ get_or cs i c) (whole : Course) (from : List Kept) (now : Kept) (f : Follows whole from (each_course cmd count p (drop i cs)) now) where
+module _ (cmd : CommandTree) (count p : ℕ) (cs : List ℕ) (i c : ℕ) (lt : i < length cs) (is : c ≡ get_or cs i c) (whole : Course) (from : List Kept) (now : Kept) (f : Follows whole from (AtEach cmd count p (drop i cs)) now) where
   abbrev at_first : Course
   at_first = At cmd count p c
 
   abbrev at_rest : Course
-  at_rest = each_course cmd count p (drop (i + 1) cs)
+  at_rest = AtEach cmd count p (drop (i + 1) cs)
 
   parted_at : Follows whole from (then_course at_first at_rest) now
   parted_at =
-      subst (λ (d : ℕ). Follows whole from (then_course (At cmd count p d) at_rest) now) (sym is) (subst (λ (xs : List ℕ). Follows whole from (each_course cmd count p xs) now) (drop_more cs i c lt) f)
+      subst (λ (d : ℕ). Follows whole from (then_course (At cmd count p d) at_rest) now) (sym is) (subst (λ (xs : List ℕ). Follows whole from (AtEach cmd count p xs) now) (drop_more cs i c lt) f)
 
   pub At-on : (to : Kept) → Comes at_first (now ∷ []) (turns.On to) → Follows whole from at_rest to
   At-on = Follows-on whole at_first at_rest from now parted_at
@@ -183,29 +178,29 @@ Fails-by course k es p stop covered run is =
 pub Fails-no_own : (kind : TestKind) (p c : ℕ) (k : Kept) (stop : Stopped) → stop ≡ missed_by kind c p k → Fails (TestsOwn kind p c None) (k ∷ []) stop
 Fails-no_own kind p c k stop is = Fails-by (TestsOwn kind p c None) k (Tried c kind false ∷ Failed p ∷ []) p stop (tt, (tt, tt)) (λ ids. (refl, refl)) is
 
-pub Fails-identity : (kind : TestKind) (p c : ℕ) (k : Kept) (ps : Parameters) (own : Option Own) (stop : Stopped) → IsOnIdentity kind → ps ≡ k.state.parameters → own ≡ wanted_by kind ps c → Fails (TestsOwn kind p c own) (k ∷ []) stop → Fails (tests_course kind p c) (k ∷ []) stop
+pub Fails-identity : (kind : TestKind) (p c : ℕ) (k : Kept) (ps : Parameters) (own : Option Own) (stop : Stopped) → IsOnIdentity kind → ps ≡ k.state.parameters → own ≡ wanted_by kind ps c → Fails (TestsOwn kind p c own) (k ∷ []) stop → Fails (TestsAt kind p c) (k ∷ []) stop
 Fails-identity kind p c k ps own stop on same is x =
-    Fails-same k (TestsOwn kind p c (wanted_by kind k.state.parameters c)) (tests_course kind p c) stop (tests_own kind p c k on)
+    Fails-same k (TestsOwn kind p c (wanted_by kind k.state.parameters c)) (TestsAt kind p c) stop (tests_own kind p c k on)
     (subst (λ (w : Option Own). Fails (TestsOwn kind p c w) (k ∷ []) stop) (is ∙ ap (λ (q : Parameters). wanted_by kind q c) same) x)
 
-pub Fails-abort : (p c : ℕ) (k : Kept) (stop : Stopped) → stop ≡ missed_by tests.Abort c p k → Fails (tests_course tests.Abort p c) (k ∷ []) stop
-Fails-abort p c k stop is = Fails-by (tests_course tests.Abort p c) k (Tried c tests.Abort false ∷ Failed p ∷ []) p stop (tt, (tt, tt)) (λ ids. (refl, refl)) is
+pub Fails-abort : (p c : ℕ) (k : Kept) (stop : Stopped) → stop ≡ missed_by tests.Abort c p k → Fails (TestsAt tests.Abort p c) (k ∷ []) stop
+Fails-abort p c k stop is = Fails-by (TestsAt tests.Abort p c) k (Tried c tests.Abort false ∷ Failed p ∷ []) p stop (tt, (tt, tt)) (λ ids. (refl, refl)) is
 
 misses : (p c : ℕ) (o : Option Digest) (s : Option ℕ) (state : State) → Matches p c o s state (Missed c ∷ Failed p ∷ []) (Condition p state.soft_failure)
 misses p c None s state = (refl, refl)
 misses p c (Some d) s state = inr (refl, refl)
 
-pub Fails-match : (p c : ℕ) (k : Kept) (stop : Stopped) → stop ≡ stopped_by k (Missed c ∷ Failed p ∷ []) p → Fails (tests_course tests.ImageMatch p c) (k ∷ []) stop
+pub Fails-match : (p c : ℕ) (k : Kept) (stop : Stopped) → stop ≡ stopped_by k (Missed c ∷ Failed p ∷ []) p → Fails (TestsAt tests.ImageMatch p c) (k ∷ []) stop
 Fails-match p c k stop is =
-    Fails-by (tests_course tests.ImageMatch p c) k (Missed c ∷ Failed p ∷ []) p stop (tt, (tt, tt)) (λ ids. misses p c (digest_in k.state.parameters c) (size_in k.state.parameters c) k.state) is
+    Fails-by (TestsAt tests.ImageMatch p c) k (Missed c ∷ Failed p ∷ []) p stop (tt, (tt, tt)) (λ ids. misses p c (digest_in k.state.parameters c) (size_in k.state.parameters c) k.state) is
 
 differs : (p c : ℕ) (o : Option (List ℕ)) (state : State) → ChecksContent p c o state (Tried c tests.CheckContent false ∷ Failed p ∷ []) (Condition p state.soft_failure)
 differs p c None state = (refl, refl)
 differs p c (Some content) state = inr (refl, refl)
 
-pub Fails-content : (p c : ℕ) (k : Kept) (stop : Stopped) → stop ≡ missed_by tests.CheckContent c p k → Fails (tests_course tests.CheckContent p c) (k ∷ []) stop
+pub Fails-content : (p c : ℕ) (k : Kept) (stop : Stopped) → stop ≡ missed_by tests.CheckContent c p k → Fails (TestsAt tests.CheckContent p c) (k ∷ []) stop
 Fails-content p c k stop is =
-    Fails-by (tests_course tests.CheckContent p c) k (Tried c tests.CheckContent false ∷ Failed p ∷ []) p stop (tt, (tt, tt)) (λ ids. differs p c (bytes_of (in_force k.state.parameters c keys.Content)) k.state) is
+    Fails-by (TestsAt tests.CheckContent p c) k (Tried c tests.CheckContent false ∷ Failed p ∷ []) p stop (tt, (tt, tt)) (λ ids. differs p c (bytes_of (in_force k.state.parameters c keys.Content)) k.state) is
 
 -- ---- run sequence
 
@@ -303,12 +298,12 @@ module _ (sequence : SequenceTree) (behind : List Later) (count : ℕ) (k begun 
   abbrev part_rest : Course
   part_rest = RunsRest (OfPart sequence ∷ behind) count
 
-  pub Part-halts : (h : Halt) → Halts (runs_course sequence count) (begun ∷ []) h → Halts part_rest (k ∷ []) h
+  pub Part-halts : (h : Halt) → Halts (RunsAll sequence count) (begun ∷ []) h → Halts part_rest (k ∷ []) h
   Part-halts h u =
       GoesOn-halts part_rest (RunsThen sequence behind count) (k ∷ []) (begun ∷ []) (GoesOn-part (OfPart sequence ∷ behind) behind count k sequence begun refl is) h
-      (Halts-lift (runs_course sequence count) (RunsThen sequence behind count) (begun ∷ []) (begun ∷ []) (λ facts events x. Uncovers-first (runs_course sequence count) (RunsRest behind count) (begun ∷ []) facts events x) h u)
+      (Halts-lift (RunsAll sequence count) (RunsThen sequence behind count) (begun ∷ []) (begun ∷ []) (λ facts events x. Uncovers-first (RunsAll sequence count) (RunsRest behind count) (begun ∷ []) facts events x) h u)
 
-  pub Part-on : (to : Kept) → Comes (runs_course sequence count) (begun ∷ []) (turns.On to) → (h : Halt) → Halts (RunsRest behind count) (to ∷ []) h → Halts part_rest (k ∷ []) h
+  pub Part-on : (to : Kept) → Comes (RunsAll sequence count) (begun ∷ []) (turns.On to) → (h : Halt) → Halts (RunsRest behind count) (to ∷ []) h → Halts part_rest (k ∷ []) h
   Part-on to l h u =
       GoesOn-halts part_rest (RunsThen sequence behind count) (k ∷ []) (begun ∷ []) (GoesOn-part (OfPart sequence ∷ behind) behind count k sequence begun refl is) h
-      (Halts-lift (RunsRest behind count) (RunsThen sequence behind count) (to ∷ []) (begun ∷ []) (λ facts events x. uncovers-then (runs_course sequence count) (RunsRest behind count) (begun ∷ []) to facts events l x) h u)
+      (Halts-lift (RunsRest behind count) (RunsThen sequence behind count) (to ∷ []) (begun ∷ []) (λ facts events x. uncovers-then (RunsAll sequence count) (RunsRest behind count) (begun ∷ []) to facts events l x) h u)

@@ -1,16 +1,13 @@
 -- The trail of events.
-use Rattle.std.proofs.Common.{◌≡◌, ◌+◌, ◌%◌, ℕ, Bool, true, false, List, [], ◌∷◌, ◌++◌, refl, sym, ap, ◌∙◌}
+use Rattle.std.proofs.Common.{◌≡◌, ◌+◌, ℕ, List, [], ◌∷◌, ◌++◌, refl, sym, ap, ◌∙◌}
 use Rattle.suit_params.specs.declared.param.Param.{Param}
 use Rattle.suit_commands.specs.Tree.{CommandTree, Test, Act, Index, Override, TryEach, RunSequence, SequenceTree, NoSteps, StepThen}
 use Rattle.path_model.specs.declared.event.Event.{Event}
-use Rattle.path_model.specs.declared.event.Event.TheVariants.{Wrote}
 use Rattle.path_model.specs.Directives.{set_events}
-use Rattle.path_checker.specs.declared.judge_plan.happened.Happened.{Happened}
-use Rattle.path_checker.specs.declared.judge_plan.happened.Happened.TheVariants as lent
 use Rattle.path_checker.specs.declared.judge_plan.standing.StandingMatches.{StandingMatches}
-use Rattle.path_checker.specs.Happening.{event_of, sets_at, command_sets, sequence_sets}
+use Rattle.path_checker.specs.Happening.{sets_at, command_sets, sequence_sets}
 use Rattle.path_checker.specs.Standing.{Stands, IsHistory}
-use Rattle.path_checker.specs.Trails.{Trail, no_trail, is_miss, misses_after, trail_after, trail_from}
+use Rattle.path_checker.specs.Trails.{Trail, no_trail, trail_after, trail_from}
 
 pub trail-append : (t : Trail) (es fs : List Event) → trail_from t (es ++ fs) ≡ trail_from (trail_from t es) fs
 trail-append t [] fs = refl
@@ -36,20 +33,6 @@ pub trail-sequence : (t : Trail) (sequence : SequenceTree) (cs : List ℕ) → t
 trail-sequence t NoSteps cs = refl
 trail-sequence t (StepThen place command rest) cs =
     trail-append t (command_sets command cs) (sequence_sets rest cs) ∙ ap (λ (u : Trail). trail_from u (sequence_sets rest cs)) (trail-command t command cs) ∙ trail-sequence t rest cs
-
--- an event besides those that set a parameter
-pub trail-happened : (t : Trail) (event : Happened) (is : Bool) → is ≡ is_miss (event_of event)
-    → trail_after t (event_of event) ≡ record { events = (t.events + 1) % 18446744073709551616; misses = misses_after t.misses t.events is }
-trail-happened t event is miss = at event ∙ ap (λ (b : Bool). record { events = (t.events + 1) % 18446744073709551616; misses = misses_after t.misses t.events b }) (sym miss)
-  where
-    at : (h : Happened) → trail_after t (event_of h) ≡ record { events = (t.events + 1) % 18446744073709551616; misses = misses_after t.misses t.events (is_miss (event_of h)) }
-    at (lent.Tried component kind passed) = refl
-    at (lent.Matched component own) = refl
-    at (lent.Missed component) = refl
-    at (lent.Wrote component) = refl
-    at (lent.Covered component own) = refl
-    at (lent.Uncovered component digest size) = refl
-    at (lent.Failed place) = refl
 
 -- ---- histories
 

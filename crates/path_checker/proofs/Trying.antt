@@ -11,9 +11,9 @@ use Rattle.path_checker.specs.Exploring.{Course, Kept, kept_of, state_of}
 use Rattle.path_checker.specs.Inner.{restarted}
 use Rattle.path_checker.specs.Rests.{Later, OfPart, OfSteps, OfTries, OfLeave, RunsRest, RunsThen, TriesAt, TriesThen, AreFew}
 use Rattle.path_checker.proofs.Besides.{same_state}
-use Rattle.path_checker.proofs.Branching.{rest_course}
 use Rattle.path_checker.proofs.Exploring.{then_course}
 use Rattle.path_checker.specs.Going.{GoesOn}
+use Rattle.path_checker.specs.Steps.{TriesIn}
 use Rattle.path_checker.proofs.Going.{GoesOn-next, GoesOn-moved, Covers-left, Uncovers-left}
 use Rattle.path_checker.proofs.Walking.{does_course}
 
@@ -61,7 +61,7 @@ module _ (branches : BranchesTree) (place : ℕ) (components : List ℕ) (behind
   -- the first component
   pub GoesOn-first : (c : ℕ) (left : List ℕ) (later : List Later) (from : List Kept) → components ≡ c ∷ left → later ≡ OfTries branches place left ∷ behind → GoesOn tries_rest from (TriesAt branches place c later count) from
   GoesOn-first c left later from is later_is =
-      let here : Course = rest_course branches count place c in
+      let here : Course = TriesIn branches count place c in
       let others : Course = λ ids. Each (λ d. Tries branches ids count place d) left in
       subst (λ (cs : List ℕ). GoesOn (RunsRest (OfTries branches place cs ∷ behind) count) from (TriesAt branches place c later count) from) (sym is)
       (subst (λ (l : List Later). GoesOn (RunsRest (OfTries branches place (c ∷ left) ∷ behind) count) from (TriesAt branches place c l count) from) (sym later_is) (record {

@@ -20,9 +20,9 @@ use Rattle.path_checker.specs.Exploring.{Course, In, Kept, Stopped, Explores, Co
 use Rattle.path_checker.specs.Halting.{Halts}
 use Rattle.path_checker.specs.Inner.{RunsInside, entered, left}
 use Rattle.path_checker.specs.Small.{IsSmallSequence, IsSmallCommand, IsStraight, IsInPlace, AreInPlace, AreStraight}
-use Rattle.path_checker.specs.Steps.{with_selection}
+use Rattle.path_checker.specs.Steps.{with_selection, RunsAll, TriesIn}
 use Rattle.path_checker.specs.Unconditional.{IsUnconditional, AreUnconditional, FirstIsUnconditional}
-use Rattle.path_checker.proofs.Branching.{at-one, rest_course, at_some, Halts-run}
+use Rattle.path_checker.proofs.Branching.{at-one, at_some, Halts-run}
 use Rattle.path_checker.proofs.Continuing.{no_more}
 use Rattle.path_checker.proofs.Exploring.{Explores-none, Found-left, Found-right}
 use Rattle.path_checker.proofs.InnerSequences.{inner_course, Explores-inner}
@@ -32,7 +32,7 @@ use Rattle.path_checker.proofs.Overriding.{taken_more, both_parts}
 use Rattle.path_checker.proofs.Popping.{Explores-becomes}
 use Rattle.path_checker.proofs.Smallness.{small_step}
 use Rattle.path_checker.proofs.Uncovering.{Uncovers-branch}
-use Rattle.path_checker.proofs.Walking.{Halts-lift, runs_course, does_course}
+use Rattle.path_checker.proofs.Walking.{Halts-lift, does_course}
 
 -- ---- which they are
 
@@ -166,18 +166,18 @@ Halts-tried body others c k h u = Halts-lift body (branch_course body others c) 
 
 -- the first branch of a try each
 module _ (bs : List (Option SequenceTree)) (whole : BranchesTree) (is : branches_tree bs ≡ whole) (none : FirstIsUnconditional whole) (count p c : ℕ) (d : Option SequenceTree) (inner : SequenceTree) (here : get_or bs 0 d ≡ Some inner) (k to : Kept) where
-  first_course : rest_course (branches_tree bs) count p c ≡ branch_course (runs_course inner count) (rest_course (branches_tree (drop 1 bs)) count p) c
+  first_course : TriesIn (branches_tree bs) count p c ≡ branch_course (RunsAll inner count) (TriesIn (branches_tree (drop 1 bs)) count p) c
   first_course = at_some bs 0 count p c d inner (first_there bs (subst FirstIsUnconditional (sym is) none)) here
 
-  pub Explores-first : (goes_on : Bool) → RunsInside (runs_course inner count) c true k goes_on to → Explores (rest_course whole count p c) (k ∷ []) (kept_if goes_on to) []
+  pub Explores-first : (goes_on : Bool) → RunsInside (RunsAll inner count) c true k goes_on to → Explores (TriesIn whole count p c) (k ∷ []) (kept_if goes_on to) []
   Explores-first goes_on r =
-      subst (λ (w : BranchesTree). Explores (rest_course w count p c) (k ∷ []) (kept_if goes_on to) []) is
-      (subst (λ (course : Course). Explores course (k ∷ []) (kept_if goes_on to) []) (sym first_course) (Explores-tried (runs_course inner count) c k to (rest_course (branches_tree (drop 1 bs)) count p) goes_on r))
+      subst (λ (w : BranchesTree). Explores (TriesIn w count p c) (k ∷ []) (kept_if goes_on to) []) is
+      (subst (λ (course : Course). Explores course (k ∷ []) (kept_if goes_on to) []) (sym first_course) (Explores-tried (RunsAll inner count) c k to (TriesIn (branches_tree (drop 1 bs)) count p) goes_on r))
 
-  pub Halts-first : (h : Halt) → Halts (runs_course inner count) (entered k.state c true k ∷ []) h → Halts (rest_course whole count p c) (k ∷ []) h
+  pub Halts-first : (h : Halt) → Halts (RunsAll inner count) (entered k.state c true k ∷ []) h → Halts (TriesIn whole count p c) (k ∷ []) h
   Halts-first h u =
-      subst (λ (w : BranchesTree). Halts (rest_course w count p c) (k ∷ []) h) is
-      (subst (λ (course : Course). Halts course (k ∷ []) h) (sym first_course) (Halts-tried (runs_course inner count) (rest_course (branches_tree (drop 1 bs)) count p) c k h u))
+      subst (λ (w : BranchesTree). Halts (TriesIn w count p c) (k ∷ []) h) is
+      (subst (λ (course : Course). Halts course (k ∷ []) h) (sym first_course) (Halts-tried (RunsAll inner count) (TriesIn (branches_tree (drop 1 bs)) count p) c k h u))
 
 -- an inner sequence begins, and completes
 
@@ -230,9 +230,6 @@ pub record Compacts (none : Type 0) (course : Course) (from now : List Kept) (at
   pub count : length now ≡ length from
   pub rest : drop at now ≡ drop at from
   pub continues : Continues none course (take at from) (take kept now)
-
-pub Compacts-start : (none : Type 0) (course : Course) (from : List Kept) → Compacts none course from from 0 0
-Compacts-start none course from = record { behind = omega arith; count = refl; rest = refl; continues = ([], Explores-none course, λ n. refl) }
 
 -- after a swap, one more stands at the front
 swapped-front : {X : Type 0} → (xs : List X) (i j : ℕ) (d : X) → i ≤ j → j < length xs → take (i + 1) (swap xs i j) ≡ take i xs ++ get_or xs j d ∷ []

@@ -2,15 +2,16 @@
 use Rattle.std.proofs.Common.{◌≡◌, ℕ, ◌+◌, ◌<◌, add-one, List, [], ◌++◌, length, get_or, drop, refl, sym, ap, ◌∙◌, subst}
 use Rattle.std.proofs.Math.Seq.{drop-cons}
 use Rattle.suit_commands.specs.declared.command.Step.{Step}
-use Rattle.suit_commands.specs.Tree.{CommandTree, SequenceTree}
+use Rattle.suit_commands.specs.Tree.{CommandTree}
 use Rattle.suit_commands.specs.View.{sequence_tree, command_tree}
 use Rattle.path_model.specs.declared.event.Event.{Event}
-use Rattle.path_model.specs.Runs.{Runs, Does}
+use Rattle.path_model.specs.Runs.{Does}
 use Rattle.path_checker.specs.declared.judge_plan.facts.Knowledge.{Knowledge}
 use Rattle.path_checker.specs.declared.judge_plan.halt.Halt.{Halt}
 use Rattle.path_checker.specs.declared.judge_plan.halt.Halt.TheVariants as halts
 use Rattle.path_checker.specs.Exploring.{Course, Kept, Stopped, Failures, after_stops, Uncovers, Adds}
 use Rattle.path_checker.specs.Halting.{Halts}
+use Rattle.path_checker.specs.Steps.{RunsAll}
 use Rattle.path_checker.proofs.Exploring.{then_course}
 use Rattle.path_checker.proofs.Keeping.{after_none, after_both}
 use Rattle.path_checker.proofs.Uncovering.{Uncovers-first}
@@ -20,17 +21,14 @@ pub Halts-lift : (a b : Course) (xs ys : List Kept) → ((facts : List Knowledge
 Halts-lift a b xs ys lift halts.NoMemory u = tt
 Halts-lift a b xs ys lift (halts.Uncovered k) u = lift k.facts k.events u
 
-abbrev pub runs_course : SequenceTree → ℕ → Course
-runs_course sequence count ids = Runs sequence ids count
-
 abbrev pub does_course : CommandTree → ℕ → ℕ → Course
 does_course command count place ids = Does command ids count place
 
 -- the rest of a sequence is its next step, and the rest of that
-pub rest-is : (steps : List Step) (i count : ℕ) (d : Step) → i < length steps → runs_course (sequence_tree (drop i steps)) count ≡ then_course (does_course (command_tree (get_or steps i d).command) count (get_or steps i d).place) (runs_course (sequence_tree (drop (i + 1) steps)) count)
+pub rest-is : (steps : List Step) (i count : ℕ) (d : Step) → i < length steps → RunsAll (sequence_tree (drop i steps)) count ≡ then_course (does_course (command_tree (get_or steps i d).command) count (get_or steps i d).place) (RunsAll (sequence_tree (drop (i + 1) steps)) count)
 rest-is steps i count d lt =
-    ap (λ (xs : List Step). runs_course (sequence_tree xs) count) (drop-cons steps i d lt)
-    ∙ ap (λ (n : ℕ). then_course (does_course (command_tree (get_or steps i d).command) count (get_or steps i d).place) (runs_course (sequence_tree (drop n steps)) count)) (sym (add-one i))
+    ap (λ (xs : List Step). RunsAll (sequence_tree xs) count) (drop-cons steps i d lt)
+    ∙ ap (λ (n : ℕ). then_course (does_course (command_tree (get_or steps i d).command) count (get_or steps i d).place) (RunsAll (sequence_tree (drop n steps)) count)) (sym (add-one i))
 
 -- the invariant of a loop while it walks
 pub record Walks (whole : Course) (from : List Kept) (failed0 : Failures) (rest : Course) (now : List Kept) (failed : Failures) : Type 0 where
@@ -57,12 +55,12 @@ pub Walks-halt : (whole first second : Course) (from now : List Kept) (failed0 f
 Walks-halt whole first second from now failed0 failed w h u =
     Halts-lift first whole now from (λ facts events x. w.carries.uncovers facts events (Uncovers-first first second now facts events x)) h u
 
-module _ (steps : List Step) (i count : ℕ) (d : Step) (lt : i < length steps) (whole : Course) (from now : List Kept) (failed0 failed : Failures) (w : Walks whole from failed0 (runs_course (sequence_tree (drop i steps)) count) now failed) where
-  at_step : Walks whole from failed0 (then_course (does_course (command_tree (get_or steps i d).command) count (get_or steps i d).place) (runs_course (sequence_tree (drop (i + 1) steps)) count)) now failed
+module _ (steps : List Step) (i count : ℕ) (d : Step) (lt : i < length steps) (whole : Course) (from now : List Kept) (failed0 failed : Failures) (w : Walks whole from failed0 (RunsAll (sequence_tree (drop i steps)) count) now failed) where
+  at_step : Walks whole from failed0 (then_course (does_course (command_tree (get_or steps i d).command) count (get_or steps i d).place) (RunsAll (sequence_tree (drop (i + 1) steps)) count)) now failed
   at_step = subst (λ (r : Course). Walks whole from failed0 r now failed) (rest-is steps i count d lt) w
 
-  pub Walks-step : (mid : List Kept) (failed' : Failures) → Adds (does_course (command_tree (get_or steps i d).command) count (get_or steps i d).place) now [] mid failed failed' → Walks whole from failed0 (runs_course (sequence_tree (drop (i + 1) steps)) count) mid failed'
-  Walks-step mid failed' a = Walks-then whole (does_course (command_tree (get_or steps i d).command) count (get_or steps i d).place) (runs_course (sequence_tree (drop (i + 1) steps)) count) from now mid failed0 failed failed' at_step a
+  pub Walks-step : (mid : List Kept) (failed' : Failures) → Adds (does_course (command_tree (get_or steps i d).command) count (get_or steps i d).place) now [] mid failed failed' → Walks whole from failed0 (RunsAll (sequence_tree (drop (i + 1) steps)) count) mid failed'
+  Walks-step mid failed' a = Walks-then whole (does_course (command_tree (get_or steps i d).command) count (get_or steps i d).place) (RunsAll (sequence_tree (drop (i + 1) steps)) count) from now mid failed0 failed failed' at_step a
 
   pub Walks-stops : (h : Halt) → Halts (does_course (command_tree (get_or steps i d).command) count (get_or steps i d).place) now h → Halts whole from h
-  Walks-stops h u = Walks-halt whole (does_course (command_tree (get_or steps i d).command) count (get_or steps i d).place) (runs_course (sequence_tree (drop (i + 1) steps)) count) from now failed0 failed at_step h u
+  Walks-stops h u = Walks-halt whole (does_course (command_tree (get_or steps i d).command) count (get_or steps i d).place) (RunsAll (sequence_tree (drop (i + 1) steps)) count) from now failed0 failed at_step h u

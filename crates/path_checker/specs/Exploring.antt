@@ -1,5 +1,5 @@
 -- When the states that are kept stand for all runs from others.
-use Rattle.std.specs.Prelude.{◌≡◌, ◌⊎◌, ℕ, Bool, true, false, List, [], ◌∷◌, ◌++◌, Option, Some, None, length}
+use Rattle.std.specs.Prelude.{◌≡◌, ◌⊎◌, ℕ, Bool, true, false, List, [], ◌∷◌, ◌++◌, length}
 use Rattle.suit_params.specs.InForce.{Parameters}
 use Rattle.path_model.specs.declared.identity.Identity.{Identity}
 use Rattle.path_model.specs.declared.event.Event.{Event}
@@ -26,15 +26,11 @@ pub record Kept : Type 0 where
   pub state : State
 
 abbrev pub state_of : Parameters → List ℕ → Bool → State
-state_of parameters selection soft_failure = record { parameters = parameters; selection = selection; soft_failure = soft_failure }
+state_of parameters selection soft_failure =
+    record { parameters = parameters; selection = selection; soft_failure = soft_failure }
 
 abbrev pub kept_of : List Knowledge → List Event → State → Kept
 kept_of facts events state = record { facts = facts; events = events; state = state }
-
--- a list of the state, if there is one
-abbrev pub at_most_one : Option Kept → List Kept
-at_most_one None = []
-at_most_one (Some k) = k ∷ []
 
 -- a list of the state, if the procedure goes on
 abbrev pub kept_if : Bool → Kept → List Kept
@@ -52,35 +48,44 @@ pub record Stopped : Type 0 where
 -- the same matches standing; a failed directive is not kept
 abbrev pub Found : Kept → List Identity → List Event → List Kept → List Stopped → Ending → Type 0
 Found k identities events done failed (Done state) =
-    (to : Kept) × In to done × Allows to.facts identities × (to.state ≡ state) × SameMatches to.events (k.events ++ events)
+    (to : Kept) × In to done × Allows to.facts identities × (to.state ≡ state)
+    × SameMatches to.events (k.events ++ events)
 Found k identities events done failed (Condition place soft_failure) =
-    (to : Stopped) × In to failed × Allows to.facts identities × (to.soft_failure ≡ soft_failure) × SameMatches to.events (k.events ++ events)
+    (to : Stopped) × In to failed × Allows to.facts identities × (to.soft_failure ≡ soft_failure)
+    × SameMatches to.events (k.events ++ events)
 Found k identities events done failed (Directive place) = Unit {0}
 
 -- from a kept state a run may have these events and this ending, for all identities that the facts allow, and each
 -- invoke on it is covered
-pub record Reaches (course : Course) (k : Kept) (facts : List Knowledge) (events : List Event) (ending : Ending) : Type 0 where
+pub record Reaches (course : Course) (k : Kept) (facts : List Knowledge) (events : List Event)
+    (ending : Ending) : Type 0 where
   pub since : List Event
   pub parts : events ≡ k.events ++ since
   pub covered : CoveredFrom k.events since
   pub count : length facts ≡ length k.facts
-  pub path : (identities : List Identity) → Allows facts identities → Allows k.facts identities × course identities k.state since ending
+  pub path : (identities : List Identity) → Allows facts identities
+      → Allows k.facts identities × course identities k.state since ending
 
 -- the same from one of several kept states
 abbrev pub Leads : Course → List Kept → List Knowledge → List Event → Ending → Type 0
-Leads course from facts events ending = (k : Kept) × In k from × Reaches course k facts events ending
+Leads course from facts events ending =
+    (k : Kept) × In k from × Reaches course k facts events ending
 
 -- on each run from the kept states each invoke is covered, and how it ends is found among the others; each of the
 -- others is an end that a run may come to
 pub record Explores (course : Course) (from done : List Kept) (failed : List Stopped) : Type 0 where
-  pub complete : (k : Kept) → In k from → (identities : List Identity) → Allows k.facts identities → (events : List Event) (ending : Ending)
-      → course identities k.state events ending → CoveredFrom k.events events × Found k identities events done failed ending
+  pub complete : (k : Kept) → In k from → (identities : List Identity) → Allows k.facts identities
+      → (events : List Event) (ending : Ending)
+      → course identities k.state events ending
+      → CoveredFrom k.events events × Found k identities events done failed ending
   pub reached : (to : Kept) → In to done → Leads course from to.facts to.events (Done to.state)
-  pub stopped : (to : Stopped) → In to failed → Leads course from to.facts to.events (Condition to.place to.soft_failure)
+  pub stopped : (to : Stopped) → In to failed
+      → Leads course from to.facts to.events (Condition to.place to.soft_failure)
 
 -- from a kept state a run may have these events, for all identities that the facts allow, and the last of them is its
 -- first invoke that is not covered
-pub record Uncovered (course : Course) (k : Kept) (facts : List Knowledge) (events : List Event) : Type 0 where
+pub record Uncovered (course : Course) (k : Kept) (facts : List Knowledge) (events : List Event)
+    : Type 0 where
   pub since : List Event
   pub last : Event
   pub place : ℕ
@@ -89,7 +94,8 @@ pub record Uncovered (course : Course) (k : Kept) (facts : List Knowledge) (even
   pub count : length facts ≡ length k.facts
   pub uncovered : IsCovered (k.events ++ since) last → ⊥
   pub path : (identities : List Identity) → Allows facts identities
-      → Allows k.facts identities × course identities k.state (since ++ last ∷ Failed place ∷ []) (Directive place)
+      → Allows k.facts identities
+      × course identities k.state (since ++ last ∷ Failed place ∷ []) (Directive place)
 
 -- the same from one of several kept states
 abbrev pub Uncovers : Course → List Kept → List Knowledge → List Event → Type 0
@@ -117,14 +123,20 @@ stop_if false stop = []
 -- those of the failed conditions that are kept
 abbrev pub all_kept : Bool → Bool → List Stopped → List Stopped
 all_kept soft hard [] = []
-all_kept soft hard (stop ∷ stops) = stop_if (is_kept soft hard stop.soft_failure) stop ++ all_kept soft hard stops
+all_kept soft hard (stop ∷ stops) =
+    stop_if (is_kept soft hard stop.soft_failure) stop ++ all_kept soft hard stops
 
 -- the failures after more failed conditions, of which some are kept
 abbrev pub after_stops : Failures → List Stopped → Failures
-after_stops failures stops = record { items = failures.items ++ all_kept failures.soft failures.hard stops; soft = failures.soft; hard = failures.hard }
+after_stops failures stops = record {
+  items = failures.items ++ all_kept failures.soft failures.hard stops;
+  soft = failures.soft;
+  hard = failures.hard;
+}
 
 -- the lists of states and of kept failures have grown by what exploring gives
-pub record Adds (course : Course) (from old_next new_next : List Kept) (old_failed new_failed : Failures) : Type 0 where
+pub record Adds (course : Course) (from old_next new_next : List Kept)
+    (old_failed new_failed : Failures) : Type 0 where
   pub done : List Kept
   pub failed : List Stopped
   pub next_is : new_next ≡ old_next ++ done
@@ -137,4 +149,5 @@ Passes course from done = (failed : List Stopped) × Explores course from done f
 
 -- the states are explored, failed conditions are not kept, and there are none if the premise holds
 abbrev pub Continues : Type 0 → Course → List Kept → List Kept → Type 0
-Continues none course from done = (failed : List Stopped) × Explores course from done failed × (none → failed ≡ [])
+Continues none course from done =
+    (failed : List Stopped) × Explores course from done failed × (none → failed ≡ [])

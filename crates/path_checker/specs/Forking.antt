@@ -11,7 +11,8 @@ use Rattle.path_checker.specs.Knowing.{nothing, Known, Agrees, AllowsOne, Allows
 
 -- what is narrowed allows just those values of which the fact is true
 abbrev pub Narrows : {A : Type 0} → Known A → Known A → (Option A → Type 0) → Type 0
-Narrows {A} known narrowed fact = (own : Option A) → Agrees narrowed own ↔ (Agrees known own × fact own)
+Narrows {A} known narrowed fact =
+    (own : Option A) → Agrees narrowed own ↔ (Agrees known own × fact own)
 
 -- the knowledge alone tells that the fact is true
 abbrev pub Decides : {A : Type 0} → Known A → (Option A → Type 0) → Type 0
@@ -33,7 +34,9 @@ abbrev pub DecidesOne : Knowledge → (Option Identity → Type 0) → Type 0
 DecidesOne known fact = (identity : Identity) → AllowsOne known identity → fact (Some identity)
 
 abbrev pub NarrowsOne : Knowledge → Knowledge → (Option Identity → Type 0) → Type 0
-NarrowsOne known narrowed fact = (identity : Identity) → AllowsOne narrowed identity ↔ (AllowsOne known identity × fact (Some identity))
+NarrowsOne known narrowed fact =
+    (identity : Identity)
+    → AllowsOne narrowed identity ↔ (AllowsOne known identity × fact (Some identity))
 
 abbrev pub HasOne : Own → Option Identity → Type 0
 HasOne own identity = HasOwn identity own
@@ -77,13 +80,17 @@ HasNo component own identities = Has component own identities → ⊥
 
 -- all allowed identities have this value, or none has it, or two lists of facts tell both cases apart
 abbrev pub Forks : List Knowledge → ℕ → Own → Fork → Type 0
-Forks facts component own forks.Has = (identities : List Identity) → Allows facts identities → Has component own identities
-Forks facts component own forks.HasNot = (identities : List Identity) → Allows facts identities → HasNo component own identities
-Forks facts component own (forks.Either has has_not) = Learns facts has (Has component own) × Learns facts has_not (HasNo component own)
+Forks facts component own forks.Has =
+    (identities : List Identity) → Allows facts identities → Has component own identities
+Forks facts component own forks.HasNot =
+    (identities : List Identity) → Allows facts identities → HasNo component own identities
+Forks facts component own (forks.Either has has_not) =
+    Learns facts has (Has component own) × Learns facts has_not (HasNo component own)
 
 -- one component is known to have this value
 abbrev pub learnt_at : List Knowledge → ℕ → Own → List Knowledge
-learnt_at facts component own = slice_set facts component (learnt (get_or facts component nothing) own)
+learnt_at facts component own =
+    slice_set facts component (learnt (get_or facts component nothing) own)
 
 abbrev pub some_if : Bool → List Knowledge → Option (List Knowledge)
 some_if false facts = None
@@ -94,4 +101,5 @@ some_if true facts = Some facts
 abbrev pub Learnt : List Knowledge → ℕ → Own → Option (List Knowledge) → Type 0
 Learnt facts component own None = Forks facts component own forks.HasNot
 Learnt facts component own (Some learned) =
-    (Forks facts component own forks.Has × (learned ≡ facts)) ⊎ ((others : List Knowledge) × Forks facts component own (forks.Either learned others))
+    (Forks facts component own forks.Has × (learned ≡ facts))
+    ⊎ ((others : List Knowledge) × Forks facts component own (forks.Either learned others))

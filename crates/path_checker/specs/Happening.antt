@@ -22,7 +22,8 @@ event_of (lent.Matched component own) = match_event component (match_of own.now)
 event_of (lent.Missed component) = events.Missed component
 event_of (lent.Wrote component) = events.Wrote component
 event_of (lent.Covered component own) = covered_event component (match_of own.now)
-event_of (lent.Uncovered component digest size) = events.Invoked component (option_copied digest) size false
+event_of (lent.Uncovered component digest size) =
+    events.Invoked component (option_copied digest) size false
 event_of (lent.Failed place) = events.Failed place
 
 -- the events of an override at some components
@@ -37,7 +38,8 @@ command_sets _ components = []
 -- the events of several overrides in a row, at the same components
 abbrev pub sequence_sets : SequenceTree → List ℕ → List Event
 sequence_sets NoSteps components = []
-sequence_sets (StepThen place command rest) components = command_sets command components ++ sequence_sets rest components
+sequence_sets (StepThen place command rest) components =
+    command_sets command components ++ sequence_sets rest components
 
 -- the events that are told together
 abbrev pub told_by : Told → List Event
@@ -45,7 +47,8 @@ told_by told.Nothing = []
 told_by (told.One happened) = event_of happened ∷ []
 told_by (told.Swapped component source) = events.Wrote component ∷ events.Wrote source ∷ []
 told_by (told.Sets components list) = sets_at (components_of components) list.now
-told_by (told.Several components steps) = sequence_sets (sequence_tree steps.now) (components_of components)
+told_by (told.Several components steps) =
+    sequence_sets (sequence_tree steps.now) (components_of components)
 
 -- the events of a log, in order
 abbrev pub log_told : List (Told × Unit {0}) → List Event
@@ -54,6 +57,8 @@ log_told (item ∷ rest) = told_by item.0 ++ log_told rest
 
 -- the events up to a failed condition at a place
 abbrev pub after_end : List Event → Ended → ℕ → List Event
-after_end past (ends.Tried component kind) place = past ++ events.Tried component kind false ∷ events.Failed place ∷ []
-after_end past (ends.Missed component) place = past ++ events.Missed component ∷ events.Failed place ∷ []
+after_end past (ends.Tried component kind) place =
+    past ++ events.Tried component kind false ∷ events.Failed place ∷ []
+after_end past (ends.Missed component) place =
+    past ++ events.Missed component ∷ events.Failed place ∷ []
 after_end past ends.Exhausted place = past

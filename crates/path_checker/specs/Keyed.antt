@@ -6,5 +6,6 @@ use Rattle.suit_params.specs.ParamKeys.{key_of}
 use Rattle.suit_params.specs.InForce.{Parameters, in_force}
 
 pub record IsKeyed (parameters : Parameters) : Type 0 where
-  pub keyed : (component : ℕ) (key : ParamKey) (param : Param) → component < 8 → in_force parameters component key ≡ Some param → key_of param ≡ key
+  pub keyed : (component : ℕ) (key : ParamKey) (param : Param) → component < 8
+      → in_force parameters component key ≡ Some param → key_of param ≡ key
   pub whole : length parameters ≡ 96

@@ -58,4 +58,5 @@ HasOwn identity (owns.Slot number) = slot_of identity ≡ Some number
 -- what is learned allows the same identities, except for those of which the fact is false
 pub record Learns (facts learned : List Knowledge) (fact : List Identity → Type 0) : Type 0 where
   pub count : length learned ≡ length facts
-  pub allows : (identities : List Identity) → Allows learned identities ↔ (Allows facts identities × fact identities)
+  pub allows : (identities : List Identity)
+      → Allows learned identities ↔ (Allows facts identities × fact identities)

@@ -18,7 +18,8 @@ stated_by stated = (stated.digest.now, stated.size)
 -- what is stated where this digest and this size are in force: nothing if there is no digest
 abbrev pub IsStated : Option Digest → Option ℕ → Option Stated → Type 0
 IsStated digest size None = None ≡ digest
-IsStated digest size (Some stated) = (Some (stated_by stated).0 ≡ digest) × ((stated_by stated).1 ≡ size)
+IsStated digest size (Some stated) =
+    (Some (stated_by stated).0 ≡ digest) × ((stated_by stated).1 ≡ size)
 
 -- a number, if there is one
 abbrev pub number_if : Bool → ℕ → Option ℕ

@@ -1,5 +1,5 @@
 -- Several overrides in a row.
-use Rattle.std.specs.Prelude.{List, ◌++◌}
+use Rattle.std.specs.Prelude.{◌++◌}
 use Rattle.suit_commands.specs.Tree.{CommandTree, Override, SequenceTree, NoSteps, StepThen}
 use Rattle.path_model.specs.Behaviour.{State}
 use Rattle.path_checker.specs.Exploring.{Kept}
@@ -25,7 +25,8 @@ after_command state _ = state
 -- the state after overrides at its selected components, in order
 abbrev pub after_overrides : State → SequenceTree → State
 after_overrides state NoSteps = state
-after_overrides state (StepThen place command rest) = after_overrides (after_command state command) rest
+after_overrides state (StepThen place command rest) =
+    after_overrides (after_command state command) rest
 
 abbrev pub overridden_by : Kept → SequenceTree → Kept
 overridden_by k sequence = record {

@@ -26,7 +26,8 @@ of_parts (lent ∷ parts) = OfPart (lent_tree lent) ∷ of_parts parts
 
 -- the selection and soft failure are restored, and then the rest is run
 abbrev pub Leaves : List ℕ → Bool → Behaviour → Behaviour
-Leaves selection soft_failure behind state = behind (state_of state.parameters selection soft_failure)
+Leaves selection soft_failure behind state =
+    behind (state_of state.parameters selection soft_failure)
 
 -- what is run first, and then the rest
 abbrev pub RunsFirst : Later → List Identity → ℕ → Behaviour → Behaviour

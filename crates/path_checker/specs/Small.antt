@@ -4,7 +4,7 @@ use Rattle.std.specs.List.{AllByRecursion}
 use Rattle.suit_commands.specs.declared.selection.Selection.{Selection}
 use Rattle.suit_commands.specs.declared.selection.Selection.TheVariants.{One, All, Listed}
 use Rattle.path_checker.specs.Unconditional.{IsUnconditional, AreUnconditional, FirstIsUnconditional}
-use Rattle.suit_commands.specs.Tree.{CommandTree, Test, Act, Override, Index, TryEach, RunSequence, SequenceTree, NoSteps, StepThen, BranchesTree, NoBranches, BranchThen, NullThen}
+use Rattle.suit_commands.specs.Tree.{CommandTree, Index, TryEach, RunSequence, SequenceTree, NoSteps, StepThen, BranchesTree, NoBranches, BranchThen, NullThen}
 
 -- each component is below 8
 abbrev pub AreSmall : List ℕ → Type 0
@@ -19,7 +19,8 @@ SelectsSmall count (Listed components) = AreSmall components
 abbrev mutual
   pub IsSmallSequence : ℕ → SequenceTree → Type 0
   IsSmallSequence count NoSteps = Unit {0}
-  IsSmallSequence count (StepThen place command rest) = IsSmallCommand count command × IsSmallSequence count rest
+  IsSmallSequence count (StepThen place command rest) =
+      IsSmallCommand count command × IsSmallSequence count rest
 
   pub IsSmallCommand : ℕ → CommandTree → Type 0
   IsSmallCommand count (Index selection) = SelectsSmall count selection
@@ -30,7 +31,8 @@ abbrev mutual
   pub AreSmallBranches : ℕ → BranchesTree → Type 0
   AreSmallBranches count NoBranches = Unit {0}
   AreSmallBranches count (NullThen rest) = AreSmallBranches count rest
-  AreSmallBranches count (BranchThen inner rest) = IsSmallSequence count inner × AreSmallBranches count rest
+  AreSmallBranches count (BranchThen inner rest) =
+      IsSmallSequence count inner × AreSmallBranches count rest
 
 -- a straight command: it is a condition, or it runs none
 abbrev pub IsStraight : CommandTree → Type 0

@@ -8,7 +8,8 @@ use Rattle.path_checker.specs.Inner.{resumed, hardened}
 
 -- from one of these states a run may end in this failed condition
 abbrev pub Fails : Course → List Kept → Stopped → Type 0
-Fails course from stop = Leads course from stop.facts stop.events (Condition stop.place stop.soft_failure)
+Fails course from stop =
+    Leads course from stop.facts stop.events (Condition stop.place stop.soft_failure)
 
 -- from one of these states a run may come to where this is
 abbrev pub Comes : Course → List Kept → Turn → Type 0

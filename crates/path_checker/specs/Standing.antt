@@ -15,27 +15,34 @@ held_of standing component = matches_from (slice_get standing.of.items component
 -- one match is added to those of a component
 abbrev pub Gains : StandingMatches → ℕ → Match → StandingMatches → Type 0
 Gains before component one after =
-    (other : ℕ) (any : Match) → In any (held_of after other) ↔ (((other ≡ component) × (any ≡ one)) ⊎ In any (held_of before other))
+    (other : ℕ) (any : Match)
+    → In any (held_of after other)
+    ↔ (((other ≡ component) × (any ≡ one)) ⊎ In any (held_of before other))
 
 -- the matches of a component are dropped
 abbrev pub Loses : StandingMatches → ℕ → StandingMatches → Type 0
 Loses before component after =
-    (other : ℕ) (any : Match) → In any (held_of after other) ↔ ((other ≢ component) × In any (held_of before other))
+    (other : ℕ) (any : Match)
+    → In any (held_of after other) ↔ ((other ≢ component) × In any (held_of before other))
 
 -- the same matches of a component stand in both
 abbrev pub SameHeld : StandingMatches → StandingMatches → ℕ → Type 0
-SameHeld one other component = (any : Match) → In any (held_of one component) ↔ In any (held_of other component)
+SameHeld one other component =
+    (any : Match) → In any (held_of one component) ↔ In any (held_of other component)
 
 -- these matches stand after the events, and no others do
 abbrev pub Stands : StandingMatches → List Event → Type 0
 Stands standing events =
-    (component : ℕ) (digest : Digest) (size : Option ℕ) → In (digest, size) (held_of standing component) ↔ HasMatched events component digest size
+    (component : ℕ) (digest : Digest) (size : Option ℕ)
+    → In (digest, size) (held_of standing component) ↔ HasMatched events component digest size
 
 -- if the first matches stand after some events, the second ones stand after one event more
 abbrev pub StandsAfter : StandingMatches → Event → StandingMatches → Type 0
-StandsAfter standing event after = (events : List Event) → Stands standing events → Stands after (events ++ event ∷ [])
+StandsAfter standing event after =
+    (events : List Event) → Stands standing events → Stands after (events ++ event ∷ [])
 
 -- these matches stand after the events, and this is their trail
-pub record IsHistory (standing : StandingMatches) (trail : Trail) (events : List Event) : Type 0 where
+pub record IsHistory (standing : StandingMatches) (trail : Trail) (events : List Event)
+    : Type 0 where
   pub stands : Stands standing events
   pub trail_is : trail ≡ trail_from no_trail events

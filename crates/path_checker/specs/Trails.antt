@@ -26,7 +26,10 @@ no_trail = record { events = 0; misses = [] }
 abbrev pub trail_after : Trail → Event → Trail
 trail_after trail (events.Set component param) = trail
 trail_after trail event =
-    record { events = (trail.events + 1) % 18446744073709551616; misses = misses_after trail.misses trail.events (is_miss event) }
+    record {
+      events = (trail.events + 1) % 2 ^ 64;
+      misses = misses_after trail.misses trail.events (is_miss event);
+    }
 
 -- the trail after more events
 abbrev pub trail_from : Trail → List Event → Trail

@@ -12,14 +12,21 @@ use Rattle.path_checker.specs.Forking.{Has, HasNo}
 use Rattle.path_checker.specs.Exploring.{Course}
 
 abbrev pub wanted_by : TestKind → Parameters → ℕ → Option Own
-wanted_by tests.Vendor parameters component = option_map owns.Vendor (identifier_of (in_force parameters component keys.Vendor))
-wanted_by tests.Class parameters component = option_map owns.Class (identifier_of (in_force parameters component keys.Class))
-wanted_by tests.Device parameters component = option_map owns.Device (identifier_of (in_force parameters component keys.Device))
-wanted_by tests.Slot parameters component = option_map owns.Slot (number_of (in_force parameters component keys.Slot))
+wanted_by tests.Vendor parameters component =
+    option_map owns.Vendor (identifier_of (in_force parameters component keys.Vendor))
+wanted_by tests.Class parameters component =
+    option_map owns.Class (identifier_of (in_force parameters component keys.Class))
+wanted_by tests.Device parameters component =
+    option_map owns.Device (identifier_of (in_force parameters component keys.Device))
+wanted_by tests.Slot parameters component =
+    option_map owns.Slot (number_of (in_force parameters component keys.Slot))
 wanted_by _ parameters component = None
 
 abbrev pub TestsOwn : TestKind → ℕ → ℕ → Option Own → Course
-TestsOwn kind place component None identities state events ending = IsUnmet place (Tried component kind false) state events ending
+TestsOwn kind place component None identities state events ending =
+    IsUnmet place (Tried component kind false) state events ending
 TestsOwn kind place component (Some own) identities state events ending =
     (Has component own identities × IsMet (Tried component kind true) state events ending)
-    ⊎ (HasNo component own identities × IsUnmet place (Tried component kind false) state events ending)
+    ⊎
+    (HasNo component own identities
+    × IsUnmet place (Tried component kind false) state events ending)

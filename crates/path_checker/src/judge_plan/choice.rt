@@ -1,6 +1,6 @@
 //! The identities that are reported with a path.
 
-ghost use Rattle.std.specs.Prelude.{◌≡◌, ◌≤◌, IfSome, IfOk, Some, length};
+ghost use Rattle.std.specs.Prelude.{◌≡◌, IfSome, IfOk, Some, length};
 ghost use Rattle.path_model.specs.Path.{IsIdentifier, IsIdentity};
 ghost use Rattle.path_checker.specs.Knowing.{Agrees, AllowsOne};
 ghost use Rattle.path_checker.specs.Choosing.{IsLeastOutside, IsChosen};

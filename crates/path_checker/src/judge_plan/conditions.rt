@@ -1,16 +1,15 @@
 //! Conditions at one component.
 
-ghost use Rattle.std.specs.Prelude.{◌≡◌, ◌<◌, List, [], ◌∷◌, Some, IfOk, OnOk};
+ghost use Rattle.std.specs.Prelude.{◌≡◌, ◌<◌, [], ◌∷◌, Some, IfOk, OnOk};
 ghost use Rattle.path_model.specs.CommandLaws.{IsOnIdentity};
-ghost use Rattle.path_model.specs.Conditions.{Tests};
-ghost use Rattle.path_checker.specs.Exploring.{Adds, Passes, Kept as TheKept, kept_if};
+ghost use Rattle.path_checker.specs.Exploring.{Adds, Passes, kept_if};
 ghost use Rattle.path_checker.specs.Wanting.{TestsOwn};
-ghost use Rattle.path_checker.specs.Steps.{knowing};
+ghost use Rattle.path_checker.specs.Steps.{knowing, TestsAt};
 
 use crate::judge_plan::facts::{Facts, Fork, Own};
 use crate::judge_plan::failures::{Failures, stop, stop_also, stop_knowing};
 use crate::judge_plan::happened::{Ended, Happened};
-use crate::judge_plan::kept::{Kept, happens, pass};
+use crate::judge_plan::kept::{Kept, happens, happens_if, pass};
 use crate::judge_plan::memory::Memory;
 use crate::judge_plan::site::Site;
 use std::alloc::AllocError;
@@ -69,8 +68,8 @@ fn identity_test<'a>(
     requires room { component < 8 }
     requires kinds { IsOnIdentity kind }
     ensures { OnOk result
-        (Adds (λ identities. Tests kind identities place component) (k.entry ∷ []) next.old.items
-        next.new.items failed.old failed.new) }
+        (Adds (TestsAt kind place component) (k.entry ∷ []) next.old.items next.new.items
+        failed.old failed.new) }
 {
     match k.params.wanted(kind, component) {
         Some(own) => {
@@ -92,8 +91,8 @@ fn image_match<'a>(
 ) -> Result<(), AllocError>
     requires room { component < 8 }
     ensures { OnOk result
-        (Adds (λ identities. Tests TestKind.ImageMatch identities place component) (k.entry ∷ [])
-        next.old.items next.new.items failed.old failed.new) }
+        (Adds (TestsAt TestKind.ImageMatch place component) (k.entry ∷ []) next.old.items
+        next.new.items failed.old failed.new) }
 {
     match k.params.stated(component) {
         None => stop(k, place, Ended::Missed { component }, failed),
@@ -116,8 +115,8 @@ fn check_content<'a>(
 ) -> Result<(), AllocError>
     requires room { component < 8 }
     ensures { OnOk result
-        (Adds (λ identities. Tests TestKind.CheckContent identities place component) (k.entry ∷ [])
-        next.old.items next.new.items failed.old failed.new) }
+        (Adds (TestsAt TestKind.CheckContent place component) (k.entry ∷ []) next.old.items
+        next.new.items failed.old failed.new) }
 {
     let missed = Ended::Tried {
         component,
@@ -135,51 +134,7 @@ fn check_content<'a>(
     stop(k, place, missed, failed)
 }
 
-fn abort<'a>(
-    place: u64,
-    component: u32,
-    k: Kept<'a>,
-    failed: &mut Failures<'a>,
-) -> Result<(), AllocError>
-    ensures { OnOk result
-        ((n : List TheKept)
-        → Adds (λ identities. Tests TestKind.Abort identities place component) (k.entry ∷ []) n
-        n failed.old failed.new) }
-{
-    let missed = Ended::Tried {
-        component,
-        kind: TestKind::Abort,
-    };
-    stop(k, place, missed, failed)
-}
-
 // ---- where failures are not kept
-
-// A condition on an identity, for what it asks for: whether it may be met.
-fn pass_own_test<'a>(
-    memory: Memory<'a>,
-    place: u64,
-    kind: TestKind,
-    component: u32,
-    own: &Own,
-    k: &mut Kept<'a>,
-) -> Result<bool, AllocError>
-    ensures { IfOk result
-        (λ passes. Passes (TestsOwn kind place component (Some own.now))
-        (k.old ∷ []) (kept_if passes k.new)) }
-{
-    let may_pass = k.facts.learn(memory, component, own)?;
-    if may_pass {
-        let passed = Happened::Tried {
-            component,
-            kind,
-            passed: true,
-        };
-        happens(memory, k, passed)?;
-        return Ok(true);
-    }
-    Ok(false)
-}
 
 // A condition on an identity: whether it may be met.
 fn pass_identity_test<'a>(
@@ -192,11 +147,18 @@ fn pass_identity_test<'a>(
     requires room { component < 8 }
     requires kinds { IsOnIdentity kind }
     ensures { IfOk result
-        (λ passes. Passes (λ identities. Tests kind identities place component) (k.old ∷ [])
-        (kept_if passes k.new)) }
+        (λ passes. Passes (TestsAt kind place component) (k.old ∷ []) (kept_if passes k.new)) }
 {
     match k.params.wanted(kind, component) {
-        Some(own) => pass_own_test(memory, place, kind, component, &own, k),
+        Some(own) => {
+            let passed = Happened::Tried {
+                component,
+                kind,
+                passed: true,
+            };
+            let may_pass = k.facts.learn(memory, component, &own)?;
+            happens_if(memory, may_pass, k, passed)
+        }
         None => Ok(false),
     }
 }
@@ -210,8 +172,8 @@ fn pass_image_match<'a>(
 ) -> Result<bool, AllocError>
     requires room { component < 8 }
     ensures { IfOk result
-        (λ passes. Passes (λ identities. Tests TestKind.ImageMatch identities place component)
-        (k.old ∷ []) (kept_if passes k.new)) }
+        (λ passes. Passes (TestsAt TestKind.ImageMatch place component) (k.old ∷ [])
+        (kept_if passes k.new)) }
 {
     match k.params.stated(component) {
         Some(stated) => {
@@ -224,29 +186,6 @@ fn pass_image_match<'a>(
     }
 }
 
-fn pass_check_content<'a>(
-    memory: Memory<'a>,
-    place: u64,
-    component: u32,
-    k: &mut Kept<'a>,
-) -> Result<bool, AllocError>
-    requires room { component < 8 }
-    ensures { IfOk result
-        (λ passes. Passes (λ identities. Tests TestKind.CheckContent identities place component)
-        (k.old ∷ []) (kept_if passes k.new)) }
-{
-    if k.params.has_content(component) {
-        let passed = Happened::Tried {
-            component,
-            kind: TestKind::CheckContent,
-            passed: true,
-        };
-        happens(memory, k, passed)?;
-        return Ok(true);
-    }
-    Ok(false)
-}
-
 /// A condition whose failure ends the procedure: whether it may be met. If so, the state becomes the one after it.
 pub(crate) fn pass_test<'a>(
     memory: Memory<'a>,
@@ -257,8 +196,7 @@ pub(crate) fn pass_test<'a>(
 ) -> Result<bool, AllocError>
     requires room { component < 8 }
     ensures { IfOk result
-        (λ passes. Passes (λ identities. Tests kind identities place component) (k.old ∷ [])
-        (kept_if passes k.new)) }
+        (λ passes. Passes (TestsAt kind place component) (k.old ∷ []) (kept_if passes k.new)) }
 {
     match kind {
         TestKind::Vendor => pass_identity_test(memory, place, kind, component, k),
@@ -266,7 +204,14 @@ pub(crate) fn pass_test<'a>(
         TestKind::Device => pass_identity_test(memory, place, kind, component, k),
         TestKind::Slot => pass_identity_test(memory, place, kind, component, k),
         TestKind::ImageMatch => pass_image_match(memory, place, component, k),
-        TestKind::CheckContent => pass_check_content(memory, place, component, k),
+        TestKind::CheckContent => {
+            let passed = Happened::Tried {
+                component,
+                kind,
+                passed: true,
+            };
+            happens_if(memory, k.params.has_content(component), k, passed)
+        }
         TestKind::Abort => Ok(false),
     }
 }
@@ -283,8 +228,8 @@ pub(crate) fn test<'a>(
 ) -> Result<(), AllocError>
     requires room { component < 8 }
     ensures { OnOk result
-        (Adds (λ identities. Tests kind identities place component) (k.entry ∷ []) next.old.items
-        next.new.items failed.old failed.new) }
+        (Adds (TestsAt kind place component) (k.entry ∷ []) next.old.items next.new.items
+        failed.old failed.new) }
 {
     match kind {
         TestKind::Vendor => identity_test(memory, place, kind, component, k, next, failed),
@@ -293,6 +238,6 @@ pub(crate) fn test<'a>(
         TestKind::Slot => identity_test(memory, place, kind, component, k, next, failed),
         TestKind::ImageMatch => image_match(memory, place, component, k, next, failed),
         TestKind::CheckContent => check_content(memory, place, component, k, next, failed),
-        TestKind::Abort => abort(place, component, k, failed),
+        TestKind::Abort => stop(k, place, Ended::Tried { component, kind }, failed),
     }
 }

@@ -1,90 +1,29 @@
 //! Directives at one component.
 
-ghost use Rattle.std.specs.Prelude.{◌≡◌, ◌<◌, [], ◌∷◌, OnOk, IfOk, IfErr};
+ghost use Rattle.std.specs.Prelude.{◌≡◌, ◌<◌, ℕ, [], ◌∷◌, OnOk, IfOk, IfErr};
 ghost use Rattle.path_model.specs.Behaviour.{Each};
-ghost use Rattle.path_model.specs.Directives.{Acts, Overrides, soft_after};
+ghost use Rattle.path_model.specs.Directives.{Overrides, soft_after};
 ghost use Rattle.path_checker.specs.Exploring.{Explores, kept_if};
-ghost use Rattle.path_checker.specs.Steps.{soft_after_all, overridden_at, soft_at};
+ghost use Rattle.path_checker.specs.Steps.{soft_after_all, overridden_at, soft_at, ActsAt};
 ghost use Rattle.path_checker.specs.Small.{AreSmall};
 ghost use Rattle.path_checker.specs.Halting.{Halts};
 
 use crate::judge_plan::halt::{Halt, Uncovered};
 use crate::judge_plan::happened::Happened;
 use crate::judge_plan::in_force::InForce;
-use crate::judge_plan::kept::{Kept, happens};
+use crate::judge_plan::kept::{Kept, happens, happens_if};
 use crate::judge_plan::memory::Memory;
 use crate::judge_plan::selected::Components;
 use std::alloc::{AllocError, Global};
 use suit_commands::ActKind;
 use suit_params::{Param, ParamList};
 
-fn write<'a>(
-    memory: Memory<'a>,
-    place: u64,
-    component: u32,
-    k: &mut Kept<'a>,
-) -> Result<bool, AllocError>
-    requires room { component < 8 }
-    ensures { IfOk result
-        (λ goes_on. Explores (λ identities. Acts ActKind.Write place component)
-        (k.old ∷ []) (kept_if goes_on k.new) []) }
-{
-    if k.params.has_content(component) {
-        happens(memory, k, Happened::Wrote { component })?;
-        return Ok(true);
-    }
-    Ok(false)
-}
-
-fn fetch<'a>(
-    memory: Memory<'a>,
-    place: u64,
-    component: u32,
-    k: &mut Kept<'a>,
-) -> Result<bool, AllocError>
-    requires room { component < 8 }
-    ensures { IfOk result
-        (λ goes_on. Explores (λ identities. Acts ActKind.Fetch place component)
-        (k.old ∷ []) (kept_if goes_on k.new) []) }
-{
-    if k.params.has_uri(component) {
-        happens(memory, k, Happened::Wrote { component })?;
-        return Ok(true);
-    }
-    Ok(false)
-}
-
-fn copy<'a>(
-    memory: Memory<'a>,
-    place: u64,
-    component: u32,
-    k: &mut Kept<'a>,
-) -> Result<bool, AllocError>
-    requires room { component < 8 }
-    ensures { IfOk result
-        (λ goes_on. Explores (λ identities. Acts ActKind.Copy place component)
-        (k.old ∷ []) (kept_if goes_on k.new) []) }
-{
-    match k.params.source(component) {
-        Some(_) => {
-            happens(memory, k, Happened::Wrote { component })?;
-            Ok(true)
-        }
-        None => Ok(false),
-    }
-}
-
 // Both components are written.
-fn swap<'a>(
-    memory: Memory<'a>,
-    place: u64,
-    component: u32,
-    k: &mut Kept<'a>,
-) -> Result<bool, AllocError>
+fn swap<'a>(memory: Memory<'a>, component: u32, k: &mut Kept<'a>) -> Result<bool, AllocError>
     requires room { component < 8 }
     ensures { IfOk result
-        (λ goes_on. Explores (λ identities. Acts ActKind.Swap place component)
-        (k.old ∷ []) (kept_if goes_on k.new) []) }
+        (λ goes_on. (place : ℕ)
+        → Explores (ActsAt ActKind.Swap place component) (k.old ∷ []) (kept_if goes_on k.new) []) }
 {
     match k.params.source(component) {
         Some(source) => {
@@ -103,10 +42,9 @@ fn invoke<'a>(
 ) -> Result<bool, Halt<'a>>
     requires room { component < 8 }
     ensures ok { IfOk result
-        (λ goes_on. Explores (λ identities. Acts ActKind.Invoke place component)
-        (k.old ∷ []) (kept_if goes_on k.new) []) }
-    ensures err { IfErr result
-        (λ h. Halts (λ identities. Acts ActKind.Invoke place component) (k.old ∷ []) h) }
+        (λ goes_on. Explores (ActsAt ActKind.Invoke place component) (k.old ∷ [])
+        (kept_if goes_on k.new) []) }
+    ensures err { IfErr result (λ h. Halts (ActsAt ActKind.Invoke place component) (k.old ∷ []) h) }
 {
     match k.params.stated(component) {
         None => {
@@ -148,16 +86,16 @@ pub(crate) fn act_in<'a>(
 ) -> Result<bool, Halt<'a>>
     requires room { component < 8 }
     ensures ok { IfOk result
-        (λ goes_on. Explores (λ identities. Acts kind place component)
-        (k.old ∷ []) (kept_if goes_on k.new) []) }
-    ensures err { IfErr result
-        (λ h. Halts (λ identities. Acts kind place component) (k.old ∷ []) h) }
+        (λ goes_on. Explores (ActsAt kind place component) (k.old ∷ [])
+        (kept_if goes_on k.new) []) }
+    ensures err { IfErr result (λ h. Halts (ActsAt kind place component) (k.old ∷ []) h) }
 {
+    let wrote = Happened::Wrote { component };
     match kind {
-        ActKind::Write => Ok(write(memory, place, component, k)?),
-        ActKind::Fetch => Ok(fetch(memory, place, component, k)?),
-        ActKind::Copy => Ok(copy(memory, place, component, k)?),
-        ActKind::Swap => Ok(swap(memory, place, component, k)?),
+        ActKind::Write => Ok(happens_if(memory, k.params.has_content(component), k, wrote)?),
+        ActKind::Fetch => Ok(happens_if(memory, k.params.has_uri(component), k, wrote)?),
+        ActKind::Copy => Ok(happens_if(memory, k.params.source(component).is_some(), k, wrote)?),
+        ActKind::Swap => Ok(swap(memory, component, k)?),
         ActKind::Invoke => invoke(memory, place, component, k),
     }
 }

@@ -17,8 +17,8 @@ use std::marker::Model;
 #[derive(Drop)]
 pub(crate) struct Failures<'a> {
     pub list: Vec<Stopped<'a>>,
-    pub soft: bool,
-    pub hard: bool,
+    soft: bool,
+    hard: bool,
 }
 
 impl<'a> Model for Failures<'a> {

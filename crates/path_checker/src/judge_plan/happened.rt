@@ -1,7 +1,6 @@
 //! Events of a path, which borrow from the procedure.
 
 ghost use Rattle.std.specs.Prelude.{◌≡◌};
-ghost use Rattle.std.specs.Option.{option_copied};
 ghost use Rattle.path_checker.specs.Happening.{event_of};
 ghost use Rattle.path_checker.specs.Trails.{is_miss};
 
@@ -10,7 +9,7 @@ use path_model::Event;
 use suit_commands::TestKind;
 use suit_params::Digest;
 
-/// An event of a path, with its digest borrowed from the procedure. Overrides are recorded separately.
+/// An event of a path, with its digest borrowed from the procedure. Those of overrides are told together (`Told`).
 #[derive(Clone, Copy)]
 pub(crate) enum Happened<'a> {
     Tried {
@@ -52,16 +51,6 @@ pub(crate) enum Ended {
     Exhausted,
 }
 
-// Copies the digest.
-fn copied(digest: Option<&Digest>) -> Option<Digest>
-    ensures { result ≡ option_copied digest.entry }
-{
-    match digest {
-        Some(digest) => Some(*digest),
-        None => None,
-    }
-}
-
 impl<'a> Happened<'a> {
     /// Whether it is a failed condition.
     pub(crate) fn is_miss(&self) -> bool
@@ -98,7 +87,7 @@ impl<'a> Happened<'a> {
                 size,
             } => Event::Invoked {
                 component,
-                digest: copied(digest),
+                digest: digest.copied(),
                 size,
                 passed: false,
             },

@@ -252,7 +252,8 @@ impl<'a> History<'a> {
         self.trail.into_misses()
     }
 
-    /// A match for an image match at a place. Once many were made, the latest that stands are tried first.
+    /// A match for an image match at a place. The last one of the component in this state and those of the command are
+    /// tried first and, once many were made, the latest that stand.
     pub(crate) fn matched(
         &self,
         memory: Memory<'a>,

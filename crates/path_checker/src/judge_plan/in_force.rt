@@ -26,9 +26,9 @@ use suit_params::{Param, ParamKey, ParamList, identifier_of, number_of, rank};
 // How many components there can be.
 const ROWS: usize = 8;
 
-/// The parameters in force for a component, by the ranks of their keys, and a fingerprint, or 0 before it is computed.
+// The parameters in force for a component, by the ranks of their keys, and a fingerprint, or 0 before it is computed.
 #[derive(Drop)]
-pub(crate) struct Cells<'a> {
+struct Cells<'a> {
     params: [Option<&'a Param>; 12],
     print: Cell<u64>,
 }
@@ -490,8 +490,8 @@ impl<'a> InForce<'a> {
         self.share_all(memory)
     }
 
-    /// How many bytes the values have.
-    pub(crate) fn bytes(&self) -> usize {
+    // How many bytes the values have.
+    fn bytes(&self) -> usize {
         let mut all: usize = 0;
         for row in self.rows() {
             all = all.saturating_add(row.bytes());

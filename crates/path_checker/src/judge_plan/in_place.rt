@@ -3,13 +3,11 @@
 
 ghost use Rattle.std.specs.Prelude.{◌<◌, [], ◌∷◌, IfOk, IfErr};
 ghost use Rattle.suit_commands.specs.View.{command_tree, sequence_tree};
-ghost use Rattle.path_model.specs.Behaviour.{Each};
-ghost use Rattle.path_model.specs.Runs.{Runs, Does, Tries};
 ghost use Rattle.path_checker.specs.Exploring.{Explores, Continues, kept_if};
 ghost use Rattle.path_checker.specs.Halting.{Halts};
 ghost use Rattle.path_checker.specs.Inner.{RunsInside, entered};
 ghost use Rattle.path_checker.specs.Small.{IsSmallSequence, IsSmallCommand, AreSmallBranches, IsStraight, AreStraight};
-ghost use Rattle.path_checker.specs.Steps.{At};
+ghost use Rattle.path_checker.specs.Steps.{DoesStep, StepAt, StepAtEach, RunsAll, TriesIn};
 ghost use Rattle.path_checker.specs.Unconditional.{IsUnconditional, AreUnconditional, FirstIsUnconditional};
 
 use crate::judge_plan::conditions::pass_test;
@@ -36,11 +34,9 @@ fn steps_in<'a>(
     requires straight { AreStraight (sequence_tree steps.now) }
     ensures ok { IfOk result
         (λ goes_on. Continues (AreUnconditional (sequence_tree steps.now))
-        (λ identities. Runs (sequence_tree steps.now) identities count)
-        (k.old ∷ []) (kept_if goes_on k.new)) }
+        (RunsAll (sequence_tree steps.now) count) (k.old ∷ []) (kept_if goes_on k.new)) }
     ensures err { IfErr result
-        (λ h. Halts (λ identities. Runs (sequence_tree steps.now) identities count)
-        (k.old ∷ []) h) }
+        (λ h. Halts (RunsAll (sequence_tree steps.now) count) (k.old ∷ []) h) }
 {
     let mut at = 0;
     while at < steps.len() {
@@ -71,12 +67,8 @@ pub(crate) fn command_in<'a>(
     requires straight { IsStraight (command_tree step.now.command) }
     ensures ok { IfOk result
         (λ goes_on. Continues (IsUnconditional (command_tree step.now.command))
-        (λ identities. Does (command_tree step.now.command) identities count step.now.place)
-        (k.old ∷ []) (kept_if goes_on k.new)) }
-    ensures err { IfErr result
-        (λ h. Halts
-        (λ identities. Does (command_tree step.now.command) identities count step.now.place)
-        (k.old ∷ []) h) }
+        (DoesStep step.now count) (k.old ∷ []) (kept_if goes_on k.new)) }
+    ensures err { IfErr result (λ h. Halts (DoesStep step.now count) (k.old ∷ []) h) }
 {
     if let Command::Index(selection) = &step.command {
         k.selection = Selected::by(selection, count);
@@ -97,16 +89,9 @@ fn each_in<'a>(
     requires straight { IsStraight (command_tree step.now.command) }
     ensures ok { IfOk result
         (λ goes_on. Continues (IsUnconditional (command_tree step.now.command))
-        (λ identities. Each
-        (λ c. At (command_tree step.now.command) count step.now.place c identities)
-        k.old.state.selection)
-        (k.old ∷ []) (kept_if goes_on k.new)) }
+        (StepAtEach step.now count k.old.state.selection) (k.old ∷ []) (kept_if goes_on k.new)) }
     ensures err { IfErr result
-        (λ h. Halts
-        (λ identities. Each
-        (λ c. At (command_tree step.now.command) count step.now.place c identities)
-        k.old.state.selection)
-        (k.old ∷ []) h) }
+        (λ h. Halts (StepAtEach step.now count k.old.state.selection) (k.old ∷ []) h) }
 {
     if let Some(component) = k.selection.sole() {
         return one_in(memory, count, step, component, k);
@@ -139,11 +124,8 @@ fn one_in<'a>(
     requires straight { IsStraight (command_tree step.now.command) }
     ensures ok { IfOk result
         (λ goes_on. Continues (IsUnconditional (command_tree step.now.command))
-        (At (command_tree step.now.command) count step.now.place component)
-        (k.old ∷ []) (kept_if goes_on k.new)) }
-    ensures err { IfErr result
-        (λ h. Halts (At (command_tree step.now.command) count step.now.place component)
-        (k.old ∷ []) h) }
+        (StepAt step.now count component) (k.old ∷ []) (kept_if goes_on k.new)) }
+    ensures err { IfErr result (λ h. Halts (StepAt step.now count component) (k.old ∷ []) h) }
 {
     match &step.command {
         Command::Test { kind, .. } => Ok(pass_test(memory, step.place, *kind, component, k)?),
@@ -172,11 +154,9 @@ fn inside<'a>(
     requires small { IsSmallSequence count inner.now }
     requires unconditional { AreUnconditional inner.now }
     ensures ok { IfOk result
-        (λ goes_on. RunsInside (λ identities. Runs inner.now identities count) component soft k.old
-        goes_on k.new) }
+        (λ goes_on. RunsInside (RunsAll inner.now count) component soft k.old goes_on k.new) }
     ensures err { IfErr result
-        (λ h. Halts (λ identities. Runs inner.now identities count)
-        (entered k.old.state component soft k.old ∷ []) h) }
+        (λ h. Halts (RunsAll inner.now count) (entered k.old.state component soft k.old ∷ []) h) }
 {
     let (selection, soft_failure) = (k.selection.copy(), k.soft_failure);
     k.selection = Selected::one(component);
@@ -201,11 +181,10 @@ fn try_in<'a>(
     requires small { AreSmallBranches count branches.now }
     requires unconditional { FirstIsUnconditional branches.now }
     ensures ok { IfOk result
-        (λ goes_on. Explores (λ identities. Tries branches.now identities count place component)
-        (k.old ∷ []) (kept_if goes_on k.new) []) }
+        (λ goes_on. Explores (TriesIn branches.now count place component) (k.old ∷ [])
+        (kept_if goes_on k.new) []) }
     ensures err { IfErr result
-        (λ h. Halts (λ identities. Tries branches.now identities count place component)
-        (k.old ∷ []) h) }
+        (λ h. Halts (TriesIn branches.now count place component) (k.old ∷ []) h) }
 {
     let all = branches.as_slice();
     match &all[0] {
@@ -214,29 +193,8 @@ fn try_in<'a>(
     }
 }
 
-// Runs commands in order. While many states are kept, parameters that this changed are then shared.
-fn all_in<'a>(
-    memory: Memory<'a>,
-    count: u32,
-    steps: &'a [Step],
-    k: &mut Kept<'a>,
-) -> Result<bool, Halt<'a>>
-    requires small { IsSmallSequence count (sequence_tree steps.now) }
-    requires straight { AreStraight (sequence_tree steps.now) }
-    ensures ok { IfOk result
-        (λ goes_on. Continues (AreUnconditional (sequence_tree steps.now))
-        (λ identities. Runs (sequence_tree steps.now) identities count)
-        (k.old ∷ []) (kept_if goes_on k.new)) }
-    ensures err { IfErr result
-        (λ h. Halts (λ identities. Runs (sequence_tree steps.now) identities count)
-        (k.old ∷ []) h) }
-{
-    let goes_on = steps_in(memory, count, steps, k)?;
-    settle(memory, k)?;
-    Ok(goes_on)
-}
-
-/// Runs commands in order, from each of the states.
+/// Runs commands in order, from each of the states. While many states are kept, parameters that this changed are then
+/// shared.
 pub(crate) fn steps_in_all<'a>(
     memory: Memory<'a>,
     count: u32,
@@ -247,17 +205,17 @@ pub(crate) fn steps_in_all<'a>(
     requires straight { AreStraight (sequence_tree steps.now) }
     ensures ok { IfOk result
         (λ v. Continues (AreUnconditional (sequence_tree steps.now))
-        (λ identities. Runs (sequence_tree steps.now) identities count)
-        from.entry.items v.items) }
+        (RunsAll (sequence_tree steps.now) count) from.entry.items v.items) }
     ensures err { IfErr result
-        (λ h. Halts (λ identities. Runs (sequence_tree steps.now) identities count)
-        from.entry.items h) }
+        (λ h. Halts (RunsAll (sequence_tree steps.now) count) from.entry.items h) }
 {
     let round = memory.gather(from.len());
     let mut now = from;
     let mut kept = 0;
     for at in 0..now.len() {
-        let goes_on = all_in(memory, count, steps, &mut now[at])?;
+        let k = &mut now[at];
+        let goes_on = steps_in(memory, count, steps, k)?;
+        settle(memory, k)?;
         if !goes_on {
             continue;
         }

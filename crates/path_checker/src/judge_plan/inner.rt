@@ -18,7 +18,7 @@ use std::mem;
 #[derive(Drop)]
 pub(crate) struct Outer<'a> {
     params: InForce<'a>,
-    pub selection: Selected<'a>,
+    selection: Selected<'a>,
     pub soft_failure: bool,
 }
 

@@ -7,9 +7,9 @@ ghost use Rattle.path_checker.specs.Invoking.{Invokes, CommandInvokes, BranchesI
 
 use suit_commands::{ActKind, Branches, Command, Sequence};
 
-/// Whether the sequence, or one inside it, holds an invoke.
+// Whether the sequence, or one inside it, holds an invoke.
 #[cycle(invoking)]
-pub(crate) fn has_invoke(sequence: &Sequence) -> bool
+fn has_invoke(sequence: &Sequence) -> bool
     ensures { IsTrue result ↔ Invokes sequence.now }
 {
     for step in sequence.as_slice() {

@@ -14,7 +14,7 @@ use crate::judge_plan::history::History;
 use crate::judge_plan::in_force::InForce;
 use crate::judge_plan::memory::Memory;
 use crate::judge_plan::selected::Selected;
-use std::alloc::{AllocError, Global};
+use std::alloc::AllocError;
 use std::marker::Model;
 
 /// A state, what is known of the identities in it, and the history that led to it.
@@ -162,6 +162,22 @@ pub(crate) fn happens<'a>(
     ensures { OnOk result (k.new ≡ with_events k.old (event_of event.entry ∷ [])) }
 {
     k.history.add(memory, event)
+}
+
+/// Adds an event to the history of a state, if the procedure goes on. Returns whether it does.
+pub(crate) fn happens_if<'a>(
+    memory: Memory<'a>,
+    goes_on: bool,
+    k: &mut Kept<'a>,
+    event: Happened<'a>,
+) -> Result<bool, AllocError>
+    ensures { IfOk result
+        (λ on. kept_if on k.new ≡ kept_if goes_on (with_events k.old (event_of event.entry ∷ []))) }
+{
+    if goes_on {
+        happens(memory, k, event)?;
+    }
+    Ok(goes_on)
 }
 
 /// Adds an event to the history of a state, and the state to `next`.

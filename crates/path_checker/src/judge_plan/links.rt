@@ -92,10 +92,8 @@ impl Link {
     }
 
     fn index(self, form: Form) -> Option<usize> {
-        match (self.bits & form.indices).checked_sub(1) {
-            Some(index) => Some(index as usize),
-            None => None,
-        }
+        let index = (self.bits & form.indices).checked_sub(1)?;
+        Some(index as usize)
     }
 
     fn may_be(self, print: u64, form: Form) -> bool {

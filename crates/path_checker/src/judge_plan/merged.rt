@@ -53,18 +53,14 @@ impl Seen {
 
     // The index of the last entry that may have this fingerprint.
     fn last(&self, print: u64) -> Option<usize> {
-        match self.last.get(self.bits(print)) {
-            Some(last) => (*last as usize).checked_sub(1),
-            None => None,
-        }
+        let last = self.last.get(self.bits(print))?;
+        (*last as usize).checked_sub(1)
     }
 
     // The index of the previous entry in the same chain.
     fn before(&self, index: usize) -> Option<usize> {
-        match self.prints.get(index) {
-            Some(own) => (own.before as usize).checked_sub(1),
-            None => None,
-        }
+        let own = self.prints.get(index)?;
+        (own.before as usize).checked_sub(1)
     }
 
     fn has(&self, index: usize, print: u64) -> bool {

@@ -4,7 +4,6 @@
 ghost use Rattle.std.specs.Prelude.{◌≡◌, ◌<◌, ◌≤◌, List, [], ◌∷◌, None, length, get_or, drop, IfSome, OnOk, IfOk, IfErr};
 ghost use Rattle.suit_commands.specs.Plans.{lent_tree};
 ghost use Rattle.suit_commands.specs.View.{command_tree, sequence_tree};
-ghost use Rattle.path_model.specs.Runs.{Does};
 ghost use Rattle.path_checker.specs.Exploring.{Passes};
 ghost use Rattle.path_checker.specs.Going.{GoesOn, GoesLast};
 ghost use Rattle.path_checker.specs.Invoking.{Covers};
@@ -12,9 +11,11 @@ ghost use Rattle.path_checker.specs.RestViews.{tried_branches};
 ghost use Rattle.path_checker.specs.Rests.{Later, RunsRest, RunsThen, TriesAt, TriesThen, IsSmallRest, AreFew, OfTries, OfLeave, of_parts};
 ghost use Rattle.path_checker.specs.Small.{AreSmallBranches, IsSmallSequence, IsSmallCommand, IsStraight};
 ghost use Rattle.path_checker.specs.Halting.{Halts};
+ghost use Rattle.path_checker.specs.Steps.{DoesStep};
 
 use crate::judge_plan::failures::Failures;
 use crate::judge_plan::halt::Halt;
+use crate::judge_plan::in_place::command_in;
 use crate::judge_plan::inner::{
     Inside, Outer, enter_all, leave_one, none_inside, only, outer_of, restart,
 };
@@ -22,7 +23,7 @@ use crate::judge_plan::kept::Kept;
 use crate::judge_plan::memory::Memory;
 use crate::judge_plan::rest::{First, Rest};
 use crate::judge_plan::selected::Selected;
-use crate::judge_plan::straight::{is_straight, straight, straight_in};
+use crate::judge_plan::straight::{is_straight, straight};
 use crate::judge_plan::walk::{command, one_branch};
 use crate::judge_plan::wide_try::{Tried, wide_try};
 use std::alloc::AllocError;
@@ -69,14 +70,8 @@ fn outermost<'a>(
     from: Vec<Kept<'a>>,
 ) -> Result<Vec<Kept<'a>>, Halt<'a>>
     requires small { IsSmallCommand count (command_tree step.now.command) }
-    ensures ok { IfOk result
-        (λ v. Passes
-        (λ identities. Does (command_tree step.now.command) identities count step.now.place)
-        from.entry.items v.items) }
-    ensures err { IfErr result
-        (λ h. Halts
-        (λ identities. Does (command_tree step.now.command) identities count step.now.place)
-        from.entry.items h) }
+    ensures ok { IfOk result (λ v. Passes (DoesStep step.now count) from.entry.items v.items) }
+    ensures err { IfErr result (λ h. Halts (DoesStep step.now count) from.entry.items h) }
 {
     if is_straight(&step.command) {
         return straight(memory, count, step, from);
@@ -440,7 +435,7 @@ fn straight_steps<'a>(
 {
     let mut at = 0;
     while let Some(step) = straight_at(steps, at) {
-        let goes_on = straight_in(memory, count, step, k)?;
+        let goes_on = command_in(memory, count, step, k)?;
         if !goes_on {
             return Ok(None);
         }

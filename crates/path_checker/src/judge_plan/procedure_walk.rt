@@ -1,6 +1,6 @@
 //! The walk through a procedure: the shared sequence before each of the three members.
 
-ghost use Rattle.std.specs.Prelude.{◌≡◌, ◌↔◌, ◌≤◌, [], ◌∷◌, IsTrue, IfOk, IfErr, OnOk};
+ghost use Rattle.std.specs.Prelude.{◌≡◌, ◌↔◌, [], ◌∷◌, IsTrue, IfOk, IfErr, OnOk};
 ghost use Rattle.suit_commands.specs.Plans.{plan_tree};
 ghost use Rattle.path_model.specs.Path.{RunsPlan};
 ghost use Rattle.path_checker.specs.Invoking.{Covers};

@@ -1,16 +1,15 @@
-//! Follows one path of a procedure, of which it is known which conditions fail.
+//! Follows one path of a procedure, of which it is known which conditions fail. If no path goes that way, this returns an
+//! error as if memory had run out, which claims nothing.
 
 ghost use Rattle.std.specs.Prelude.{◌≡◌, ◌<◌, [], ◌∷◌, IfOk, IfErr};
 ghost use Rattle.suit_commands.specs.Plans.{lent_tree};
 ghost use Rattle.suit_commands.specs.View.{command_tree};
-ghost use Rattle.path_model.specs.Conditions.{Tests};
-ghost use Rattle.path_model.specs.Runs.{Runs, Does, Tries, RunsInner};
 ghost use Rattle.path_checker.specs.Halting.{Halts};
 ghost use Rattle.path_checker.specs.Inner.{left};
 ghost use Rattle.path_checker.specs.Rests.{RunsRest, IsSmallRest, of_parts};
 ghost use Rattle.path_checker.specs.Small.{IsSmallSequence, IsSmallCommand, AreSmallBranches};
 ghost use Rattle.path_checker.specs.Spelling.{Comes};
-ghost use Rattle.path_checker.specs.Steps.{At};
+ghost use Rattle.path_checker.specs.Steps.{TestsAt, DoesStep, StepAt, RunsAll, RunsInnerAt, TriesIn};
 ghost use Rattle.path_checker.specs.Unconditional.{IsUnconditional};
 
 use crate::judge_plan::conditions::pass_test;
@@ -35,7 +34,7 @@ pub(crate) struct Way<'a, 's> {
     pub misses: &'s Misses<'s>,
 }
 
-// Runs a sequence. An error without an uncovered invoke says that no path goes this way, or that memory ran out.
+// Runs a sequence.
 #[cycle(spelling)]
 fn sequence<'a>(
     way: Way<'a, '_>,
@@ -44,21 +43,16 @@ fn sequence<'a>(
     from: Kept<'a>,
 ) -> Result<Turn<'a>, Halt<'a>>
     requires small { IsSmallSequence count sequence.now }
-    ensures ok { IfOk result
-        (λ turn. Comes (λ identities. Runs sequence.now identities count) (from.entry ∷ [])
-        turn) }
-    ensures err { IfErr result
-        (λ h. Halts (λ identities. Runs sequence.now identities count) (from.entry ∷ []) h) }
+    ensures ok { IfOk result (λ turn. Comes (RunsAll sequence.now count) (from.entry ∷ []) turn) }
+    ensures err { IfErr result (λ h. Halts (RunsAll sequence.now count) (from.entry ∷ []) h) }
 {
     let mut now = from;
     let steps = sequence.as_slice();
-    let mut at = 0;
-    while at < steps.len() {
-        match command(way, count, &steps[at], now)? {
+    for step in steps {
+        match command(way, count, step, now)? {
             Turn::On(k) => now = k,
             Turn::Over(stop) => return Ok(Turn::Over(stop)),
         }
-        at += 1;
     }
     Ok(Turn::On(now))
 }
@@ -72,44 +66,18 @@ fn command<'a>(
     k: Kept<'a>,
 ) -> Result<Turn<'a>, Halt<'a>>
     requires small { IsSmallCommand count (command_tree step.now.command) }
-    ensures ok { IfOk result
-        (λ turn. Comes
-        (λ identities. Does (command_tree step.now.command) identities count step.now.place)
-        (k.entry ∷ []) turn) }
-    ensures err { IfErr result
-        (λ h. Halts
-        (λ identities. Does (command_tree step.now.command) identities count step.now.place)
-        (k.entry ∷ []) h) }
+    ensures ok { IfOk result (λ turn. Comes (DoesStep step.now count) (k.entry ∷ []) turn) }
+    ensures err { IfErr result (λ h. Halts (DoesStep step.now count) (k.entry ∷ []) h) }
 {
-    if is_unconditional(&step.command) {
-        return plain(way, count, step, k);
+    if !is_unconditional(&step.command) {
+        return each(way, count, step, k);
     }
-    each(way, count, step, k)
-}
-
-// Runs a command that runs no condition.
-fn plain<'a>(
-    way: Way<'a, '_>,
-    count: u32,
-    step: &'a Step,
-    k: Kept<'a>,
-) -> Result<Turn<'a>, Halt<'a>>
-    requires small { IsSmallCommand count (command_tree step.now.command) }
-    requires unconditional { IsUnconditional (command_tree step.now.command) }
-    ensures ok { IfOk result
-        (λ turn. Comes
-        (λ identities. Does (command_tree step.now.command) identities count step.now.place)
-        (k.entry ∷ []) turn) }
-    ensures err { IfErr result
-        (λ h. Halts
-        (λ identities. Does (command_tree step.now.command) identities count step.now.place)
-        (k.entry ∷ []) h) }
-{
     let mut k = k;
     let goes_on = command_in(way.memory, count, step, &mut k)?;
     if goes_on {
         return Ok(Turn::On(k));
     }
+    // No path goes this way.
     Err(Halt::NoMemory)
 }
 
@@ -118,14 +86,8 @@ fn plain<'a>(
 fn each<'a>(way: Way<'a, '_>, count: u32, step: &'a Step, k: Kept<'a>) -> Result<Turn<'a>, Halt<'a>>
     requires small { IsSmallCommand count (command_tree step.now.command) }
     requires conditional { IsUnconditional (command_tree step.now.command) → ⊥ }
-    ensures ok { IfOk result
-        (λ turn. Comes
-        (λ identities. Does (command_tree step.now.command) identities count step.now.place)
-        (k.entry ∷ []) turn) }
-    ensures err { IfErr result
-        (λ h. Halts
-        (λ identities. Does (command_tree step.now.command) identities count step.now.place)
-        (k.entry ∷ []) h) }
+    ensures ok { IfOk result (λ turn. Comes (DoesStep step.now count) (k.entry ∷ []) turn) }
+    ensures err { IfErr result (λ h. Halts (DoesStep step.now count) (k.entry ∷ []) h) }
 {
     let selection = k.selection.copy();
     let mut now = k;
@@ -150,12 +112,8 @@ fn one<'a>(
     requires room { component < 8 }
     requires small { IsSmallCommand count (command_tree step.now.command) }
     requires conditional { IsUnconditional (command_tree step.now.command) → ⊥ }
-    ensures ok { IfOk result
-        (λ turn. Comes (At (command_tree step.now.command) count step.now.place component)
-        (k.entry ∷ []) turn) }
-    ensures err { IfErr result
-        (λ h. Halts (At (command_tree step.now.command) count step.now.place component)
-        (k.entry ∷ []) h) }
+    ensures ok { IfOk result (λ turn. Comes (StepAt step.now count component) (k.entry ∷ []) turn) }
+    ensures err { IfErr result (λ h. Halts (StepAt step.now count component) (k.entry ∷ []) h) }
 {
     let site = Site {
         place: step.place,
@@ -173,11 +131,9 @@ fn one<'a>(
 fn test<'a>(way: Way<'a, '_>, site: Site, kind: TestKind, k: Kept<'a>) -> Result<Turn<'a>, Halt<'a>>
     requires room { site.component < 8 }
     ensures ok { IfOk result
-        (λ turn. Comes (λ identities. Tests kind identities site.place site.component)
-        (k.entry ∷ []) turn) }
+        (λ turn. Comes (TestsAt kind site.place site.component) (k.entry ∷ []) turn) }
     ensures err { IfErr result
-        (λ h. Halts (λ identities. Tests kind identities site.place site.component)
-        (k.entry ∷ []) h) }
+        (λ h. Halts (TestsAt kind site.place site.component) (k.entry ∷ []) h) }
 {
     if way.misses.has(k.history.number()) {
         return Ok(Turn::Over(fail(way.memory, site, kind, k)?));
@@ -187,6 +143,7 @@ fn test<'a>(way: Way<'a, '_>, site: Site, kind: TestKind, k: Kept<'a>) -> Result
     if passes {
         return Ok(Turn::On(k));
     }
+    // No path goes this way.
     Err(Halt::NoMemory)
 }
 
@@ -202,12 +159,9 @@ fn run<'a>(
     requires room { component < 8 }
     requires small { IsSmallSequence count inner.now }
     ensures ok { IfOk result
-        (λ turn. Comes
-        (λ identities. RunsInner (Runs inner.now identities count) component)
-        (k.entry ∷ []) turn) }
+        (λ turn. Comes (RunsInnerAt inner.now count component) (k.entry ∷ []) turn) }
     ensures err { IfErr result
-        (λ h. Halts (λ identities. RunsInner (Runs inner.now identities count) component)
-        (k.entry ∷ []) h) }
+        (λ h. Halts (RunsInnerAt inner.now count component) (k.entry ∷ []) h) }
 {
     let outer = outer_of(&k)?;
     match sequence(way, count, inner, enter(component, false, k))? {
@@ -237,13 +191,9 @@ fn try_each<'a>(
     requires room { site.component < 8 }
     requires small { AreSmallBranches count branches.now }
     ensures ok { IfOk result
-        (λ turn. Comes
-        (λ identities. Tries branches.now identities count site.place site.component)
-        (k.entry ∷ []) turn) }
+        (λ turn. Comes (TriesIn branches.now count site.place site.component) (k.entry ∷ []) turn) }
     ensures err { IfErr result
-        (λ h. Halts
-        (λ identities. Tries branches.now identities count site.place site.component)
-        (k.entry ∷ []) h) }
+        (λ h. Halts (TriesIn branches.now count site.place site.component) (k.entry ∷ []) h) }
 {
     let outer = outer_of(&k)?;
     try_around(way, count, branches, site, &outer, k)
@@ -263,13 +213,9 @@ fn try_around<'a>(
     requires small { AreSmallBranches count branches.now }
     requires outer { outer.now ≡ k.state }
     ensures ok { IfOk result
-        (λ turn. Comes
-        (λ identities. Tries branches.now identities count site.place site.component)
-        (k.entry ∷ []) turn) }
+        (λ turn. Comes (TriesIn branches.now count site.place site.component) (k.entry ∷ []) turn) }
     ensures err { IfErr result
-        (λ h. Halts
-        (λ identities. Tries branches.now identities count site.place site.component)
-        (k.entry ∷ []) h) }
+        (λ h. Halts (TriesIn branches.now count site.place site.component) (k.entry ∷ []) h) }
 {
     let mut now = k;
     let all = branches.as_slice();
@@ -318,11 +264,9 @@ fn part<'a>(
 ) -> Result<Turn<'a>, Halt<'a>>
     requires small { IsSmallSequence count (lent_tree lent) }
     ensures ok { IfOk result
-        (λ turn. Comes (λ identities. Runs (lent_tree lent.entry) identities count)
-        (k.entry ∷ []) turn) }
+        (λ turn. Comes (RunsAll (lent_tree lent.entry) count) (k.entry ∷ []) turn) }
     ensures err { IfErr result
-        (λ h. Halts (λ identities. Runs (lent_tree lent.entry) identities count)
-        (k.entry ∷ []) h) }
+        (λ h. Halts (RunsAll (lent_tree lent.entry) count) (k.entry ∷ []) h) }
 {
     match lent {
         Some(member) => sequence(way, count, member, k),

@@ -1,13 +1,13 @@
 //! Straight commands: conditions, and commands that run none. Where a failed condition ends the procedure, they lead a
 //! state to at most one state.
 
-ghost use Rattle.std.specs.Prelude.{◌≡◌, ◌↔◌, ◌<◌, ◌≤◌, ◌+◌, [], ◌∷◌, IsTrue, IfOk, IfErr, length, get_or, take, drop};
+ghost use Rattle.std.specs.Prelude.{◌≡◌, ◌↔◌, ◌<◌, ◌≤◌, ◌+◌, IsTrue, IfOk, IfErr, length, get_or, take, drop};
 ghost use Rattle.suit_commands.specs.declared.command.Step.{Step as TheStep};
 ghost use Rattle.suit_commands.specs.View.{command_tree, sequence_tree};
-ghost use Rattle.path_model.specs.Runs.{Does};
-ghost use Rattle.path_checker.specs.Exploring.{Passes, kept_if};
+ghost use Rattle.path_checker.specs.Exploring.{Passes};
 ghost use Rattle.path_checker.specs.Small.{IsSmallCommand, IsStraight, IsInPlace, AreInPlace};
 ghost use Rattle.path_checker.specs.Halting.{Halts};
+ghost use Rattle.path_checker.specs.Steps.{DoesStep};
 
 use crate::judge_plan::halt::Halt;
 use crate::judge_plan::in_place::command_in;
@@ -65,28 +65,6 @@ pub(crate) fn in_place_from(steps: &[Step], at: usize, tests: bool) -> &[Step]
     &steps[at..end]
 }
 
-/// Runs a straight command on a state in place. Returns whether the procedure goes on, and then leaves the state after
-/// the command.
-pub(crate) fn straight_in<'a>(
-    memory: Memory<'a>,
-    count: u32,
-    step: &'a Step,
-    k: &mut Kept<'a>,
-) -> Result<bool, Halt<'a>>
-    requires small { IsSmallCommand count (command_tree step.now.command) }
-    requires straight { IsStraight (command_tree step.now.command) }
-    ensures ok { IfOk result
-        (λ goes_on. Passes
-        (λ identities. Does (command_tree step.now.command) identities count step.now.place)
-        (k.old ∷ []) (kept_if goes_on k.new)) }
-    ensures err { IfErr result
-        (λ h. Halts
-        (λ identities. Does (command_tree step.now.command) identities count step.now.place)
-        (k.old ∷ []) h) }
-{
-    command_in(memory, count, step, k)
-}
-
 /// Runs a straight command from each of the states.
 pub(crate) fn straight<'a>(
     memory: Memory<'a>,
@@ -96,21 +74,15 @@ pub(crate) fn straight<'a>(
 ) -> Result<Vec<Kept<'a>>, Halt<'a>>
     requires small { IsSmallCommand count (command_tree step.now.command) }
     requires straight { IsStraight (command_tree step.now.command) }
-    ensures ok { IfOk result
-        (λ v. Passes
-        (λ identities. Does (command_tree step.now.command) identities count step.now.place)
-        from.entry.items v.items) }
-    ensures err { IfErr result
-        (λ h. Halts
-        (λ identities. Does (command_tree step.now.command) identities count step.now.place)
-        from.entry.items h) }
+    ensures ok { IfOk result (λ v. Passes (DoesStep step.now count) from.entry.items v.items) }
+    ensures err { IfErr result (λ h. Halts (DoesStep step.now count) from.entry.items h) }
 {
     let mut now = from;
     let mut next = Vec::new(memory.alloc);
     while let Some(one) = now.pop() {
         reuse(&mut now, &mut next);
         let mut k = one;
-        let goes_on = straight_in(memory, count, step, &mut k)?;
+        let goes_on = command_in(memory, count, step, &mut k)?;
         add_if(goes_on, k, &mut next)?;
     }
     Ok(next)

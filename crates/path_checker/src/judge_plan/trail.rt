@@ -1,6 +1,6 @@
 //! Which failed conditions a state passed over. With these one path that leads to it is known.
 
-ghost use Rattle.std.specs.Prelude.{◌≡◌, ◌+◌, ◌%◌, IfOk, OnOk, OnErr};
+ghost use Rattle.std.specs.Prelude.{◌≡◌, ◌+◌, ◌%◌, ◌^◌, IfOk, OnOk, OnErr};
 ghost use Rattle.path_checker.specs.Happening.{event_of};
 ghost use Rattle.path_checker.specs.Trails.{no_trail, trail_after};
 
@@ -59,7 +59,7 @@ impl Trail {
 
     /// Counts a write.
     pub(crate) fn count(&mut self)
-        ensures { self.new ≡ record self.old { events = (self.old.events + 1) % 18446744073709551616 } }
+        ensures { self.new ≡ record self.old { events = (self.old.events + 1) % 2 ^ 64 } }
     {
         self.events = self.events.wrapping_add(1);
     }

@@ -2,12 +2,10 @@
 
 ghost use Rattle.std.specs.Prelude.{◌≡◌, ◌<◌, [], ◌∷◌, OnOk, IfOk, IfErr};
 ghost use Rattle.suit_commands.specs.View.{command_tree};
-ghost use Rattle.path_model.specs.Behaviour.{Each};
-ghost use Rattle.path_model.specs.Runs.{Runs, Does, Tries, RunsInner};
 ghost use Rattle.path_checker.specs.Exploring.{Adds};
-ghost use Rattle.path_checker.specs.Inner.{BranchAdds, InsideAdds, outside_of};
+ghost use Rattle.path_checker.specs.Inner.{BranchAdds, outside_of};
 ghost use Rattle.path_checker.specs.Small.{IsSmallSequence, IsSmallCommand, AreSmallBranches};
-ghost use Rattle.path_checker.specs.Steps.{At};
+ghost use Rattle.path_checker.specs.Steps.{DoesStep, StepAt, StepAtEach, RunsAll, RunsInnerAt, TriesIn};
 ghost use Rattle.path_checker.specs.Unconditional.{IsUnconditional};
 ghost use Rattle.path_checker.specs.Halting.{Halts};
 
@@ -26,9 +24,9 @@ use crate::judge_plan::site::Site;
 use crate::judge_plan::straight::in_place_from;
 use suit_commands::{Branches, Command, Sequence, Step};
 
-/// Runs a sequence from each of the states.
+// Runs a sequence from each of the states.
 #[cycle(walk)]
-pub(crate) fn sequence<'a>(
+fn sequence<'a>(
     memory: Memory<'a>,
     count: u32,
     sequence: &'a Sequence,
@@ -37,10 +35,8 @@ pub(crate) fn sequence<'a>(
 ) -> Result<Vec<Kept<'a>>, Halt<'a>>
     requires small { IsSmallSequence count sequence.now }
     ensures ok { IfOk result
-        (λ v. Adds (λ identities. Runs sequence.now identities count) from.entry.items [] v.items
-        failed.old failed.new) }
-    ensures err { IfErr result
-        (λ h. Halts (λ identities. Runs sequence.now identities count) from.entry.items h) }
+        (λ v. Adds (RunsAll sequence.now count) from.entry.items [] v.items failed.old failed.new) }
+    ensures err { IfErr result (λ h. Halts (RunsAll sequence.now count) from.entry.items h) }
 {
     let mut now = from;
     let mut stops = failed.none_like(memory.alloc);
@@ -74,13 +70,8 @@ pub(crate) fn command<'a>(
     requires small { IsSmallCommand count (command_tree step.now.command) }
     requires conditional { IsUnconditional (command_tree step.now.command) → ⊥ }
     ensures ok { IfOk result
-        (λ v. Adds
-        (λ identities. Does (command_tree step.now.command) identities count step.now.place)
-        from.entry.items [] v.items failed.old failed.new) }
-    ensures err { IfErr result
-        (λ h. Halts
-        (λ identities. Does (command_tree step.now.command) identities count step.now.place)
-        from.entry.items h) }
+        (λ v. Adds (DoesStep step.now count) from.entry.items [] v.items failed.old failed.new) }
+    ensures err { IfErr result (λ h. Halts (DoesStep step.now count) from.entry.items h) }
 {
     let alone = is_alone(&from);
     let round = memory.gather(from.len());
@@ -108,17 +99,10 @@ fn each<'a>(
     requires small { IsSmallCommand count (command_tree step.now.command) }
     requires conditional { IsUnconditional (command_tree step.now.command) → ⊥ }
     ensures ok { OnOk result
-        (Adds
-        (λ identities. Each
-        (λ c. At (command_tree step.now.command) count step.now.place c identities)
-        k.entry.state.selection)
-        (k.entry ∷ []) next.old.items next.new.items failed.old failed.new) }
+        (Adds (StepAtEach step.now count k.entry.state.selection) (k.entry ∷ []) next.old.items
+        next.new.items failed.old failed.new) }
     ensures err { IfErr result
-        (λ h. Halts
-        (λ identities. Each
-        (λ c. At (command_tree step.now.command) count step.now.place c identities)
-        k.entry.state.selection)
-        (k.entry ∷ []) h) }
+        (λ h. Halts (StepAtEach step.now count k.entry.state.selection) (k.entry ∷ []) h) }
 {
     if let Some(component) = k.selection.sole() {
         return one(memory, count, step, component, k, next, failed);
@@ -146,11 +130,9 @@ fn all_at<'a>(
     requires small { IsSmallCommand count (command_tree step.now.command) }
     requires conditional { IsUnconditional (command_tree step.now.command) → ⊥ }
     ensures ok { IfOk result
-        (λ v. Adds (At (command_tree step.now.command) count step.now.place component)
-        from.entry.items [] v.items failed.old failed.new) }
-    ensures err { IfErr result
-        (λ h. Halts (At (command_tree step.now.command) count step.now.place component)
-        from.entry.items h) }
+        (λ v. Adds (StepAt step.now count component) from.entry.items [] v.items failed.old
+        failed.new) }
+    ensures err { IfErr result (λ h. Halts (StepAt step.now count component) from.entry.items h) }
 {
     let mut now = from;
     let mut next = Vec::new(memory.alloc);
@@ -175,11 +157,9 @@ fn one<'a>(
     requires small { IsSmallCommand count (command_tree step.now.command) }
     requires conditional { IsUnconditional (command_tree step.now.command) → ⊥ }
     ensures ok { OnOk result
-        (Adds (At (command_tree step.now.command) count step.now.place component) (k.entry ∷ [])
-        next.old.items next.new.items failed.old failed.new) }
-    ensures err { IfErr result
-        (λ h. Halts (At (command_tree step.now.command) count step.now.place component)
-        (k.entry ∷ []) h) }
+        (Adds (StepAt step.now count component) (k.entry ∷ []) next.old.items next.new.items
+        failed.old failed.new) }
+    ensures err { IfErr result (λ h. Halts (StepAt step.now count component) (k.entry ∷ []) h) }
 {
     match &step.command {
         Command::Test { kind, .. } => {
@@ -211,38 +191,16 @@ fn run<'a>(
     requires room { component < 8 }
     requires small { IsSmallSequence count inner.now }
     ensures ok { OnOk result
-        (Adds (λ identities. RunsInner (Runs inner.now identities count) component) (k.entry ∷ [])
-        next.old.items next.new.items failed.old failed.new) }
+        (Adds (RunsInnerAt inner.now count component) (k.entry ∷ []) next.old.items next.new.items
+        failed.old failed.new) }
     ensures err { IfErr result
-        (λ h. Halts (λ identities. RunsInner (Runs inner.now identities count) component)
-        (k.entry ∷ []) h) }
+        (λ h. Halts (RunsInnerAt inner.now count component) (k.entry ∷ []) h) }
 {
     let outer = outer_of(&k)?;
     let from = only(memory.alloc, enter(component, false, k))?;
-    run_inside(memory, count, inner, &outer, from, next, failed)
-}
-
-// Runs an inner sequence from the states in which it begins, and leaves it.
-#[cycle(walk)]
-fn run_inside<'a>(
-    memory: Memory<'a>,
-    count: u32,
-    inner: &'a Sequence,
-    outer: &Outer<'a>,
-    from: Vec<Kept<'a>>,
-    next: &mut Vec<Kept<'a>>,
-    failed: &mut Failures<'a>,
-) -> Result<(), Halt<'a>>
-    requires small { IsSmallSequence count inner.now }
-    ensures ok { OnOk result
-        (InsideAdds (λ identities. Runs inner.now identities count) outer.now from.entry.items
-        next.old.items next.new.items failed.old failed.new) }
-    ensures err { IfErr result
-        (λ h. Halts (λ identities. Runs inner.now identities count) from.entry.items h) }
-{
-    let mut stops = none_inside(memory.alloc, true, failed, outer);
+    let mut stops = none_inside(memory.alloc, true, failed, &outer);
     let done = sequence(memory, count, inner, from, &mut stops)?;
-    Ok(leave(memory, outer, done, stops, next, failed)?)
+    Ok(leave(memory, &outer, done, stops, next, failed)?)
 }
 
 // Runs a try each: tries its branches in order.
@@ -259,11 +217,10 @@ fn try_each<'a>(
     requires room { site.component < 8 }
     requires small { AreSmallBranches count branches.now }
     ensures ok { OnOk result
-        (Adds (λ identities. Tries branches.now identities count site.place site.component)
-        (k.entry ∷ []) next.old.items next.new.items failed.old failed.new) }
+        (Adds (TriesIn branches.now count site.place site.component) (k.entry ∷ []) next.old.items
+        next.new.items failed.old failed.new) }
     ensures err { IfErr result
-        (λ h. Halts (λ identities. Tries branches.now identities count site.place site.component)
-        (k.entry ∷ []) h) }
+        (λ h. Halts (TriesIn branches.now count site.place site.component) (k.entry ∷ []) h) }
 {
     let outer = outer_of(&k)?;
     let around = Around { site, outer };
@@ -292,14 +249,10 @@ fn try_around<'a>(
     requires small { AreSmallBranches count branches.now }
     requires outer { around.now.outer ≡ k.state }
     ensures ok { OnOk result
-        (Adds
-        (λ identities. Tries branches.now identities count around.now.site.place
-        around.now.site.component)
+        (Adds (TriesIn branches.now count around.now.site.place around.now.site.component)
         (k.entry ∷ []) next.old.items next.new.items failed.old failed.new) }
     ensures err { IfErr result
-        (λ h. Halts
-        (λ identities. Tries branches.now identities count around.now.site.place
-        around.now.site.component)
+        (λ h. Halts (TriesIn branches.now count around.now.site.place around.now.site.component)
         (k.entry ∷ []) h) }
 {
     let (place, outer) = (around.site.place, &around.outer);
@@ -337,11 +290,10 @@ pub(crate) fn one_branch<'a>(
 ) -> Result<Vec<Kept<'a>>, Halt<'a>>
     requires small { IsSmallSequence count inner.now }
     ensures ok { IfOk result
-        (λ v. BranchAdds (λ identities. Runs inner.now identities count) outer.now
-        inside.entry.states.items v.items inside.entry.stops
-        (outside_of next.old.items failed.old) (outside_of next.new.items failed.new)) }
-    ensures err { IfErr result
-        (λ h. Halts (λ identities. Runs inner.now identities count) inside.entry.states.items h) }
+        (λ v. BranchAdds (RunsAll inner.now count) outer.now inside.entry.states.items v.items
+        inside.entry.stops (outside_of next.old.items failed.old)
+        (outside_of next.new.items failed.new)) }
+    ensures err { IfErr result (λ h. Halts (RunsAll inner.now count) inside.entry.states.items h) }
 {
     let mut stops = inside.stops;
     let done = sequence(memory, count, inner, inside.states, &mut stops)?;

@@ -4,8 +4,8 @@ use Rattle.suit_params.specs.declared.digest.Digest.{Digest}
 use Rattle.path_model.specs.declared.event.Event.TheVariants.{Invoked}
 use Rattle.path_model.specs.Safe.{HasMatched}
 use Rattle.path_checker.specs.Matches.{Match, covered_event}
-use Rattle.path_checker.specs.Steps.{with_events}
-use Rattle.path_checker.proofs.DirectiveLeaves.{acts_course, Adds-invoke, Uncovers-invoke, never_true}
+use Rattle.path_checker.specs.Steps.{with_events, ActsAt}
+use Rattle.path_checker.proofs.DirectiveLeaves.{Adds-invoke, Uncovers-invoke, never_true}
 use Rattle.suit_commands.specs.declared.kinds.ActKind.TheVariants as acts
 use Rattle.path_checker.proofs.Passing.{Explores-added}
 use Rattle.path_checker.proofs.judge_plan.directives.invoke.Goals as goal
@@ -15,7 +15,7 @@ returns-in_ok-take-in-None-clause-err c = Uncovers-invoke c.args.place c.args.co
 
 pub returns-then-asked-clause-ok : goal.returns-then-asked-clause-ok
 returns-then-asked-clause-ok c =
-    Explores-added (acts_course acts.Invoke c.args.place c.args.component) (c.args.k.now ∷ []) (c.happens-then-asked.new.k ∷ [])
+    Explores-added (ActsAt acts.Invoke c.args.place c.args.component) (c.args.k.now ∷ []) (c.happens-then-asked.new.k ∷ [])
     (Adds-invoke c.args.place c.args.component c.args.k.now c.happens-then-asked.new.k c.k.inside.params c.in-Some.stated.digest.now c.in-Some.stated.size [] (c.happens-then-asked.new.k ∷ []) (ap (λ k. k.state.parameters) c.k.view_is) c.in-Some.ensures.0 c.in-Some.ensures.1
     (subst (λ es. HasMatched es c.args.component c.in-Some.stated.digest.now c.in-Some.stated.size) (ap (λ k. k.events) c.k.view_is)
     (c.in_ok-asked-in-Some.ensures.stands.0 c.if-asked.true))

@@ -1,11 +1,10 @@
-use Rattle.std.proofs.Common.{◌≡◌, ◌≤◌, ◌-◌, ◌*◌, ◌+◌, [], ◌∷◌, drop, length}
+use Rattle.std.proofs.Common.{◌≤◌, ◌-◌, ◌*◌, ◌+◌, [], ◌∷◌, drop, length}
 use Rattle.suit_commands.specs.Size.{sequence_size, command_size, branches_size}
 use Rattle.suit_commands.specs.View.{sequence_tree, command_tree}
 use Rattle.path_checker.specs.Small.{IsSmallSequence, AreStraight}
 use Rattle.path_checker.specs.Unconditional.{IsUnconditional, AreUnconditional}
+use Rattle.path_checker.specs.Steps.{AtEach, RunsAll}
 use Rattle.path_checker.proofs.Continuing.{Goes}
-use Rattle.path_checker.proofs.Popping.{each_course}
-use Rattle.path_checker.proofs.Walking.{runs_course}
 use Rattle.path_checker.proofs.judge_plan.in_place.+in_place.Given as goal
 
 abbrev pub decreases-steps_in : goal.decreases-steps_in
@@ -31,11 +30,11 @@ invariant-steps_in-loop-at l = record {
   within : l.at ≤ length l.steps;
   small : IsSmallSequence l.count (sequence_tree (drop l.at l.steps));
   straight : AreStraight (sequence_tree (drop l.at l.steps));
-  goes : Goes (AreUnconditional (sequence_tree l.steps)) (runs_course (sequence_tree l.steps) l.count) (l.initial.k ∷ []) (runs_course (sequence_tree (drop l.at l.steps)) l.count) (l.k ∷ []);
+  goes : Goes (AreUnconditional (sequence_tree l.steps)) (RunsAll (sequence_tree l.steps) l.count) (l.initial.k ∷ []) (RunsAll (sequence_tree (drop l.at l.steps)) l.count) (l.k ∷ []);
 }
 
 abbrev pub decreases-steps_in-loop-at : goal.decreases-steps_in-loop-at
 decreases-steps_in-loop-at l = length l.steps - l.at
 
 abbrev pub invariant-each_in-loop-index : goal.invariant-each_in-loop-index
-invariant-each_in-loop-index l = Goes (IsUnconditional (command_tree l.step.command)) (each_course (command_tree l.step.command) l.count l.step.place l.initial.k.state.selection) (l.initial.k ∷ []) (each_course (command_tree l.step.command) l.count l.step.place (drop l.index l.selection)) (l.k ∷ [])
+invariant-each_in-loop-index l = Goes (IsUnconditional (command_tree l.step.command)) (AtEach (command_tree l.step.command) l.count l.step.place l.initial.k.state.selection) (l.initial.k ∷ []) (AtEach (command_tree l.step.command) l.count l.step.place (drop l.index l.selection)) (l.k ∷ [])

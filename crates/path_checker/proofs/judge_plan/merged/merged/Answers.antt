@@ -1,4 +1,4 @@
-use Rattle.std.proofs.Common.{rules, ◌≡◌, ◌<◌, List, [], ◌∷◌, ◌++◌, sym, ap, ◌∙◌}
+use Rattle.std.proofs.Common.{rules, ◌≡◌, ◌<◌, [], ◌∷◌, ◌++◌, sym, ap, ◌∙◌}
 use Rattle.std.specs.Vec.{vec_len}
 use Rattle.path_checker.proofs.DirectiveLeaves.{never_true}
 use Rattle.path_checker.proofs.Merging.{Left-start, Left-found, Left-pushed, Left-none, none_more}

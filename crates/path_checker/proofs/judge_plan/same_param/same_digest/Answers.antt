@@ -1,4 +1,4 @@
-use Rattle.std.proofs.Common.{◌≡◌, sym, ap, ◌∙◌}
+use Rattle.std.proofs.Common.{sym, ap, ◌∙◌}
 use Rattle.suit_params.specs.DigestBytes.{digest_bytes, as_digest}
 use Rattle.suit_params.specs.DigestLaws.{digest_again}
 use Rattle.path_checker.proofs.judge_plan.same_param.same_digest.Goals as goal

@@ -7,8 +7,8 @@ use Rattle.path_checker.specs.declared.judge_plan.turn.Turn.{Turn}
 use Rattle.path_checker.specs.Halting.{Halts}
 use Rattle.path_checker.specs.Rests.{RunsRest, of_parts}
 use Rattle.path_checker.specs.Spelling.{Comes}
+use Rattle.path_checker.specs.Steps.{RunsAll}
 use Rattle.path_checker.proofs.Spelling.{Part-halts, Part-on}
-use Rattle.path_checker.proofs.Walking.{runs_course}
 use Rattle.path_checker.proofs.judge_plan.spelling.+spell.Goals as goal
 
 pub returns-in_err-k : goal.returns-in_err-k
@@ -21,7 +21,7 @@ returns-in_err-k t c =
 pub returns-in-On : goal.returns-in-On
 returns-in-On t c =
     let parts : c.args.parts.now ≡ c.in-Some.lent.now ∷ c.in-Some.others.now = c.in-Some.ensures.cases.0 in
-    let on = subst (λ (u : Turn). Comes (runs_course (lent_tree c.in-Some.lent.now) c.args.count) (c.restart.result ∷ []) u) c.in-On.is c.in_ok-k.ensures.ok in
+    let on = subst (λ (u : Turn). Comes (RunsAll (lent_tree c.in-Some.lent.now) c.args.count) (c.restart.result ∷ []) u) c.in-On.is c.in_ok-k.ensures.ok in
     IfErr-weaker c.spell.result (λ h. Halts (RunsRest (of_parts c.in-Some.others.now) c.args.count) (c.in-On.k ∷ []) h) (λ h. Halts (RunsRest (of_parts c.args.parts.now) c.args.count) (c.args.k ∷ []) h)
     (λ h u. subst (λ (ps : List (Option (Bor SequenceTree))). Halts (RunsRest (of_parts ps) c.args.count) (c.args.k ∷ []) h) (sym parts)
     (Part-on (lent_tree c.in-Some.lent.now) (of_parts c.in-Some.others.now) c.args.count c.args.k c.restart.result c.restart.ensures c.in-On.k on h u)) c.spell.ensures

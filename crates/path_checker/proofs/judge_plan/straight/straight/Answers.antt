@@ -1,8 +1,10 @@
-use Rattle.std.proofs.Common.{rules, ◌≡◌, ◌<◌, []}
+use Rattle.std.proofs.Common.{rules, ◌≡◌, ◌<◌, [], ◌∷◌}
 use Rattle.std.proofs.lemmas.Result.{err_from_is_err_and}
 use Rattle.std.specs.Vec.{vec_len}
 use Rattle.suit_commands.specs.View.{command_tree}
 use Rattle.path_checker.specs.Exploring.{kept_if}
+use Rattle.path_checker.specs.Unconditional.{IsUnconditional}
+use Rattle.path_checker.proofs.Continuing.{Continues-passes}
 use Rattle.path_checker.proofs.DirectiveLeaves.{never_true}
 use Rattle.path_checker.proofs.Passing.{Passed-start, Passed-step, Passed-halt, Passed-end}
 use Rattle.path_checker.proofs.Popping.{none_left}
@@ -14,8 +16,8 @@ loop-one-init c = Passed-start (does_course (command_tree c.args.step.now.comman
 
 pub loop-one-preserved : goal.loop-one-preserved
 loop-one-preserved c =
-    Passed-step (does_course (command_tree c.args.step.now.command) c.args.count c.args.step.now.place) c.args.from.items c.loop-one.now.items c.pop.new.self.items c.reuse.new.now.items c.loop-one.next.items c.reuse.new.next.items (kept_if c.in_ok-goes_on.goes_on c.straight_in.new.k) c.add_if.new.next.items c.in-Some.one c.loop-one.invariant c.in-Some.ensures.items c.reuse.ensures.now c.reuse.ensures.next
-    c.in_ok-goes_on.ensures.ok c.in_ok-add_if.ensures
+    Passed-step (does_course (command_tree c.args.step.now.command) c.args.count c.args.step.now.place) c.args.from.items c.loop-one.now.items c.pop.new.self.items c.reuse.new.now.items c.loop-one.next.items c.reuse.new.next.items (kept_if c.in_ok-goes_on.goes_on c.command_in.new.k) c.add_if.new.next.items c.in-Some.one c.loop-one.invariant c.in-Some.ensures.items c.reuse.ensures.now c.reuse.ensures.next
+    (Continues-passes (IsUnconditional (command_tree c.args.step.now.command)) (does_course (command_tree c.args.step.now.command) c.args.count c.args.step.now.place) (c.in-Some.one ∷ []) (kept_if c.in_ok-goes_on.goes_on c.command_in.new.k) c.in_ok-goes_on.ensures.ok) c.in_ok-add_if.ensures
 
 pub returns-in_err-goes_on-clause-err : goal.returns-in_err-goes_on-clause-err
 returns-in_err-goes_on-clause-err c =

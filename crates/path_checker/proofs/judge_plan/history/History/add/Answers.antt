@@ -1,4 +1,4 @@
-use Rattle.std.proofs.Common.{List, [], ◌∷◌, refl, sym, subst}
+use Rattle.std.proofs.Common.{List, [], ◌∷◌, sym, subst}
 use Rattle.path_model.specs.declared.event.Event.{Event}
 use Rattle.path_checker.specs.Standing.{Stands}
 use Rattle.path_checker.specs.Happening.{event_of}
